@@ -1,0 +1,39 @@
+-- How a test in the code decides a definition: one law for each way that a definition goes by cases.
+-- Each takes what the test showed, so that an answer to `returns` is read off the branches on the way to it.
+use mathlib.Core.Path.{_≡_, refl, sym, _∙_, ap, subst⁻¹}
+use mathlib.Core.Bool.{Bool, true, false, not, cond, _&&_}
+use Rattle.grid.specs.declared.Refusal.{Refusal}
+use Rattle.grid.specs.declared.Check.{Check}
+use Rattle.grid.specs.declared.Check.the-variants.{Good, Refused}
+use Rattle.grid.specs.Check.{expect, after, answer}
+
+pub and-yes : {a : Bool} (b : Bool) {r : Bool} → a ≡ true → r ≡ b → r ≡ (a && b)
+and-yes b {r} e f = subst⁻¹ (λ (x : Bool). r ≡ (x && b)) e f
+
+pub and-no : {a : Bool} (b : Bool) → a ≡ false → false ≡ (a && b)
+and-no b e = subst⁻¹ (λ (x : Bool). false ≡ (x && b)) e refl
+
+module _ {ℓ} {A : Type ℓ} where
+  pub cond-yes : {b : Bool} (x y : A) {z : A} → b ≡ true → z ≡ x → z ≡ cond b x y
+  cond-yes x y {z} e f = subst⁻¹ (λ (c : Bool). z ≡ cond c x y) e f
+
+  pub cond-no : {b : Bool} (x y : A) {z : A} → b ≡ false → z ≡ y → z ≡ cond b x y
+  cond-no x y {z} e f = subst⁻¹ (λ (c : Bool). z ≡ cond c x y) e f
+
+  pub answer-good : {c : Check} (f : Refusal → A) (a : A) {z : A} → c ≡ Good → z ≡ a → z ≡ answer c f a
+  answer-good f a {z} e h = subst⁻¹ (λ (c : Check). z ≡ answer c f a) e h
+
+  pub answer-refused : {c : Check} {r : Refusal} (f : Refusal → A) (a : A) → c ≡ Refused r → f r ≡ answer c f a
+  answer-refused {r = r} f a e = subst⁻¹ (λ (c : Check). f r ≡ answer c f a) e refl
+
+pub expect-yes : {b : Bool} (r : Refusal) (k : Check) {z : Check} → b ≡ true → z ≡ k → z ≡ expect b r k
+expect-yes r k {z} e f = subst⁻¹ (λ (c : Bool). z ≡ expect c r k) e f
+
+pub expect-no : {b : Bool} (r : Refusal) (k : Check) → b ≡ false → Refused r ≡ expect b r k
+expect-no r k e = subst⁻¹ (λ (c : Bool). Refused r ≡ expect c r k) e refl
+
+pub after-good : {c : Check} (k : Check) {z : Check} → c ≡ Good → z ≡ k → z ≡ after c k
+after-good k {z} e f = subst⁻¹ (λ (c : Check). z ≡ after c k) e f
+
+pub after-refused : {c : Check} {r : Refusal} (k : Check) → c ≡ Refused r → Refused r ≡ after c k
+after-refused {r = r} k e = subst⁻¹ (λ (c : Check). Refused r ≡ after c k) e refl

@@ -1,0 +1,14 @@
+use borrow.Author.Tests.{le-leb, lt-leb}
+use mathlib.Core.Path.{refl}
+use Rattle.grid.proofs.Tests.{and-yes, and-no}
+use Rattle.grid.proofs.up_to.Statement.{statement}
+use Rattle.grid.proofs.up_to.Tie as tie
+
+returns : tie.Need-returns
+returns c = and-yes _ (le-leb _ _ (c .if1 .taken)) refl
+
+returns-2 : tie.Need-returns-2
+returns-2 c = and-no _ (lt-leb _ _ (c .if1 .left))
+
+pub up-to-spec : {M : Type 1} → statement M
+up-to-spec = tie.close (tie.spec returns returns-2)

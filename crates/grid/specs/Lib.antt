@@ -1,0 +1,5 @@
+pub mod Panel
+pub mod Track
+pub mod Bytes
+pub mod Refusal
+pub mod Check

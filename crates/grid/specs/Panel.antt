@@ -1,0 +1,59 @@
+-- Document 01, "Panel, cell, track": panels, cells, neighbours and colours. A cell is a vertex of a rectangular grid graph.
+use Prim.Native.Nat.{ℕ, _+_, _-_, _%_, _≤_}
+use mathlib.Core.Path.{_≡_}
+use mathlib.Core.Bool.{Bool, _&&_}
+use lib.Dec.{leb, eqb}
+use Rattle.grid.specs.declared.Panel.{Panel}
+use Rattle.grid.specs.declared.Cell.{Cell}
+
+-- the largest side
+abbrev pub maxSide : ℕ
+maxSide = 128
+
+-- a number from 1 to k
+abbrev pub upTo : ℕ → ℕ → Bool
+upTo k a = leb 1 a && leb a k
+
+-- a panel has width and height, each 1 to 128
+abbrev pub goodPanel : Panel → Bool
+goodPanel p = upTo maxSide (p .width) && upTo maxSide (p .height)
+
+-- a cell of the panel: x from 1 to m, y from 1 to n
+abbrev pub onPanel : Panel → Cell → Bool
+onPanel p c = upTo (p .width) (c .x) && upTo (p .height) (c .y)
+
+-- the same, as a proposition
+pub record OnPanel (p : Panel) (c : Cell) : Type 0 where
+  pub left : 1 ≤ c .x
+  pub right : c .x ≤ p .width
+  pub top : 1 ≤ c .y
+  pub bottom : c .y ≤ p .height
+
+abbrev pub sameCell : Cell → Cell → Bool
+sameCell a b = eqb (a .x) (b .x) && eqb (a .y) (b .y)
+
+-- how far two numbers are apart
+unfoldable pub dist : ℕ → ℕ → ℕ
+dist a b = (a - b) + (b - a)
+
+-- two cells are neighbours if they share an edge: one step apart, in x or in y (adjacent vertices)
+unfoldable pub apart : Cell → Cell → ℕ
+unfolding dist
+apart a b = dist (a .x) (b .x) + dist (a .y) (b .y)
+
+abbrev pub Neighbours : Cell → Cell → Type 0
+Neighbours a b = apart a b ≡ 1
+
+abbrev pub neighbours : Cell → Cell → Bool
+neighbours a b = eqb (apart a b) 1
+
+-- a cell is white if x + y is even, else black
+abbrev pub black : Cell → Bool
+black c = eqb ((c .x + c .y) % 2) 1
+
+-- the turned panel: m exchanged with n, and x with y (the transposed grid)
+abbrev pub turned : Panel → Panel
+turned p = record { width = p .height; height = p .width }
+
+abbrev pub turnedCell : Cell → Cell
+turnedCell c = record { x = c .y; y = c .x }
