@@ -1,1 +1,5 @@
 pub mod Tests
+pub mod Facts
+pub mod Track
+pub mod Moves
+pub mod Bytes

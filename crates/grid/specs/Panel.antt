@@ -41,8 +41,8 @@ unfoldable pub apart : Cell → Cell → ℕ
 unfolding dist
 apart a b = dist (a .x) (b .x) + dist (a .y) (b .y)
 
-abbrev pub Neighbours : Cell → Cell → Type 0
-Neighbours a b = apart a b ≡ 1
+pub record Neighbours (a b : Cell) : Type 0 where
+  pub one : apart a b ≡ 1
 
 abbrev pub neighbours : Cell → Cell → Bool
 neighbours a b = eqb (apart a b) 1

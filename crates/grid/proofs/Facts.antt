@@ -1,0 +1,137 @@
+-- Cells and panels: the Boolean tests of specs/Panel.antt as facts, and the other way round; when cells are equal, different, neighbours.
+use Prim.Native.Nat.{ℕ, _+_, _-_, _≤_, _<_}
+use mathlib.Core.Path.{_≡_, refl, sym, ap, _∙_}
+use mathlib.Core.Logic.{_≢_, _⊎_, inl, inr}
+use mathlib.Core.Bool.{Bool, true, false, _&&_, not}
+use native.Mathlib.Omega.{arith}
+use lib.Dec.{leb, eqb}
+use borrow.Author.Tests.{leb-true, leb-false, le-leb, lt-leb, eqb-true, eqb-false, eq-eqb, ne-eqb}
+use Rattle.grid.specs.declared.Panel.{Panel}
+use Rattle.grid.specs.declared.Cell.{Cell}
+use Rattle.grid.specs.Panel.{maxSide, upTo, goodPanel, onPanel, OnPanel, sameCell, dist, apart, Neighbours, neighbours, turned, turnedCell}
+
+-- ---- Boolean "and"
+
+pub and-left : (a b : Bool) → (a && b) ≡ true → a ≡ true
+and-left true b e = refl
+and-left false b e = e
+
+pub and-right : (a b : Bool) → (a && b) ≡ true → b ≡ true
+and-right true b e = e
+and-right false true e = refl
+and-right false false e = e
+
+pub and-both : {a b : Bool} → a ≡ true → b ≡ true → (a && b) ≡ true
+and-both p q = λ i. p i && q i
+
+-- ---- panels
+
+-- the sides of a good panel
+pub record Good (p : Panel) : Type 0 where
+  pub wide : 1 ≤ p .width
+  pub widest : p .width ≤ maxSide
+  pub high : 1 ≤ p .height
+  pub highest : p .height ≤ maxSide
+
+pub good : (p : Panel) → goodPanel p ≡ true → Good p
+good p e =
+    let w = and-left (upTo maxSide (p .width)) (upTo maxSide (p .height)) e in
+    let h = and-right (upTo maxSide (p .width)) (upTo maxSide (p .height)) e in
+    record {
+      wide = leb-true 1 (p .width) (and-left (leb 1 (p .width)) (leb (p .width) maxSide) w);
+      widest = leb-true (p .width) maxSide (and-right (leb 1 (p .width)) (leb (p .width) maxSide) w);
+      high = leb-true 1 (p .height) (and-left (leb 1 (p .height)) (leb (p .height) maxSide) h);
+      highest = leb-true (p .height) maxSide (and-right (leb 1 (p .height)) (leb (p .height) maxSide) h);
+    }
+
+pub is-good : {p : Panel} → Good p → goodPanel p ≡ true
+is-good g = and-both (and-both (le-leb _ _ (g .wide)) (le-leb _ _ (g .widest))) (and-both (le-leb _ _ (g .high)) (le-leb _ _ (g .highest)))
+
+pub on : (p : Panel) (c : Cell) → onPanel p c ≡ true → OnPanel p c
+on p c e =
+    let w = and-left (upTo (p .width) (c .x)) (upTo (p .height) (c .y)) e in
+    let h = and-right (upTo (p .width) (c .x)) (upTo (p .height) (c .y)) e in
+    record {
+      left = leb-true 1 (c .x) (and-left (leb 1 (c .x)) (leb (c .x) (p .width)) w);
+      right = leb-true (c .x) (p .width) (and-right (leb 1 (c .x)) (leb (c .x) (p .width)) w);
+      top = leb-true 1 (c .y) (and-left (leb 1 (c .y)) (leb (c .y) (p .height)) h);
+      bottom = leb-true (c .y) (p .height) (and-right (leb 1 (c .y)) (leb (c .y) (p .height)) h);
+    }
+
+pub is-on : {p : Panel} {c : Cell} → OnPanel p c → onPanel p c ≡ true
+is-on o = and-both (and-both (le-leb _ _ (o .left)) (le-leb _ _ (o .right))) (and-both (le-leb _ _ (o .top)) (le-leb _ _ (o .bottom)))
+
+-- ---- equal cells
+
+pub cell-eq : {a b : Cell} → a .x ≡ b .x → a .y ≡ b .y → a ≡ b
+cell-eq p q = λ i. record { x = p i; y = q i }
+
+pub same-eq : (a b : Cell) → sameCell a b ≡ true → a ≡ b
+same-eq a b e = cell-eq (eqb-true _ _ (and-left (eqb (a .x) (b .x)) (eqb (a .y) (b .y)) e)) (eqb-true _ _ (and-right (eqb (a .x) (b .x)) (eqb (a .y) (b .y)) e))
+
+pub eq-same : {a b : Cell} → a ≡ b → sameCell a b ≡ true
+eq-same {a} {b} e = and-both (eq-eqb (a .x) (b .x) (ap (λ (c : Cell). c .x) e)) (eq-eqb (a .y) (b .y) (ap (λ (c : Cell). c .y) e))
+
+pub same-ne : (a b : Cell) → sameCell a b ≡ false → a ≢ b
+same-ne a b e q = let z : _≡_ {A = Bool} true false = sym (eq-same q) ∙ e in elim-z z
+  where
+    elim-z : _≡_ {A = Bool} true false → ⊥
+    elim-z z = let y : _≡_ {A = ℕ} 0 1 = cc in omega arith
+
+pub ne-same : (a b : Cell) → a ≢ b → sameCell a b ≡ false
+ne-same a b n = go (sameCell a b) refl
+  where
+    go : (r : Bool) → sameCell a b ≡ r → sameCell a b ≡ false
+    go true e = absurd (n (same-eq a b e))
+    go false e = e
+
+-- different in a coordinate
+pub ne-x : {a b : Cell} → a .x ≢ b .x → a ≢ b
+ne-x h e = h (ap (λ (c : Cell). c .x) e)
+
+pub ne-y : {a b : Cell} → a .y ≢ b .y → a ≢ b
+ne-y h e = h (ap (λ (c : Cell). c .y) e)
+
+-- two different cells differ in a coordinate
+pub ne-cases : (a b : Cell) → a ≢ b → (a .x ≢ b .x) ⊎ (a .y ≢ b .y)
+ne-cases a b n = go (eqb (a .x) (b .x)) refl
+  where
+    go : (r : Bool) → eqb (a .x) (b .x) ≡ r → (a .x ≢ b .x) ⊎ (a .y ≢ b .y)
+    go true e = inr (λ q. n (cell-eq (eqb-true _ _ e) q))
+    go false e = inl (eqb-false _ _ e)
+
+-- ---- neighbours
+
+-- one step in x, or one in y: the distance written out
+pub beside : {a b : Cell} → (a .x - b .x) + (b .x - a .x) + ((a .y - b .y) + (b .y - a .y)) ≡ 1 → Neighbours a b
+unfolding apart dist
+beside e = record { one = e }
+
+pub beside-is : {a b : Cell} → Neighbours a b → (a .x - b .x) + (b .x - a .x) + ((a .y - b .y) + (b .y - a .y)) ≡ 1
+unfolding apart dist
+beside-is h = h .one
+
+-- to the right, and below
+pub beside-x : {a b : Cell} → a .x + 1 ≡ b .x → a .y ≡ b .y → Neighbours a b
+beside-x p q = beside (omega arith)
+
+pub beside-y : {a b : Cell} → a .x ≡ b .x → a .y + 1 ≡ b .y → Neighbours a b
+beside-y p q = beside (omega arith)
+
+pub dist-sym : (a b : ℕ) → dist a b ≡ dist b a
+unfolding dist
+dist-sym a b = omega arith
+
+pub apart-sym : (a b : Cell) → apart a b ≡ apart b a
+unfolding apart
+apart-sym a b = λ i. dist-sym (a .x) (b .x) i + dist-sym (a .y) (b .y) i
+
+pub beside-sym : {a b : Cell} → Neighbours a b → Neighbours b a
+beside-sym {a} {b} h = record { one = apart-sym b a ∙ h .one }
+
+-- the test
+pub next : {a b : Cell} → neighbours a b ≡ true → Neighbours a b
+next e = record { one = eqb-true _ _ e }
+
+pub is-next : {a b : Cell} → Neighbours a b → neighbours a b ≡ true
+is-next h = eq-eqb _ _ (h .one)
