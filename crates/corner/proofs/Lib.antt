@@ -3,3 +3,4 @@ pub mod Count
 pub mod Line
 pub mod Peel
 pub mod Track
+pub mod Written

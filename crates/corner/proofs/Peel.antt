@@ -9,7 +9,9 @@ use native.Mathlib.Nat.{add-comm}
 use Rattle.grid.specs.declared.Cell.{Cell}
 use Rattle.grid.specs.Panel.{dist, apart, Neighbours, turnedCell}
 use Rattle.grid.proofs.Facts.{dist-sym}
-use Rattle.corner.specs.Corner.{Inside, cornerCount, trackCount, rowFirst, toward}
+use Rattle.corner.specs.Corner.{Inside, cornerCount, trackCount, toward}
+use Rattle.corner.specs.Line.{Straight}
+use Rattle.corner.specs.Peel.{Peel, rowOf}
 use Rattle.corner.proofs.Between.{Between, between, least, most, between-sym, start-between, parts, dist-zero, Step, step-toward}
 use Rattle.corner.proofs.Count.{Row, Chosen, choice, count-turned}
 
@@ -31,6 +33,10 @@ turn-beside : (a b : Cell) → Neighbours (turnedCell a) (turnedCell b) → Neig
 unfolding apart
 turn-beside a b h = record { one = add-comm (dist (a .x) (b .x)) (dist (a .y) (b .y)) ∙ h .one }
 
+turn-straight : {a c : Cell} → Straight (turnedCell a) (turnedCell c) → Straight a c
+turn-straight (Straight.row e) = Straight.column e
+turn-straight (Straight.column e) = Straight.row e
+
 dist-less : {p q r : ℕ} → Between p q r → dist p r < dist p q + 1
 dist-less b = omega (arith, parts b)
 
@@ -38,16 +44,7 @@ turn-count : {a b t : Cell} → Inside a b t → trackCount a b t ≡ trackCount
 unfolding trackCount
 turn-count i = count-turned _ _ _ _ (dist-less (inside-x i)) (dist-less (inside-y i))
 
--- ---- a line from a to c, and the rectangle from a' to b'
-
-pub record Peel (a b t c a' b' : Cell) (n : ℕ) : Type 0 where
-  pub line : (d : Cell) → Inside a c d → Inside a b d
-  pub rest : (d : Cell) → Inside a' b' d → Inside a b d
-  pub apart : (d : Cell) → Inside a c d → Inside a' b' d → ⊥
-  pub beside : Neighbours c a'
-  pub target : Inside a' b' t
-  pub counts : trackCount a b t ≡ n + trackCount a' b' t
-  pub less : dist (a' .x) (b' .x) + dist (a' .y) (b' .y) + 1 ≡ dist (a .x) (b .x) + dist (a .y) (b .y)
+-- ---- a row and what remains
 
 at-once : {p r : ℕ} → Between p p r → r ≡ p
 at-once (Between.up l h) = omega arith
@@ -60,6 +57,8 @@ unfolding trackCount apart
 peel-row a b t i r =
     let s : Step (a .y) (b .y) (t .y) (toward (a .y) (b .y)) = step-toward (inside-y i) (λ e. off e) in
     record {
+      straight = Straight.row refl;
+      long = let z = dist-zero (a .y) in omega arith;
       line = λ d k. inside (inside-x k) (subst (λ (y : ℕ). Between (a .y) (b .y) y) (sym (at-once (inside-y k))) (start-between _ _));
       rest = λ d k. inside (between-sym (inside-x k)) (s .within _ (inside-y k));
       apart = λ d k m. s .past _ (inside-y m) (at-once (inside-y k));
@@ -81,6 +80,8 @@ peel-row a b t i r =
 -- turned back
 peel-turned : (a b t c a' b' : Cell) {n : ℕ} → Inside a b t → Peel (turnedCell a) (turnedCell b) (turnedCell t) (turnedCell c) (turnedCell a') (turnedCell b') n → Peel a b t c a' b' n
 peel-turned a b t c a' b' {n} i p = record {
+  straight = turn-straight (p .straight);
+  long = let z = p .long in omega arith;
   line = λ d k. turn-inside (p .line _ (turn-inside k));
   rest = λ d k. turn-inside (p .rest _ (turn-inside k));
   apart = λ d k m. p .apart _ (turn-inside k) (turn-inside m);
@@ -91,10 +92,6 @@ peel-turned a b t c a' b' {n} i p = record {
 }
 
 -- ---- the first line
-
--- rowFirst of a rectangle and a target
-abbrev pub rowOf : Cell → Cell → Cell → Bool
-rowOf a b t = rowFirst (dist (a .x) (b .x) + 1) (dist (a .y) (b .y) + 1) (dist (a .x) (t .x)) (dist (a .y) (t .y))
 
 module _ (a b t : Cell) (i : Inside a b t) (n : 1 ≤ dist (a .x) (t .x) + dist (a .y) (t .y)) where
   chosen : Chosen (dist (a .x) (b .x) + 1) (dist (a .y) (b .y) + 1) (dist (a .x) (t .x)) (dist (a .y) (t .y)) (rowOf a b t)
