@@ -1,6 +1,7 @@
 pub mod Between
 pub mod Count
 pub mod Line
-pub mod Peel
+pub mod First
 pub mod Track
 pub mod Written
+pub mod Drawn

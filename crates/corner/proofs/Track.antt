@@ -16,7 +16,7 @@ use Rattle.corner.proofs.Between.{by-eq, dist-up, dist-down, by-le, sta
 use Rattle.corner.proofs.Count.{count-here}
 use Rattle.corner.proofs.Line.{Axis, in-row, in-column, way, line-track, length-line}
 use Rattle.corner.specs.Peel.{Peel, rowOf}
-use Rattle.corner.proofs.Peel.{inside, first-row, first-column}
+use Rattle.corner.proofs.First.{inside, first-row, first-column}
 
 -- a track with a given number of cells
 abbrev pub Sized : (Cell → Type 0) → Cell → Cell → ℕ → Type 0

@@ -48,8 +48,10 @@ module _ (f : ℕ → Cell) (n : ℕ) (old : List ℕ) where
     where
       size : length (bytes (line f i)) ≡ 2 * i
       size = length-bytes (line f i) ∙ ap (λ (k : ℕ). 2 * k) (length-line f i)
+
       room : 2 * i + 2 ≤ length (bytes (line f i)) + length (drop (2 * i) old)
       room = omega (arith, size, length-drop (2 * i) old)
+
       rest : drop 2 (drop (2 * i) old) ≡ drop (2 * (i + 1)) old
       rest = let e : 2 * i + 2 ≡ 2 * (i + 1) = omega arith in drop-drop 2 (2 * i) old ∙ ap (λ (k : ℕ). drop k old) e
 

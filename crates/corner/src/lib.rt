@@ -1,7 +1,10 @@
 // Corner tracks: from a corner of a rectangle to any cell of it, forwards and backwards, written
 // line by line into a lent buffer.
-use grid::{Cell, Cells};
+use grid::Cell;
+use grid::Cells;
+use grid::same_cell;
 ghost use mathlib.Core.Path.{_≡_};
+ghost use mathlib.Core.Bool.{false};
 ghost use mathlib.Core.List.{_++_};
 ghost use Prim.Native.Nat.{_+_, _*_, _≤_};
 ghost use lib.ListN.{length, drop};
@@ -63,18 +66,20 @@ fn straight(a: Cell, c: Cell, buf: &mut [u8])
     requires { ⌜ Small a ⌝ ∗ ⌜ Small c ⌝ ∗ ⌜ Straight a c ⌝ ∗ ⌜ 2 * (dist (a .x) (c .x) + dist (a .y) (c .y) + 1) ≤ length (now buf) ⌝ }
     ensures { λ _. ⌜ Drawn (Inside a c) a c (dist (a .x) (c .x) + dist (a .y) (c .y) + 1) (now (buf .entry)) (now (buf .exit)) ⌝ }
 {
-    let x = a.x as u8;
-    let y = a.y as u8;
-    if a.y == c.y {
-        if a.x <= c.x {
-            right(x, y, (c.x - a.x + 1) as usize, buf);
+    let ax = a.x;
+    let ay = a.y;
+    let cx = c.x;
+    let cy = c.y;
+    if ay == cy {
+        if ax <= cx {
+            right(ax as u8, ay as u8, (cx - ax + 1) as usize, buf);
         } else {
-            left(x, y, (a.x - c.x + 1) as usize, buf);
+            left(ax as u8, ay as u8, (ax - cx + 1) as usize, buf);
         }
-    } else if a.y <= c.y {
-        down(x, y, (c.y - a.y + 1) as usize, buf);
+    } else if ay <= cy {
+        down(ax as u8, ay as u8, (cy - ay + 1) as usize, buf);
     } else {
-        up(x, y, (a.y - c.y + 1) as usize, buf);
+        up(ax as u8, ay as u8, (ay - cy + 1) as usize, buf);
     }
 }
 
@@ -90,4 +95,94 @@ fn step_toward(p: u32, q: u32) -> u32
     ensures { λ r. ⌜ r ≡ toward p q ⌝ }
 {
     if p < q { p + 1 } else { p - 1 }
+}
+
+// Whether the track from a to t in the rectangle of a and b is one line.
+fn one_line(a: Cell, b: Cell, t: Cell) -> bool
+    ensures { λ r. ⌜ r ≡ oneLine a b t ⌝ }
+{
+    if a.x == b.x {
+        return true;
+    }
+    if a.y == b.y {
+        return true;
+    }
+    same_cell(a, t)
+}
+
+// Whether its first line is a row.
+fn row_first(a: Cell, b: Cell, t: Cell) -> bool
+    ensures { λ r. ⌜ r ≡ rowOf a b t ⌝ }
+{
+    let dy = distance(a.y, t.y);
+    if 1 < dy {
+        return true;
+    }
+    if dy == 0 {
+        return false;
+    }
+    let dx = distance(a.x, t.x);
+    if dx == 0 {
+        return true;
+    }
+    if distance(a.y, b.y) == 1 {
+        return dx <= 1;
+    }
+    dx != distance(a.x, b.x)
+}
+
+// The number of cells of the track from a to t in the rectangle of a and b.
+pub fn corner_count(a: Cell, b: Cell, t: Cell) -> Cells
+    requires { ⌜ Small a ⌝ ∗ ⌜ Small b ⌝ ∗ ⌜ Inside a b t ⌝ }
+    ensures { λ r. ⌜ r .0 ≡ trackCount a b t ⌝ }
+{
+    let w = distance(a.x, b.x) + 1;
+    let h = distance(a.y, b.y) + 1;
+    let dx = distance(a.x, t.x);
+    let dy = distance(a.y, t.y);
+    if dx + dy == 0 {
+        return Cells(1);
+    }
+    if h == 1 {
+        return Cells(dx + 1);
+    }
+    if w == 1 {
+        return Cells(dy + 1);
+    }
+    let all = w * h;
+    Cells(all - 1 + (all + (dx + dy)) % 2)
+}
+
+// The first line of a track, `cells` cells from the corner to `end`, and the rectangle that remains.
+struct Peeled {
+    end: Cell,
+    cells: usize,
+    corner: Cell,
+    opposite: Cell,
+}
+
+fn peel(a: Cell, b: Cell, t: Cell) -> Peeled
+    requires { ⌜ Small a ⌝ ∗ ⌜ Small b ⌝ ∗ ⌜ Inside a b t ⌝ ∗ ⌜ oneLine a b t ≡ false ⌝ }
+    ensures { λ r. ⌜ Peel a b t (r .end) (r .corner) (r .opposite) (r .cells) ⌝ }
+{
+    if row_first(a, b, t) {
+        return Peeled {
+            end: Cell { x: b.x, y: a.y },
+            cells: (distance(a.x, b.x) + 1) as usize,
+            corner: Cell {
+                x: b.x,
+                y: step_toward(a.y, b.y),
+            },
+            opposite: Cell { x: a.x, y: b.y },
+        };
+    }
+    Peeled {
+        end: Cell { x: a.x, y: b.y },
+        cells: (distance(a.y, b.y) + 1) as usize,
+        corner: Cell {
+            x: step_toward(a.x, b.x),
+            y: b.y,
+        },
+        opposite: Cell { x: b.x, y: a.y },
+    }
 }
