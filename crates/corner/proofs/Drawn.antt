@@ -1,20 +1,22 @@
 -- Tracks drawn into a buffer: a straight line, and a track drawn behind another one.
 use Prim.Native.Nat.{ℕ, _+_, _-_, _*_, _≤_, _<_}
 use mathlib.Core.Path.{_≡_, refl, sym, ap, _∙_, subst, subst₂}
-use mathlib.Core.List.{List, _++_, append-assoc}
+use mathlib.Core.List.{List, [], _++_, append-nil}
 use native.Mathlib.Omega.{arith}
-use lib.ListN.{length, take, drop, length-append, length-take, length-drop}
-use lib.Seq.{take-at, drop-at, drop-drop}
+use lib.ListN.{length, take, drop, length-append, length-take, length-drop, drop-of-length-le}
+use lib.Seq.{take-all, drop-drop}
+use borrow.Rule.Slice.PartMut.{putMid}
 use Rattle.grid.specs.declared.Cell.{Cell}
 use Rattle.grid.specs.Panel.{dist}
 use Rattle.grid.specs.Track.{TrackIn}
 use Rattle.grid.specs.Bytes.{bytes}
 use Rattle.grid.proofs.Facts.{cell-eq}
-use Rattle.grid.proofs.Bytes.{bytes-append, length-bytes}
+use Rattle.grid.proofs.Bytes.{length-bytes}
 use Rattle.corner.specs.Corner.{Inside}
 use Rattle.corner.specs.Line.{line, Straight}
 use Rattle.corner.specs.Drawn.{Drawn}
-use Rattle.corner.proofs.Between.{dist-up, dist-down, dist-zero}
+use Rattle.corner.proofs.Between.{dist-up, dist-down, dist-zero, start-between, between-sym, between-part}
+use Rattle.corner.proofs.First.{inside, inside-x, inside-y}
 use Rattle.corner.proofs.Line.{Axis, Way, in-row, in-column, line-track, length-line}
 
 -- ---- a straight line
@@ -61,3 +63,48 @@ column-drawn {a} {c} W e {n} u w =
 pub upright : {a c : Cell} → Straight a c → (a .y ≡ c .y → ⊥) → a .x ≡ c .x
 upright (Straight.row e) n = absurd (n e)
 upright (Straight.column e) n = e
+
+pub straight-sym : {a c : Cell} → Straight a c → Straight c a
+straight-sym (Straight.row h) = Straight.row (sym h)
+straight-sym (Straight.column h) = Straight.column (sym h)
+
+-- ---- a part of the buffer
+
+-- a part from `at` to the end, lent to a drawing function and back again: what lies before it stays, and the cells stand at its front
+pub part-written : (b part : List ℕ) (at k : ℕ) (l : List Cell) → at ≤ length b → part ≡ bytes l ++ drop (2 * k) (take (length b - at) (drop at b))
+    → putMid at (length b - at) b part ≡ take at b ++ (bytes l ++ drop (at + 2 * k) b)
+part-written b part at k l h e =
+    ap (λ (r : List ℕ). take at b ++ r)
+    (ap (λ (r : List ℕ). part ++ r) nothing ∙ append-nil part ∙ e
+    ∙ ap (λ (r : List ℕ). bytes l ++ r) (ap (drop (2 * k)) all ∙ drop-drop (2 * k) at b))
+  where
+    size : length (drop at b) ≤ length b - at
+    size = omega (arith, length-drop at b)
+
+    all : take (length b - at) (drop at b) ≡ drop at b
+    all = take-all (length b - at) (drop at b) size
+
+    nothing : drop (length b - at) (drop at b) ≡ []
+    nothing = drop-of-length-le (drop at b) size
+
+pub part-long : (b : List ℕ) (at : ℕ) → at ≤ length b → length (take (length b - at) (drop at b)) ≡ length b - at
+part-long b at h = length-take (length b - at) (drop at b) ∙ omega (arith, length-drop at b)
+
+-- ---- the ends of a rectangle
+
+pub first-inside : (a c : Cell) → Inside a c a
+first-inside a c = inside (start-between _ _) (start-between _ _)
+
+pub last-inside : (a c : Cell) → Inside a c c
+last-inside a c = inside (between-sym (start-between _ _)) (between-sym (start-between _ _))
+
+pub inside-sym : {a b c : Cell} → Inside a b c → Inside b a c
+inside-sym i = inside (between-sym (inside-x i)) (between-sym (inside-y i))
+
+-- the smallest rectangle of two cells of a rectangle
+pub inside-part : {a b c d e : Cell} → Inside a b c → Inside a b d → Inside c d e → Inside a b e
+inside-part i j k = inside (between-part (inside-x i) (inside-x j) (inside-x k)) (between-part (inside-y i) (inside-y j) (inside-y k))
+
+-- a drawing keeps the buffer's length
+pub drawn-long : {R : Cell → Type 0} {s t : Cell} {k : ℕ} {old new : List ℕ} → Drawn R s t k old new → 2 * k ≤ length old → length new ≡ length old
+drawn-long {k = k} {old = old} d h = ap length (d .written) ∙ length-append (bytes (d .cells)) (drop (2 * k) old) ∙ omega (arith, length-bytes (d .cells), d .size, length-drop (2 * k) old)

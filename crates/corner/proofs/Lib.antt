@@ -5,3 +5,5 @@ pub mod First
 pub mod Track
 pub mod Written
 pub mod Drawn
+pub mod Forward
+pub mod Backward

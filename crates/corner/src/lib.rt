@@ -186,3 +186,45 @@ fn peel(a: Cell, b: Cell, t: Cell) -> Peeled
         opposite: Cell { x: b.x, y: a.y },
     }
 }
+
+// Writes the track from the corner a to t in the rectangle of a and b at the front of the buffer: each
+// line goes into the part of the buffer behind the lines before it.
+pub fn corner_track(a: Cell, b: Cell, t: Cell, buf: &mut [u8]) -> Cells
+    requires { ⌜ Ready a b t (now buf) ⌝ }
+    ensures { λ r. ⌜ (r .0 ≡ trackCount a b t) × Drawn (Inside a b) a t (trackCount a b t) (now (buf .entry)) (now (buf .exit)) ⌝ }
+{
+    let count = corner_count(a, b, t);
+    let mut corner = a;
+    let mut opposite = b;
+    let mut at: usize = 0;
+    while !one_line(corner, opposite, t) {
+        let p = peel(corner, opposite, t);
+        straight(corner, p.end, &mut buf[at..]);
+        at = at + 2 * p.cells;
+        corner = p.corner;
+        opposite = p.opposite;
+    }
+    straight(corner, t, &mut buf[at..]);
+    count
+}
+
+// The same track from t to a, written in that order: its size is known first, and each line goes before
+// the lines drawn so far.
+pub fn corner_track_back(a: Cell, b: Cell, t: Cell, buf: &mut [u8]) -> Cells
+    requires { ⌜ Ready a b t (now buf) ⌝ }
+    ensures { λ r. ⌜ (r .0 ≡ trackCount a b t) × Drawn (Inside a b) t a (trackCount a b t) (now (buf .entry)) (now (buf .exit)) ⌝ }
+{
+    let count = corner_count(a, b, t);
+    let mut corner = a;
+    let mut opposite = b;
+    let mut at: usize = 2 * (count.0 as usize);
+    while !one_line(corner, opposite, t) {
+        let p = peel(corner, opposite, t);
+        at = at - 2 * p.cells;
+        straight(p.end, corner, &mut buf[at..]);
+        corner = p.corner;
+        opposite = p.opposite;
+    }
+    straight(t, corner, buf);
+    count
+}

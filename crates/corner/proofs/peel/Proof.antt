@@ -23,7 +23,10 @@ cast-t8 : tie.Need-cast-t8
 cast-t8 c = search needs
 
 step-toward-requires : tie.Need-step-toward-requires
-step-toward-requires c κs = let s = c .before .before .before .pre in (s .0 .down, wide _ _ _ (s .1 .1 .1) .down)
+step-toward-requires c κs =
+    let s = c .before .before .before .pre in
+    let g = c .before .before .before .args in
+    (s .0 .down, wide (g .a) (g .b) (g .t) (s .1 .1 .1) .down)
 
 returns : tie.Need-returns
 returns c =
@@ -45,7 +48,10 @@ cast-t15 : tie.Need-cast-t15
 cast-t15 c = search needs
 
 step-toward-requires-2 : tie.Need-step-toward-requires-2
-step-toward-requires-2 c κs = let s = c .before .before .before .pre in (s .0 .across, wide _ _ _ (s .1 .1 .1) .across)
+step-toward-requires-2 c κs =
+    let s = c .before .before .before .pre in
+    let g = c .before .before .before .args in
+    (s .0 .across, wide (g .a) (g .b) (g .t) (s .1 .1 .1) .across)
 
 returns-2 : tie.Need-returns-2
 returns-2 c =
