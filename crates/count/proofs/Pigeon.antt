@@ -1,0 +1,110 @@
+-- The pigeonhole, with weights: if no cell stands twice in a list and all lie in some columns, the list weighs at most what the columns weigh.
+-- By induction over the list: the weight of its first cell is put to 0, which takes that much from the columns and nothing from the rest of the list.
+use Prim.Native.Nat.{ℕ, zero, suc, _+_, _*_, _≤_, _<_, zero-le}
+use mathlib.Core.Path.{_≡_, refl, sym, ap, _∙_}
+use mathlib.Core.Logic.{_≢_}
+use mathlib.Core.Bool.{Bool, true, false, cond}
+use mathlib.Core.List.{List, [], _∷_}
+use native.Mathlib.Omega.{arith}
+use native.Mathlib.Decide.{ℕ-discrete}
+use native.Mathlib.Nat.{add-zero, zero-add, add-suc, add-assoc, mul-one}
+use lib.ListN.{length}
+use Rattle.grid.specs.declared.Panel.{Panel}
+use Rattle.grid.specs.declared.Cell.{Cell}
+use Rattle.grid.specs.Panel.{OnPanel, sameCell}
+use Rattle.grid.specs.Track.{All, Once}
+use Rattle.grid.proofs.Facts.{eq-same, ne-same, ne-x, ne-y}
+use Rattle.grid.proofs.Track.{all-map}
+use Rattle.count.specs.Count.{area}
+use Rattle.count.specs.Longest.{weight, sum, columnsWeight, panelWeight}
+
+-- ---- sums
+
+pub sum-same : (f g : ℕ → ℕ) (a k : ℕ) → ((i : ℕ) → a < i → i ≤ a + k → f i ≡ g i) → sum f a k ≡ sum g a k
+sum-same f g a zero h = refl
+sum-same f g a (suc k) h = omega (arith, h (a + suc k) (omega arith) (omega arith), sum-same f g a k (λ i p q. h i p (omega arith)))
+
+pub sum-const : (f : ℕ → ℕ) (a k e : ℕ) → ((i : ℕ) → a < i → i ≤ a + k → f i ≡ e) → sum f a k ≡ k * e
+sum-const f a zero e h = omega arith
+sum-const f a (suc k) e h = omega (arith, h (a + suc k) (omega arith) (omega arith), sum-const f a k e (λ i p q. h i p (omega arith)))
+
+pub sum-split : (f : ℕ → ℕ) (a k j : ℕ) → sum f a (k + j) ≡ sum f a k + sum f (a + k) j
+sum-split f a k zero = rw (add-zero k) (omega arith)
+sum-split f a k (suc j) = rw (add-suc k j) (omega (arith, sum-split f a k j, ap f (add-assoc a k (suc j)), ap f (ap (λ (i : ℕ). a + i) (add-suc k j))))
+
+-- two functions that differ at one place have sums that differ by as much
+sum-change : (f g : ℕ → ℕ) (a k i e : ℕ) → a < i → i ≤ a + k → ((j : ℕ) → i ≢ j → g j ≡ f j) → g i + e ≡ f i → sum g a k + e ≡ sum f a k
+sum-change f g a zero i e p q same here = absurd (omega arith)
+sum-change f g a (suc k) i e p q same here = elim (ℕ-discrete i (a + suc k)) [
+  | yes t ↦ omega (arith, ap g t, ap f t, sum-same g f a k (λ j u v. same j (omega arith)))
+  | no n ↦ omega (arith, same (a + suc k) n, sum-change f g a k i e p (omega arith) same here)
+]
+
+-- ---- columns of cells
+
+-- a cell in the columns a + 1 to a + k of n rows
+pub record InColumns (a k n : ℕ) (c : Cell) : Type 0 where
+  pub left : a < c .x
+  pub right : c .x ≤ a + k
+  pub top : 1 ≤ c .y
+  pub bottom : c .y ≤ n
+
+pub in-columns : {p : Panel} {c : Cell} → OnPanel p c → InColumns 0 (p .width) (p .height) c
+in-columns o = record { left = o .left; right = omega arith; top = o .top; bottom = o .bottom }
+
+columns-change : (v w : Cell → ℕ) (a k n : ℕ) (c : Cell) (e : ℕ) → InColumns a k n c → ((d : Cell) → c ≢ d → v d ≡ w d) → v c + e ≡ w c → columnsWeight v a k n + e ≡ columnsWeight w a k n
+unfolding columnsWeight
+columns-change v w a k n c e o same here =
+    sum-change _ _ a k (c .x) e (o .left) (o .right)
+    (λ x h. sum-same _ _ 0 n (λ y p q. same (record { x = x; y = y }) (ne-x h)))
+    (sum-change _ _ 0 n (c .y) e (o .top) (omega arith) (λ y h. same (record { x = c .x; y = y }) (ne-y h)) here)
+
+-- ---- the pigeonhole
+
+without : Cell → (Cell → ℕ) → Cell → ℕ
+without c w d = cond (sameCell c d) 0 (w d)
+
+without-here : (c : Cell) (w : Cell → ℕ) → without c w c ≡ 0
+unfolding without
+without-here c w = ap (λ (b : Bool). cond b 0 (w c)) (eq-same {a = c} refl)
+
+without-there : (c : Cell) (w : Cell → ℕ) (d : Cell) → c ≢ d → without c w d ≡ w d
+unfolding without
+without-there c w d h = ap (λ (b : Bool). cond b 0 (w d)) (ne-same c d h)
+
+weight-same : {v w : Cell → ℕ} {l : List Cell} → All (λ d. v d ≡ w d) l → weight v l ≡ weight w l
+weight-same All.none = refl
+weight-same (All.more e a) = λ i. e i + weight-same a i
+
+pub pigeon : (w : Cell → ℕ) {l : List Cell} (a k n : ℕ) → Once l → All (InColumns a k n) l → weight w l ≤ columnsWeight w a k n
+pigeon w a k n Once.none All.none = zero-le
+pigeon w a k n (Once.more {c = c} h o) (All.more r q) =
+    let v : Cell → ℕ = without c w in
+    omega (
+      arith,
+      pigeon v a k n o q,
+      weight-same {v = v} {w = w} (all-map (without-there c w) h),
+      columns-change v w a k n c (w c) r (without-there c w) (ap (λ (i : ℕ). i + w c) (without-here c w) ∙ zero-add (w c)),
+    )
+
+-- ---- with weight 1: how many cells
+
+pub weight-one : (l : List Cell) → weight (λ c. 1) l ≡ length l
+weight-one [] = refl
+weight-one (c ∷ l) = omega (arith, weight-one l)
+
+columns-one : (a k n : ℕ) → columnsWeight (λ c. 1) a k n ≡ k * n
+unfolding columnsWeight
+columns-one a k n = sum-const _ a k n (λ i p q. sum-const _ 0 n 1 (λ j u v. refl) ∙ mul-one n)
+
+-- a list without repeats of cells in k columns of n rows has at most k * n cells
+pub at-most-columns : (a k n : ℕ) {l : List Cell} → Once l → All (InColumns a k n) l → length l ≤ k * n
+at-most-columns a k n {l} o q = omega (arith, pigeon (λ c. 1) a k n o q, weight-one l, columns-one a k n)
+
+-- a list without repeats of cells on a panel has at most mn cells
+pub at-most-area : (p : Panel) {l : List Cell} → Once l → All (OnPanel p) l → length l ≤ area p
+at-most-area p o q = at-most-columns 0 (p .width) (p .height) o (all-map (λ c. in-columns) q)
+
+-- and at most mn − 1 if some cell of the panel is not in it
+pub at-most-rest : (p : Panel) (c : Cell) {l : List Cell} → OnPanel p c → All (λ d. c ≢ d) l → Once l → All (OnPanel p) l → length l < area p
+at-most-rest p c r h o q = at-most-area p (Once.more h o) (All.more r q)
