@@ -1,1 +1,2 @@
 pub mod Pigeon
+pub mod Colour

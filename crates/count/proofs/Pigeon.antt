@@ -28,6 +28,10 @@ pub sum-const : (f : ℕ → ℕ) (a k e : ℕ) → ((i : ℕ) → a < i → i �
 sum-const f a zero e h = omega arith
 sum-const f a (suc k) e h = omega (arith, h (a + suc k) (omega arith) (omega arith), sum-const f a k e (λ i p q. h i p (omega arith)))
 
+pub sum-both : (f g : ℕ → ℕ) (a k e : ℕ) → ((i : ℕ) → f i + g i ≡ e) → sum f a k + sum g a k ≡ k * e
+sum-both f g a zero e h = omega arith
+sum-both f g a (suc k) e h = omega (arith, h (a + suc k), sum-both f g a k e h)
+
 pub sum-split : (f : ℕ → ℕ) (a k j : ℕ) → sum f a (k + j) ≡ sum f a k + sum f (a + k) j
 sum-split f a k zero = rw (add-zero k) (omega arith)
 sum-split f a k (suc j) = rw (add-suc k j) (omega (arith, sum-split f a k j, ap f (add-assoc a k (suc j)), ap f (ap (λ (i : ℕ). a + i) (add-suc k j))))
