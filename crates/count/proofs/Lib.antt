@@ -1,2 +1,3 @@
 pub mod Pigeon
 pub mod Colour
+pub mod Strip

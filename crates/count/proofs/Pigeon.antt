@@ -20,13 +20,15 @@ use Rattle.count.specs.Longest.{weight, sum, columnsWeight, panelWeight}
 
 -- ---- sums
 
-pub sum-same : (f g : ℕ → ℕ) (a k : ℕ) → ((i : ℕ) → a < i → i ≤ a + k → f i ≡ g i) → sum f a k ≡ sum g a k
-sum-same f g a zero h = refl
-sum-same f g a (suc k) h = omega (arith, h (a + suc k) (omega arith) (omega arith), sum-same f g a k (λ i p q. h i p (omega arith)))
+pub sum-linear : (f g : ℕ → ℕ) (a k d e : ℕ) → ((i : ℕ) → a < i → i ≤ a + k → f i ≡ d * g i + e) → sum f a k ≡ d * sum g a k + k * e
+sum-linear f g a zero d e h = omega arith
+sum-linear f g a (suc k) d e h = omega (arith, h (a + suc k) (omega arith) (omega arith), sum-linear f g a k d e (λ i p q. h i p (omega arith)))
+
+sum-same : (f g : ℕ → ℕ) (a k : ℕ) → ((i : ℕ) → a < i → i ≤ a + k → f i ≡ g i) → sum f a k ≡ sum g a k
+sum-same f g a k h = omega (arith, sum-linear f g a k 1 0 (λ i p q. omega (arith, h i p q)))
 
 pub sum-const : (f : ℕ → ℕ) (a k e : ℕ) → ((i : ℕ) → a < i → i ≤ a + k → f i ≡ e) → sum f a k ≡ k * e
-sum-const f a zero e h = omega arith
-sum-const f a (suc k) e h = omega (arith, h (a + suc k) (omega arith) (omega arith), sum-const f a k e (λ i p q. h i p (omega arith)))
+sum-const f a k e h = omega (arith, sum-linear f (λ i. 0) a k 0 e (λ i p q. omega (arith, h i p q)))
 
 pub sum-both : (f g : ℕ → ℕ) (a k e : ℕ) → ((i : ℕ) → f i + g i ≡ e) → sum f a k + sum g a k ≡ k * e
 sum-both f g a zero e h = omega arith
@@ -36,12 +38,12 @@ pub sum-split : (f : ℕ → ℕ) (a k j : ℕ) → sum f a (k + j) ≡ sum f a 
 sum-split f a k zero = rw (add-zero k) (omega arith)
 sum-split f a k (suc j) = rw (add-suc k j) (omega (arith, sum-split f a k j, ap f (add-assoc a k (suc j)), ap f (ap (λ (i : ℕ). a + i) (add-suc k j))))
 
--- two functions that differ at one place have sums that differ by as much
-sum-change : (f g : ℕ → ℕ) (a k i e : ℕ) → a < i → i ≤ a + k → ((j : ℕ) → i ≢ j → g j ≡ f j) → g i + e ≡ f i → sum g a k + e ≡ sum f a k
-sum-change f g a zero i e p q same here = absurd (omega arith)
-sum-change f g a (suc k) i e p q same here = elim (ℕ-discrete i (a + suc k)) [
+-- two functions that are equal but at one place: their sums differ as they do there
+sum-change : (f g : ℕ → ℕ) (a k i : ℕ) → a < i → i ≤ a + k → ((j : ℕ) → i ≢ j → g j ≡ f j) → sum g a k + f i ≡ sum f a k + g i
+sum-change f g a zero i p q same = absurd (omega arith)
+sum-change f g a (suc k) i p q same = elim (ℕ-discrete i (a + suc k)) [
   | yes t ↦ omega (arith, ap g t, ap f t, sum-same g f a k (λ j u v. same j (omega arith)))
-  | no n ↦ omega (arith, same (a + suc k) n, sum-change f g a k i e p (omega arith) same here)
+  | no n ↦ omega (arith, same (a + suc k) n, sum-change f g a k i p (omega arith) same)
 ]
 
 -- ---- columns of cells
@@ -56,25 +58,39 @@ pub record InColumns (a k n : ℕ) (c : Cell) : Type 0 where
 pub in-columns : {p : Panel} {c : Cell} → OnPanel p c → InColumns 0 (p .width) (p .height) c
 in-columns o = record { left = o .left; right = omega arith; top = o .top; bottom = o .bottom }
 
-columns-change : (v w : Cell → ℕ) (a k n : ℕ) (c : Cell) (e : ℕ) → InColumns a k n c → ((d : Cell) → c ≢ d → v d ≡ w d) → v c + e ≡ w c → columnsWeight v a k n + e ≡ columnsWeight w a k n
+-- the weights w, but e at the cell c
+pub at : Cell → ℕ → (Cell → ℕ) → Cell → ℕ
+at c e w d = cond (sameCell c d) e (w d)
+
+pub at-here : (c : Cell) (e : ℕ) (w : Cell → ℕ) (d : Cell) → c ≡ d → at c e w d ≡ e
+unfolding at
+at-here c e w d h = ap (λ (b : Bool). cond b e (w d)) (eq-same h)
+
+pub at-there : (c : Cell) (e : ℕ) (w : Cell → ℕ) (d : Cell) → c ≢ d → at c e w d ≡ w d
+unfolding at
+at-there c e w d h = ap (λ (b : Bool). cond b e (w d)) (ne-same c d h)
+
+pub at-bound : (c : Cell) (e : ℕ) (w : Cell → ℕ) (d : Cell) (k : ℕ) → e ≤ k → w d ≤ k → at c e w d ≤ k
+unfolding at
+at-bound c e w d k p q = go (sameCell c d)
+  where
+    go : (b : Bool) → cond b e (w d) ≤ k
+    go true = p
+    go false = q
+
+pub at-weight : (c : Cell) (e : ℕ) (w : Cell → ℕ) (a k n : ℕ) → InColumns a k n c → columnsWeight (at c e w) a k n + w c ≡ columnsWeight w a k n + e
 unfolding columnsWeight
-columns-change v w a k n c e o same here =
-    sum-change _ _ a k (c .x) e (o .left) (o .right)
-    (λ x h. sum-same _ _ 0 n (λ y p q. same (record { x = x; y = y }) (ne-x h)))
-    (sum-change _ _ 0 n (c .y) e (o .top) (omega arith) (λ y h. same (record { x = c .x; y = y }) (ne-y h)) here)
+at-weight c e w a k n o =
+    let column : (Cell → ℕ) → ℕ → ℕ = λ v x. sum (λ y. v (record { x = x; y = y })) 0 n in
+    let v : Cell → ℕ = at c e w in
+    omega (
+      arith,
+      sum-change (column w) (column v) a k (c .x) (o .left) (o .right) (λ x h. sum-same _ _ 0 n (λ y p q. at-there c e w (record { x = x; y = y }) (ne-x h))),
+      sum-change (λ y. w (record { x = c .x; y = y })) (λ y. v (record { x = c .x; y = y })) 0 n (c .y) (o .top) (omega arith) (λ y h. at-there c e w (record { x = c .x; y = y }) (ne-y h)),
+      at-here c e w c refl,
+    )
 
 -- ---- the pigeonhole
-
-without : Cell → (Cell → ℕ) → Cell → ℕ
-without c w d = cond (sameCell c d) 0 (w d)
-
-without-here : (c : Cell) (w : Cell → ℕ) → without c w c ≡ 0
-unfolding without
-without-here c w = ap (λ (b : Bool). cond b 0 (w c)) (eq-same {a = c} refl)
-
-without-there : (c : Cell) (w : Cell → ℕ) (d : Cell) → c ≢ d → without c w d ≡ w d
-unfolding without
-without-there c w d h = ap (λ (b : Bool). cond b 0 (w d)) (ne-same c d h)
 
 weight-same : {v w : Cell → ℕ} {l : List Cell} → All (λ d. v d ≡ w d) l → weight v l ≡ weight w l
 weight-same All.none = refl
@@ -83,13 +99,7 @@ weight-same (All.more e a) = λ i. e i + weight-same a i
 pub pigeon : (w : Cell → ℕ) {l : List Cell} (a k n : ℕ) → Once l → All (InColumns a k n) l → weight w l ≤ columnsWeight w a k n
 pigeon w a k n Once.none All.none = zero-le
 pigeon w a k n (Once.more {c = c} h o) (All.more r q) =
-    let v : Cell → ℕ = without c w in
-    omega (
-      arith,
-      pigeon v a k n o q,
-      weight-same {v = v} {w = w} (all-map (without-there c w) h),
-      columns-change v w a k n c (w c) r (without-there c w) (ap (λ (i : ℕ). i + w c) (without-here c w) ∙ zero-add (w c)),
-    )
+    omega (arith, pigeon (at c 0 w) a k n o q, weight-same {v = at c 0 w} {w = w} (all-map (at-there c 0 w) h), at-weight c 0 w a k n r)
 
 -- ---- with weight 1: how many cells
 
