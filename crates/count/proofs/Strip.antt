@@ -38,13 +38,17 @@ first-weight e (Walk.step n w) = omega arith
 marked : (a b k : ℕ) → a ≤ 1 → b ≤ 1 → b ≤ k → (a + b - 1) + (k - 1) ≤ a + k - 1
 marked a b k p q r = omega arith
 
--- the two cells of each step weigh 2 or more together, but 1 less if both are marked by e, and 1 less if both are marked by f
+-- two cells weigh 2 or more together, but 1 less if both are marked by e, and 1 less if both are marked by f
+abbrev Heavy : (w e f : Cell → ℕ) → Cell → Cell → Type 0
+Heavy w e f a b = 2 ≤ w a + w b + ((e a + e b - 1) + (f a + f b - 1))
+
+-- the cells of a walk whose steps are heavy
 module _ {R : Cell → Type 0} (w e f : Cell → ℕ) (e1 : (c : Cell) → e c ≤ 1) (f1 : (c : Cell) → f c ≤ 1)
-    (pair : (a b : Cell) → R a → R b → Neighbours a b → 2 ≤ w a + w b + ((e a + e b - 1) + (f a + f b - 1))) where
+    (heavy : (a b : Cell) → R a → R b → Neighbours a b → Heavy w e f a b) where
   along : {s t : Cell} {l : List Cell} → Walk s t l → All R l → 2 * length l + w s + w t ≤ 2 * weight w l + 2 + ((weight e l - 1) + (weight f l - 1))
   along Walk.end r = omega arith
   along (Walk.step {a = a} {b = b} {t = t} {l = l} n v) (All.more r q) =
-      go (length l) (w a) (w b) (w t) (weight w l) _ _ _ _ _ _ (along v q) (pair a b r (first-in v q) n)
+      go (length l) (w a) (w b) (w t) (weight w l) _ _ _ _ _ _ (along v q) (heavy a b r (first-in v q) n)
       (marked (e a) (e b) (weight e l) (e1 a) (e1 b) (first-weight e v)) (marked (f a) (f b) (weight f l) (f1 a) (f1 b) (first-weight f v))
     where
       go : (k x y z u p q p' q' p'' q'' : ℕ) → 2 * k + y + z ≤ 2 * u + 2 + (p' + q') → 2 ≤ x + y + (p + q) → p + p' ≤ p'' → q + q' ≤ q'' → 2 * suc k + x + z ≤ 2 * (x + u) + 2 + (p'' + q'')
@@ -129,12 +133,8 @@ module _ (c : ℕ) where
   -- ---- the two cells of a step
 
   module _ (o : c % 2 ≡ 1) where
-    Pair : Cell → Cell → Type 0
-    Pair a b = 2 ≤ side a + side b + ((gate 1 a + gate 1 b - 1) + (gate 3 a + gate 3 b - 1))
-
     -- a step over the edge: black in row 2, else through a gate
-    crossing : (m : ℕ) (a b : Cell) → InColumns 0 m 3 a → a .x ≡ c → b .x ≡ c + 1 → a .y ≡ b .y → Pair a b
-    unfolding Pair
+    crossing : (m : ℕ) (a b : Cell) → InColumns 0 m 3 a → a .x ≡ c → b .x ≡ c + 1 → a .y ≡ b .y → Heavy side (gate 1) (gate 3) a b
     crossing m a b r p q e =
         let i : side a ≡ 2 * dark a = side-in a (omega arith) in
         let j : side b ≡ 1 = side-out b (omega arith) in
@@ -146,8 +146,7 @@ module _ (c : ℕ) where
           ]
         ]
 
-    pair : (m : ℕ) (a b : Cell) → InColumns 0 m 3 a → InColumns 0 m 3 b → Neighbours a b → Pair a b
-    unfolding Pair
+    pair : (m : ℕ) (a b : Cell) → InColumns 0 m 3 a → InColumns 0 m 3 b → Neighbours a b → Heavy side (gate 1) (gate 3) a b
     pair m a b r q n = elim (decLe (a .x) c) [
       | yes h ↦ elim (decLe (b .x) c) [
         | yes k ↦ omega (arith, side-in a h, side-in b k, alternate n)
