@@ -1,3 +1,4 @@
 pub mod Pigeon
 pub mod Colour
 pub mod Strip
+pub mod Rows

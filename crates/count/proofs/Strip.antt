@@ -26,7 +26,7 @@ pub first-in : {R : Cell → Type 0} {s t : Cell} {l : List Cell} → Walk s t l
 first-in Walk.end (All.more r a) = r
 first-in (Walk.step n w) (All.more r a) = r
 
-last-in : {R : Cell → Type 0} {s t : Cell} {l : List Cell} → Walk s t l → All R l → R t
+pub last-in : {R : Cell → Type 0} {s t : Cell} {l : List Cell} → Walk s t l → All R l → R t
 last-in Walk.end (All.more r a) = r
 last-in (Walk.step n w) (All.more r a) = last-in w a
 
