@@ -2,3 +2,4 @@ pub mod Pigeon
 pub mod Colour
 pub mod Strip
 pub mod Rows
+pub mod NoLonger
