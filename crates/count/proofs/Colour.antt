@@ -1,7 +1,7 @@
 -- Colours alternate along a walk, so its length and its ends say how many of its cells are black: 2 * black + 1 = length + black ends.
 -- A panel of mn cells has mn / 2 black ones, rounded down: a column x of n rows has (n + (x + 1) % 2) / 2.
-use Prim.Native.Nat.{ℕ, zero, suc, _+_, _-_, _*_, _/_, _%_, _≤_, _<_}
-use mathlib.Core.Path.{_≡_, refl, sym, ap, _∙_}
+use Prim.Native.Nat.{ℕ, zero, suc, _+_, _-_, _*_, _/_, _%_, _≤_}
+use mathlib.Core.Path.{_≡_, refl, _∙_}
 use mathlib.Core.Logic.{_≢_, _↔_}
 use mathlib.Core.List.{List, [], _∷_}
 use native.Mathlib.Omega.{arith}
@@ -9,11 +9,11 @@ use native.Mathlib.Nat.{mul-one}
 use native.Mathlib.Decide.{ℕ-discrete}
 use lib.ListN.{length}
 use borrow.Author.Tests.{eqb-true, eqb-false}
-use mathlib.Core.Bool.{Bool, true, false}
+use mathlib.Core.Bool.{true, false}
 use Rattle.grid.specs.declared.Panel.{Panel}
 use Rattle.grid.specs.declared.Cell.{Cell}
 use Rattle.grid.specs.Panel.{Neighbours, OnPanel, black}
-use Rattle.grid.specs.Track.{Walk, All, Once, Track}
+use Rattle.grid.specs.Track.{Walk, All, Once}
 use Rattle.grid.proofs.Facts.{beside-is}
 use Rattle.grid.proofs.Track.{all-map}
 use Rattle.count.specs.Count.{area}

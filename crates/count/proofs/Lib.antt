@@ -1,4 +1,5 @@
 pub mod Pigeon
+pub mod Ends
 pub mod Colour
 pub mod Strip
 pub mod Rows

@@ -2,27 +2,28 @@
 -- with two black ends on an odd panel two fewer (one black cell more than white ones, where the panel has one fewer), and one fewer where the parity of its length is not that of mn.
 -- A track reversed or turned is a track, which gives the other names and the tall panels.
 use Prim.Native.Nat.{ℕ, _+_, _-_, _*_, _/_, _%_, _≤_, _<_, max}
-use mathlib.Core.Path.{_≡_, refl, sym, ap, _∙_}
-use mathlib.Core.Logic.{_≢_, _⊎_, inl, inr}
+use mathlib.Core.Path.{_≡_, refl, sym, ap}
+use mathlib.Core.Logic.{_≢_}
 use mathlib.Core.Bool.{Bool, true, false, cond, not, _&&_, _||_}
-use mathlib.Core.List.{List, [], _∷_, reverse, map}
+use mathlib.Core.List.{List, reverse, map}
 use native.Mathlib.Omega.{arith}
 use lib.ListN.{length, length-reverse, length-map}
-use lib.Dec.{leb, ltb, eqb}
+use lib.Dec.{ltb, eqb}
 use borrow.Author.Tests.{eqb-true, eqb-false, leb-true, ltb-true, ltb-false, not-true}
 use Rattle.grid.specs.declared.Panel.{Panel}
 use Rattle.grid.specs.declared.Cell.{Cell}
 use Rattle.grid.specs.Panel.{OnPanel, black, turned, turnedCell}
-use Rattle.grid.specs.Track.{Walk, All, Once, Track}
-use Rattle.grid.proofs.Facts.{and-left, and-right, cell-eq, ne-cases}
+use Rattle.grid.specs.Track.{All, Track}
+use Rattle.grid.proofs.Facts.{and-left, and-right, cell-eq}
 use Rattle.grid.proofs.Track.{all-map, backwards}
 use Rattle.grid.proofs.Moves.{turning, moved}
 use Rattle.count.specs.declared.ClassCount.{ClassCount}
 use Rattle.count.specs.Count.{area, odd, f1, f2, f3, c2, c0, decided, named, classCount, count}
 use Rattle.count.specs.Longest.{NoLonger, dark, weight}
+use Rattle.count.proofs.Ends.{first-in, last-in}
 use Rattle.count.proofs.Pigeon.{InColumns, at-most-area}
-use Rattle.count.proofs.Colour.{black-is, white-is, dark-light, walk-dark, at-most-dark}
-use Rattle.count.proofs.Strip.{strip, first-in, last-in}
+use Rattle.count.proofs.Colour.{black-is, white-is, walk-dark, at-most-dark}
+use Rattle.count.proofs.Strip.{strip}
 use Rattle.count.proofs.Rows.{one-row, two-rows}
 
 -- ---- a definition by cases
@@ -149,11 +150,11 @@ Bounds p s t c = NoLonger p s t (c .count .0)
 decided-bound : (p : Panel) (s t : Cell) → s ≢ t → s .x ≤ t .x → Bounds p s t (decided p s t)
 unfolding decided
 decided-bound p s t ne h =
-    by-cond (Bounds p s t) (f1 p s t) (λ e l r. f1-bound p s t ne r h e)
-    (λ _. by-cond (Bounds p s t) (f2 p s t) (λ e l r. f2-bound p s t ne r e)
-    (λ _. by-cond (Bounds p s t) (c2 p s t) (λ e l r. c2-bound p s t ne r e)
-    (λ e. by-cond (Bounds p s t) (c0 p s t) (λ _ l r. fits p s t ne r)
-    (λ f l r. rest-bound p s t ne r e f))))
+    by-cond (Bounds p s t) (f1 p s t) (λ e l r. omega (arith, f1-bound p s t ne r h e))
+    (λ _. by-cond (Bounds p s t) (f2 p s t) (λ e l r. omega (arith, f2-bound p s t ne r e))
+    (λ _. by-cond (Bounds p s t) (c2 p s t) (λ e l r. omega (arith, c2-bound p s t ne r e))
+    (λ e. by-cond (Bounds p s t) (c0 p s t) (λ _ l r. omega (arith, fits p s t ne r))
+    (λ f l r. omega (arith, rest-bound p s t ne r e f)))))
 
 named-bound : (p : Panel) (s t : Cell) → s ≢ t → Bounds p s t (named p s t)
 unfolding named

@@ -1,13 +1,13 @@
 -- The pigeonhole, with weights: if no cell stands twice in a list and all lie in some columns, the list weighs at most what the columns weigh.
 -- By induction over the list: the weight of its first cell is put to 0, which takes that much from the columns and nothing from the rest of the list.
 use Prim.Native.Nat.{ℕ, zero, suc, _+_, _*_, _≤_, _<_, zero-le}
-use mathlib.Core.Path.{_≡_, refl, sym, ap, _∙_}
+use mathlib.Core.Path.{_≡_, refl, ap, _∙_}
 use mathlib.Core.Logic.{_≢_}
 use mathlib.Core.Bool.{Bool, true, false, cond}
 use mathlib.Core.List.{List, [], _∷_}
 use native.Mathlib.Omega.{arith}
 use native.Mathlib.Decide.{ℕ-discrete}
-use native.Mathlib.Nat.{add-zero, zero-add, add-suc, add-assoc, mul-one}
+use native.Mathlib.Nat.{add-zero, add-suc, add-assoc, mul-one}
 use lib.ListN.{length}
 use Rattle.grid.specs.declared.Panel.{Panel}
 use Rattle.grid.specs.declared.Cell.{Cell}
@@ -16,7 +16,7 @@ use Rattle.grid.specs.Track.{All, Once}
 use Rattle.grid.proofs.Facts.{eq-same, ne-same, ne-x, ne-y}
 use Rattle.grid.proofs.Track.{all-map}
 use Rattle.count.specs.Count.{area}
-use Rattle.count.specs.Longest.{weight, sum, columnsWeight, panelWeight}
+use Rattle.count.specs.Longest.{weight, sum, columnsWeight}
 
 -- ---- sums
 
@@ -59,35 +59,35 @@ pub in-columns : {p : Panel} {c : Cell} → OnPanel p c → InColumns 0 (p .widt
 in-columns o = record { left = o .left; right = omega arith; top = o .top; bottom = o .bottom }
 
 -- the weights w, but e at the cell c
-pub at : Cell → ℕ → (Cell → ℕ) → Cell → ℕ
-at c e w d = cond (sameCell c d) e (w d)
+pub put : Cell → ℕ → (Cell → ℕ) → Cell → ℕ
+put c e w d = cond (sameCell c d) e (w d)
 
-pub at-here : (c : Cell) (e : ℕ) (w : Cell → ℕ) (d : Cell) → c ≡ d → at c e w d ≡ e
-unfolding at
-at-here c e w d h = ap (λ (b : Bool). cond b e (w d)) (eq-same h)
+pub put-here : (c : Cell) (e : ℕ) (w : Cell → ℕ) (d : Cell) → c ≡ d → put c e w d ≡ e
+unfolding put
+put-here c e w d h = ap (λ (b : Bool). cond b e (w d)) (eq-same h)
 
-pub at-there : (c : Cell) (e : ℕ) (w : Cell → ℕ) (d : Cell) → c ≢ d → at c e w d ≡ w d
-unfolding at
-at-there c e w d h = ap (λ (b : Bool). cond b e (w d)) (ne-same c d h)
+pub put-there : (c : Cell) (e : ℕ) (w : Cell → ℕ) (d : Cell) → c ≢ d → put c e w d ≡ w d
+unfolding put
+put-there c e w d h = ap (λ (b : Bool). cond b e (w d)) (ne-same c d h)
 
-pub at-bound : (c : Cell) (e : ℕ) (w : Cell → ℕ) (d : Cell) (k : ℕ) → e ≤ k → w d ≤ k → at c e w d ≤ k
-unfolding at
-at-bound c e w d k p q = go (sameCell c d)
+pub put-bound : (c : Cell) (e : ℕ) (w : Cell → ℕ) (d : Cell) (k : ℕ) → e ≤ k → w d ≤ k → put c e w d ≤ k
+unfolding put
+put-bound c e w d k p q = go (sameCell c d)
   where
     go : (b : Bool) → cond b e (w d) ≤ k
     go true = p
     go false = q
 
-pub at-weight : (c : Cell) (e : ℕ) (w : Cell → ℕ) (a k n : ℕ) → InColumns a k n c → columnsWeight (at c e w) a k n + w c ≡ columnsWeight w a k n + e
+pub put-weight : (c : Cell) (e : ℕ) (w : Cell → ℕ) (a k n : ℕ) → InColumns a k n c → columnsWeight (put c e w) a k n + w c ≡ columnsWeight w a k n + e
 unfolding columnsWeight
-at-weight c e w a k n o =
+put-weight c e w a k n o =
     let column : (Cell → ℕ) → ℕ → ℕ = λ v x. sum (λ y. v (record { x = x; y = y })) 0 n in
-    let v : Cell → ℕ = at c e w in
+    let v : Cell → ℕ = put c e w in
     omega (
       arith,
-      sum-change (column w) (column v) a k (c .x) (o .left) (o .right) (λ x h. sum-same _ _ 0 n (λ y p q. at-there c e w (record { x = x; y = y }) (ne-x h))),
-      sum-change (λ y. w (record { x = c .x; y = y })) (λ y. v (record { x = c .x; y = y })) 0 n (c .y) (o .top) (omega arith) (λ y h. at-there c e w (record { x = c .x; y = y }) (ne-y h)),
-      at-here c e w c refl,
+      sum-change (column w) (column v) a k (c .x) (o .left) (o .right) (λ x h. sum-same _ _ 0 n (λ y p q. put-there c e w (record { x = x; y = y }) (ne-x h))),
+      sum-change (λ y. w (record { x = c .x; y = y })) (λ y. v (record { x = c .x; y = y })) 0 n (c .y) (o .top) (omega arith) (λ y h. put-there c e w (record { x = c .x; y = y }) (ne-y h)),
+      put-here c e w c refl,
     )
 
 -- ---- the pigeonhole
@@ -99,7 +99,7 @@ weight-same (All.more e a) = λ i. e i + weight-same a i
 pub pigeon : (w : Cell → ℕ) {l : List Cell} (a k n : ℕ) → Once l → All (InColumns a k n) l → weight w l ≤ columnsWeight w a k n
 pigeon w a k n Once.none All.none = zero-le
 pigeon w a k n (Once.more {c = c} h o) (All.more r q) =
-    omega (arith, pigeon (at c 0 w) a k n o q, weight-same {v = at c 0 w} {w = w} (all-map (at-there c 0 w) h), at-weight c 0 w a k n r)
+    omega (arith, pigeon (put c 0 w) a k n o q, weight-same {v = put c 0 w} {w = w} (all-map (put-there c 0 w) h), put-weight c 0 w a k n r)
 
 -- ---- with weight 1: how many cells
 

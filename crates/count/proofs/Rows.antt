@@ -2,9 +2,9 @@
 -- A step changes the number by at most 1, or 2; so the track, which does not come back to s and ends at t, cannot pass them: all its cells have numbers on one side.
 -- Cells with different numbers from a + 1 to a + k are at most k.
 use Prim.Native.Nat.{ℕ, _+_, _-_, _*_, _≤_, _<_, max}
-use mathlib.Core.Path.{_≡_, refl, sym, ap, _∙_}
+use mathlib.Core.Path.{_≡_, refl, ap}
 use mathlib.Core.Logic.{_≢_}
-use mathlib.Core.List.{List, [], _∷_, map}
+use mathlib.Core.List.{List, map}
 use native.Mathlib.Omega.{arith}
 use native.Mathlib.Decide.{decLe, ℕ-discrete}
 use lib.ListN.{length, length-map}
@@ -13,8 +13,8 @@ use Rattle.grid.specs.Panel.{Neighbours, dist}
 use Rattle.grid.specs.Track.{Walk, All, Once}
 use Rattle.grid.proofs.Facts.{beside-is, cell-eq}
 use Rattle.grid.proofs.Track.{all-map, all-both}
+use Rattle.count.proofs.Ends.{first-in, last-in}
 use Rattle.count.proofs.Pigeon.{InColumns, at-most-columns}
-use Rattle.count.proofs.Strip.{first-in, last-in}
 
 -- a property that each step keeps, unless it comes to s or leaves t, holds along a walk to t that has no s in it
 stays : {P R : Cell → Type 0} {s u t : Cell} {l : List Cell} → ((a b : Cell) → R a → R b → s ≢ a → s ≢ b → a ≢ t → Neighbours a b → P a → P b)

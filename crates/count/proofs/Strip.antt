@@ -1,11 +1,10 @@
 -- Three rows, m even, s black, t white (F3). Let c be odd with s's x ≤ c < t's x. Weigh a black cell of the columns 1 to c with 2, a white one with 0, a cell right of them with 1:
 -- the panel weighs mn − 1. The two cells of a step weigh 2 together, or at least 1 if it crosses from column c to c + 1 in row 1 or 3, where column c is white.
 -- No cell stands twice, so a row is crossed at most once: 2 * length + 3 ≤ 2 * (mn − 1) + 2 + 2, and the length is even as mn is.
-use Prim.Native.Nat.{ℕ, zero, suc, _+_, _-_, _*_, _/_, _%_, _≤_, _<_, zero-le}
+use Prim.Native.Nat.{ℕ, suc, _+_, _-_, _*_, _/_, _%_, _≤_, _<_}
 use mathlib.Core.Path.{_≡_, refl, sym, ap, _∙_, subst}
-use mathlib.Core.Logic.{_≢_}
-use mathlib.Core.Bool.{Bool, true, false, cond}
-use mathlib.Core.List.{List, [], _∷_}
+use mathlib.Core.Bool.{Bool, cond}
+use mathlib.Core.List.{List}
 use native.Mathlib.Omega.{arith}
 use native.Mathlib.Nat.{add-sub-of-le}
 use native.Mathlib.Decide.{decLe, ℕ-discrete}
@@ -17,18 +16,11 @@ use Rattle.grid.specs.Panel.{Neighbours}
 use Rattle.grid.specs.Track.{Walk, All, Once}
 use Rattle.grid.proofs.Facts.{beside-is, cell-eq, ne-x, beside-sym}
 use Rattle.count.specs.Longest.{weight, sum, columnsWeight, dark}
-use Rattle.count.proofs.Pigeon.{InColumns, sum-linear, sum-const, sum-split, at, at-here, at-there, at-bound, at-weight, pigeon}
-use Rattle.count.proofs.Colour.{dark-light, alternate, even-length, columns-dark}
+use Rattle.count.proofs.Ends.{first-in, last-in}
+use Rattle.count.proofs.Pigeon.{InColumns, sum-linear, sum-const, sum-split, put, put-here, put-there, put-bound, put-weight, pigeon}
+use Rattle.count.proofs.Colour.{alternate, even-length, columns-dark}
 
 -- ---- one lemma over the walk
-
-pub first-in : {R : Cell → Type 0} {s t : Cell} {l : List Cell} → Walk s t l → All R l → R s
-first-in Walk.end (All.more r a) = r
-first-in (Walk.step n w) (All.more r a) = r
-
-pub last-in : {R : Cell → Type 0} {s t : Cell} {l : List Cell} → Walk s t l → All R l → R t
-last-in Walk.end (All.more r a) = r
-last-in (Walk.step n w) (All.more r a) = last-in w a
 
 first-weight : (e : Cell → ℕ) {s t : Cell} {l : List Cell} → Walk s t l → e s ≤ weight e l
 first-weight e Walk.end = omega arith
@@ -73,28 +65,28 @@ across c a b n p q = let h = beside-is n in omega arith
 -- ---- the gates between the columns c and c + 1
 
 module _ (c : ℕ) where
-  none : Cell → ℕ
-  none d = 0
+  blank : Cell → ℕ
+  blank d = 0
 
-  none-weight : (m n : ℕ) → columnsWeight none 0 m n ≡ 0
-  unfolding columnsWeight none
-  none-weight m n = omega (arith, sum-const (λ x. sum (λ y. 0) 0 n) 0 m 0 (λ x p q. omega (arith, sum-const (λ y. 0) 0 n 0 (λ y u v. refl))))
+  blank-weight : (m n : ℕ) → columnsWeight blank 0 m n ≡ 0
+  unfolding columnsWeight blank
+  blank-weight m n = omega (arith, sum-const (λ x. sum (λ y. 0) 0 n) 0 m 0 (λ x p q. omega (arith, sum-const (λ y. 0) 0 n 0 (λ y u v. refl))))
 
   -- marks the two cells beside the edge in row y
   gate : ℕ → Cell → ℕ
-  gate y = at (record { x = c; y = y }) 1 (at (record { x = c + 1; y = y }) 1 none)
+  gate y = put (record { x = c; y = y }) 1 (put (record { x = c + 1; y = y }) 1 blank)
 
   gate-left : (y : ℕ) (d : Cell) → c ≡ d .x → y ≡ d .y → gate y d ≡ 1
   unfolding gate
-  gate-left y d p q = at-here _ 1 _ d (cell-eq p q)
+  gate-left y d p q = put-here _ 1 _ d (cell-eq p q)
 
   gate-right : (y : ℕ) (d : Cell) → c + 1 ≡ d .x → y ≡ d .y → gate y d ≡ 1
   unfolding gate
-  gate-right y d p q = at-there _ 1 _ d (ne-x (omega arith)) ∙ at-here _ 1 none d (cell-eq p q)
+  gate-right y d p q = put-there _ 1 _ d (ne-x (omega arith)) ∙ put-here _ 1 blank d (cell-eq p q)
 
   gate-bound : (y : ℕ) (d : Cell) → gate y d ≤ 1
-  unfolding gate none
-  gate-bound y d = at-bound _ 1 _ d 1 (omega arith) (at-bound _ 1 none d 1 (omega arith) (omega arith))
+  unfolding gate blank
+  gate-bound y d = put-bound _ 1 _ d 1 (omega arith) (put-bound _ 1 blank d 1 (omega arith) (omega arith))
 
   -- a list without repeats passes through a gate once
   gate-weight : (y m n : ℕ) {l : List Cell} → 1 ≤ c → c + 1 ≤ m → 1 ≤ y → y ≤ n → Once l → All (InColumns 0 m n) l → weight (gate y) l ≤ 2
@@ -102,7 +94,7 @@ module _ (c : ℕ) where
   gate-weight y m n p q u v o r =
       let a : Cell = record { x = c; y = y } in
       let b : Cell = record { x = c + 1; y = y } in
-      omega (arith, pigeon (at a 1 (at b 1 none)) 0 m n o r, at-weight a 1 (at b 1 none) 0 m n (omega arith), at-weight b 1 none 0 m n (omega arith), none-weight m n)
+      omega (arith, pigeon (put a 1 (put b 1 blank)) 0 m n o r, put-weight a 1 (put b 1 blank) 0 m n (omega arith), put-weight b 1 blank 0 m n (omega arith), blank-weight m n)
 
   -- ---- the weights
 
