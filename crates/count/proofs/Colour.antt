@@ -17,7 +17,7 @@ use Rattle.grid.specs.Track.{Walk, All, Once}
 use Rattle.grid.proofs.Facts.{beside-is}
 use Rattle.grid.proofs.Track.{all-map}
 use Rattle.count.specs.Count.{area}
-use Rattle.count.specs.Longest.{weight, sum, columnsWeight, panelWeight, dark, light, Closed}
+use Rattle.count.specs.Longest.{weight, sum, cellAt, columnsWeight, panelWeight, dark, light, Closed}
 use Rattle.count.proofs.Pigeon.{sum-both, pigeon, in-columns, at-most-area}
 
 -- ---- the colour of a cell as a number
@@ -63,7 +63,7 @@ even-length {s} {t} {l} w = go (length l) (dark s) (dark t) _ _ _ (dark-light s)
 
 -- ---- on a panel
 
-column-dark : (x n : ℕ) → sum (λ y. dark (record { x = x; y = y })) 0 n ≡ (n + (x + 1) % 2) / 2
+column-dark : (x n : ℕ) → sum (λ y. dark (cellAt x y)) 0 n ≡ (n + (x + 1) % 2) / 2
 unfolding dark
 column-dark x zero = omega arith
 column-dark x (suc n) = omega (arith, column-dark x n)
@@ -97,7 +97,7 @@ panel-dark p = columns-dark (p .width) (p .height)
 -- the rest of its cells are white
 pub panel-colours : (p : Panel) → panelWeight dark p + panelWeight light p ≡ area p
 unfolding columnsWeight
-panel-colours p = sum-both _ _ 0 (p .width) (p .height) (λ x. sum-both _ _ 0 (p .height) 1 (λ y. dark-light (record { x = x; y = y })) ∙ mul-one (p .height))
+panel-colours p = sum-both _ _ 0 (p .width) (p .height) (λ x. sum-both _ _ 0 (p .height) 1 (λ y. dark-light (cellAt x y)) ∙ mul-one (p .height))
 
 -- a list without repeats on a panel has no more black cells than the panel
 pub at-most-dark : (p : Panel) {l : List Cell} → Once l → All (OnPanel p) l → weight dark l ≤ area p / 2

@@ -16,7 +16,7 @@ use Rattle.grid.specs.Track.{All, Once}
 use Rattle.grid.proofs.Facts.{eq-same, ne-same, ne-x, ne-y}
 use Rattle.grid.proofs.Track.{all-map}
 use Rattle.count.specs.Count.{area}
-use Rattle.count.specs.Longest.{weight, sum, columnsWeight}
+use Rattle.count.specs.Longest.{weight, sum, cellAt, columnsWeight}
 
 -- ---- sums
 
@@ -81,12 +81,12 @@ put-bound c e w d k p q = go (sameCell c d)
 pub put-weight : (c : Cell) (e : ℕ) (w : Cell → ℕ) (a k n : ℕ) → InColumns a k n c → columnsWeight (put c e w) a k n + w c ≡ columnsWeight w a k n + e
 unfolding columnsWeight
 put-weight c e w a k n o =
-    let column : (Cell → ℕ) → ℕ → ℕ = λ v x. sum (λ y. v (record { x = x; y = y })) 0 n in
+    let column : (Cell → ℕ) → ℕ → ℕ = λ v x. sum (λ y. v (cellAt x y)) 0 n in
     let v : Cell → ℕ = put c e w in
     omega (
       arith,
-      sum-change (column w) (column v) a k (c .x) (o .left) (o .right) (λ x h. sum-same _ _ 0 n (λ y p q. put-there c e w (record { x = x; y = y }) (ne-x h))),
-      sum-change (λ y. w (record { x = c .x; y = y })) (λ y. v (record { x = c .x; y = y })) 0 n (c .y) (o .top) (omega arith) (λ y h. put-there c e w (record { x = c .x; y = y }) (ne-y h)),
+      sum-change (column w) (column v) a k (c .x) (o .left) (o .right) (λ x h. sum-same _ _ 0 n (λ y p q. put-there c e w (cellAt x y) (ne-x h))),
+      sum-change (λ y. w (cellAt (c .x) y)) (λ y. v (cellAt (c .x) y)) 0 n (c .y) (o .top) (omega arith) (λ y h. put-there c e w (cellAt (c .x) y) (ne-y h)),
       put-here c e w c refl,
     )
 

@@ -28,9 +28,12 @@ abbrev pub sum : (ℕ → ℕ) → ℕ → ℕ → ℕ
 sum f a zero = 0
 sum f a (suc k) = f (a + suc k) + sum f a k
 
+abbrev pub cellAt : ℕ → ℕ → Cell
+cellAt x y = record { x = x; y = y }
+
 -- the weights of the cells in the columns a + 1 to a + k of n rows, added up
 unfoldable pub columnsWeight : (Cell → ℕ) → ℕ → ℕ → ℕ → ℕ
-columnsWeight w a k n = sum (λ x. sum (λ y. w (record { x = x; y = y })) 0 n) a k
+columnsWeight w a k n = sum (λ x. sum (λ y. w (cellAt x y)) 0 n) a k
 
 -- the weights of all cells of a panel, added up
 abbrev pub panelWeight : (Cell → ℕ) → Panel → ℕ
