@@ -3,32 +3,39 @@
 use Prim.Native.Nat.{ℕ, zero, suc, _+_, _-_, _*_, _/_, _%_, _≤_}
 use mathlib.Core.Path.{_≡_, refl, _∙_}
 use mathlib.Core.Logic.{_≢_, _↔_}
+use mathlib.Core.Bool.{Bool, true, false}
 use mathlib.Core.List.{List, [], _∷_}
 use native.Mathlib.Omega.{arith}
 use native.Mathlib.Nat.{mul-one}
 use native.Mathlib.Decide.{ℕ-discrete}
 use lib.ListN.{length}
 use borrow.Author.Tests.{eqb-true, eqb-false}
-use mathlib.Core.Bool.{true, false}
 use Rattle.grid.specs.declared.Panel.{Panel}
 use Rattle.grid.specs.declared.Cell.{Cell}
 use Rattle.grid.specs.Panel.{Neighbours, OnPanel, black}
 use Rattle.grid.specs.Track.{Walk, All, Once}
 use Rattle.grid.proofs.Facts.{beside-is}
 use Rattle.grid.proofs.Track.{all-map}
-use Rattle.count.specs.Count.{area}
+use Rattle.count.specs.Count.{area, odd}
 use Rattle.count.specs.Longest.{weight, sum, cellAt, columnsWeight, panelWeight, dark, light, Closed}
 use Rattle.count.proofs.Pigeon.{sum-both, pigeon, in-columns, at-most-area}
 
 -- ---- the colour of a cell as a number
 
-pub black-is : (c : Cell) → black c ≡ true → dark c ≡ 1
-unfolding dark
-black-is c e = eqb-true _ _ e
+abbrev pub bit : Bool → ℕ
+bit true = 1
+bit false = 0
 
-pub white-is : (c : Cell) → black c ≡ false → dark c ≡ 0
+pub odd-bit : (k : ℕ) → k % 2 ≡ bit (odd k)
+odd-bit k = go (odd k) refl
+  where
+    go : (b : Bool) → odd k ≡ b → k % 2 ≡ bit b
+    go true e = eqb-true _ _ e
+    go false e = let h : k % 2 ≢ 1 = eqb-false _ _ e in omega arith
+
+pub dark-bit : (c : Cell) → dark c ≡ bit (black c)
 unfolding dark
-white-is c e = let h : (c .x + c .y) % 2 ≢ 1 = eqb-false _ _ e in omega arith
+dark-bit c = odd-bit (c .x + c .y)
 
 pub dark-light : (c : Cell) → dark c + light c ≡ 1
 unfolding dark light

@@ -2,13 +2,13 @@
 -- with two black ends on an odd panel two fewer (one black cell more than white ones, where the panel has one fewer), and one fewer where the parity of its length is not that of mn.
 -- A track reversed or turned is a track, which gives the other names and the tall panels.
 use Prim.Native.Nat.{ℕ, _+_, _-_, _*_, _/_, _%_, _≤_, _<_, max}
-use mathlib.Core.Path.{_≡_, refl, sym, ap}
+use mathlib.Core.Path.{_≡_, refl, sym, ap, _∙_}
 use mathlib.Core.Logic.{_≢_}
 use mathlib.Core.Bool.{Bool, true, false, cond, not, _&&_, _||_}
 use mathlib.Core.List.{List, reverse, map}
 use native.Mathlib.Omega.{arith}
 use lib.ListN.{length, length-reverse, length-map}
-use lib.Dec.{ltb, eqb}
+use lib.Dec.{leb, ltb, eqb}
 use borrow.Author.Tests.{eqb-true, eqb-false, leb-true, ltb-true, ltb-false, not-true}
 use Rattle.grid.specs.declared.Panel.{Panel}
 use Rattle.grid.specs.declared.Cell.{Cell}
@@ -22,7 +22,7 @@ use Rattle.count.specs.Count.{area, odd, f1, f2, f3, c2, c0, decided, na
 use Rattle.count.specs.Longest.{NoLonger, dark, weight}
 use Rattle.count.proofs.Ends.{first-in, last-in}
 use Rattle.count.proofs.Pigeon.{InColumns, at-most-area}
-use Rattle.count.proofs.Colour.{black-is, white-is, walk-dark, at-most-dark}
+use Rattle.count.proofs.Colour.{bit, odd-bit, dark-bit, walk-dark, at-most-dark}
 use Rattle.count.proofs.Strip.{strip}
 use Rattle.count.proofs.Rows.{one-row, two-rows}
 
@@ -42,13 +42,8 @@ either false b e f g = g e
 
 -- ---- parities
 
-bit : Bool → ℕ
-bit true = 1
-bit false = 0
-
 -- neither C0 nor two black ends on an odd panel
 even-sum : (o a b : Bool) → (o && (a && b)) ≡ false → cond o (not a && not b) (cond a (not b) b) ≡ false → (bit o + (bit a + bit b)) % 2 ≡ 0
-unfolding bit
 even-sum true true true e f = absurd (omega (arith, ap bit e))
 even-sum true true false e f = refl
 even-sum true false true e f = refl
@@ -57,18 +52,6 @@ even-sum false true true e f = refl
 even-sum false true false e f = absurd (omega (arith, ap bit f))
 even-sum false false true e f = absurd (omega (arith, ap bit f))
 even-sum false false false e f = refl
-
-odd-bit : (k : ℕ) → bit (odd k) ≡ k % 2
-unfolding bit
-odd-bit k = go (odd k) refl
-  where
-    go : (b : Bool) → odd k ≡ b → bit b ≡ k % 2
-    go true e = sym (eqb-true _ _ e)
-    go false e = let h : k % 2 ≢ 1 = eqb-false _ _ e in omega arith
-
-black-bit : (c : Cell) → bit (black c) ≡ dark c
-unfolding dark
-black-bit c = odd-bit (c .x + c .y)
 
 row-two : (s : Cell) → dark s ≡ 1 → s .y ≡ 2 → s .x % 2 ≡ 1
 unfolding dark
@@ -104,11 +87,18 @@ module _ (p : Panel) (s t : Cell) (ne : s ≢ t) {l : List Cell} (r : Track p s 
   unfolding f2
   f2-bound e =
       let (n, c) = both _ _ e in
-      let bound : s .y ≢ t .y → s .x ≤ t .x → t .x ≤ s .x + 1 → length l ≤ max (s .x + t .x) (2 * p .width - (s .x + t .x) + 2) =
-      λ h i j. two-rows (p .width) h i j (r .walk) (r .once) (rows 2 (eqb-true _ _ n)) in
       either _ _ c
-      (λ x. let q : s .x ≡ t .x = eqb-true _ _ x in bound (λ y. ne (cell-eq q y)) (omega arith) (omega arith))
-      (λ x. let (q, d) = both _ _ x in let q' : s .x + 1 ≡ t .x = eqb-true _ _ q in bound (eqb-false _ _ (not-true _ d)) (omega arith) (omega arith))
+      (λ x. let q : s .x ≡ t .x = eqb-true _ _ x in bound (eqb-true _ _ n) (λ y. ne (cell-eq q y)) (omega arith) (omega arith))
+      (λ x. let (y, d) = both _ _ x in let q : s .x + 1 ≡ t .x = eqb-true _ _ y in bound (eqb-true _ _ n) (eqb-false _ _ (not-true _ d)) (omega arith) (omega arith))
+    where
+      bound : p .height ≡ 2 → s .y ≢ t .y → s .x ≤ t .x → t .x ≤ s .x + 1 → length l ≤ max (s .x + t .x) (2 * p .width - (s .x + t .x) + 2)
+      bound n h i j = two-rows (p .width) h i j (r .walk) (r .once) (rows 2 n)
+
+  -- the odd column from s on is left of t
+  f3-column : dark s ≡ 1 → (leb (s .x + 2) (t .x) || (eqb (s .x + 1) (t .x) && (eqb (s .y) 2 && eqb (t .y) 2))) ≡ true → s .x + (s .x + 1) % 2 < t .x
+  f3-column d e = either _ _ e
+      (λ y. let q : s .x + 2 ≤ t .x = leb-true _ _ y in omega arith)
+      (λ y. let (x, z) = both _ _ y in let q : s .x + 1 ≡ t .x = eqb-true _ _ x in let two : s .y ≡ 2 = eqb-true _ _ (both _ _ z .0) in omega (arith, row-two s d two))
 
   f3-bound : f3 p s t ≡ true → length l ≤ area p - 2
   unfolding f3
@@ -119,27 +109,33 @@ module _ (p : Panel) (s t : Cell) (ne : s ≢ t) {l : List Cell} (r : Track p s 
       let (wt, x) = both (not (black t)) _ e3 in
       let h : p .height ≡ 3 = eqb-true _ _ n in
       let o : p .width % 2 ≢ 1 = eqb-false _ _ (not-true _ even) in
-      let ds = black-is s bs in
-      let right : s .x + (s .x + 1) % 2 < t .x = either _ _ x
-      (λ y. let q : s .x + 2 ≤ t .x = leb-true _ _ y in omega arith)
-      (λ y. let (q, z) = both _ _ y in let j : s .x + 1 ≡ t .x = eqb-true _ _ q in let k : s .y ≡ 2 = eqb-true _ _ (both _ _ z .0) in omega (arith, row-two s ds k)) in
-      omega (arith, strip (s .x + (s .x + 1) % 2) (p .width) (omega arith) (omega arith) (omega arith) right ds (white-is t (not-true _ wt)) (r .walk) (r .once) (rows 3 h), ap (λ (k : ℕ). p .width * k) h)
+      let d : dark s ≡ 1 = dark-bit s ∙ ap bit bs in
+      omega (
+        arith,
+        strip (s .x + (s .x + 1) % 2) (p .width) (omega arith) (omega arith) (omega arith) (f3-column d x) d (dark-bit t ∙ ap bit (not-true (black t) wt)) (r .walk) (r .once) (rows 3 h),
+        ap (λ (k : ℕ). p .width * k) h,
+      )
 
-  c2-bound : c2 p s t ≡ true → length l ≤ area p - 2
-  unfolding c2
-  c2-bound e = either _ _ e (λ x. let (o, y) = both _ _ x in let (bs, bt) = both _ _ y in
-      odd-black (area p) (length l) (weight dark l) _ _ (eqb-true _ _ o) (black-is s bs) (black-is t bt) (walk-dark (r .walk)) (at-most-dark p (r .once) (r .within))) f3-bound
+  odd-bound : (odd (area p) && (black s && black t)) ≡ true → length l ≤ area p - 2
+  odd-bound e =
+      let (o, c) = both (odd (area p)) _ e in
+      let (bs, bt) = both (black s) (black t) c in
+      odd-black (area p) (length l) (weight dark l) _ _ (eqb-true _ _ o) (dark-bit s ∙ ap bit bs) (dark-bit t ∙ ap bit bt) (walk-dark (r .walk)) (at-most-dark p (r .once) (r .within))
     where
       odd-black : (a k w d e : ℕ) → a % 2 ≡ 1 → d ≡ 1 → e ≡ 1 → 2 * w + 1 ≡ k + d + e → w ≤ a / 2 → k ≤ a - 2
       odd-black a k w d e o p q h i = omega arith
 
+  c2-bound : c2 p s t ≡ true → length l ≤ area p - 2
+  unfolding c2
+  c2-bound e = either _ _ e odd-bound f3-bound
+
   rest-bound : c2 p s t ≡ false → c0 p s t ≡ false → length l ≤ area p - 1
   unfolding c2 c0
-  rest-bound e f = other-parity (area p) (length l) (weight dark l) _ _ _ (odd-bit (area p)) (black-bit s) (black-bit t)
+  rest-bound e f = other-parity (area p) (length l) (weight dark l) _ _ _ _ _ (odd-bit (area p)) (dark-bit s) (dark-bit t)
       (even-sum (odd (area p)) (black s) (black t) (or-false _ _ e) f) (walk-dark (r .walk)) fits
     where
-      other-parity : (a k w o d e : ℕ) {d' e' : ℕ} → o ≡ a % 2 → d ≡ d' → e ≡ e' → (o + (d + e)) % 2 ≡ 0 → 2 * w + 1 ≡ k + d' + e' → k ≤ a → k ≤ a - 1
-      other-parity a k w o d e p q r h i j = omega arith
+      other-parity : (a k w o d e d' e' : ℕ) → a % 2 ≡ o → d ≡ d' → e ≡ e' → (o + (d' + e')) % 2 ≡ 0 → 2 * w + 1 ≡ k + d + e → k ≤ a → k ≤ a - 1
+      other-parity a k w o d e d' e' p q r h i j = omega arith
 
 -- ---- the theorem
 

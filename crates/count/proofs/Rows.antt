@@ -16,9 +16,12 @@ use Rattle.grid.proofs.Track.{all-map, all-both}
 use Rattle.count.proofs.Ends.{first-in, last-in}
 use Rattle.count.proofs.Pigeon.{InColumns, at-most-columns}
 
--- a property that each step keeps, unless it comes to s or leaves t, holds along a walk to t that has no s in it
-stays : {P R : Cell → Type 0} {s u t : Cell} {l : List Cell} → ((a b : Cell) → R a → R b → s ≢ a → s ≢ b → a ≢ t → Neighbours a b → P a → P b)
-    → Walk u t l → Once l → All R l → All (λ d. s ≢ d) l → P u → All P l
+-- a step that neither leaves s, nor comes to s, nor leaves t keeps the property P
+abbrev Keeps : (R P : Cell → Type 0) → Cell → Cell → Type 0
+Keeps R P s t = (a b : Cell) → R a → R b → s ≢ a → s ≢ b → a ≢ t → Neighbours a b → P a → P b
+
+-- so P holds along a walk to t that has no s in it
+stays : {R P : Cell → Type 0} {s u t : Cell} {l : List Cell} → Keeps R P s t → Walk u t l → Once l → All R l → All (λ d. s ≢ d) l → P u → All P l
 stays keep Walk.end o r h p = All.more p All.none
 stays keep (Walk.step {a = a} {b = b} n w) (Once.more g o) (All.more r q) (All.more i h) p =
     All.more p (stays keep w o q h (keep a b r (first-in w q) i (first-in w h) (last-in w g) n p))
@@ -63,18 +66,18 @@ one-row m {s} {t} h (Walk.step {b = b} {l = l} n w) (Once.more g o) (All.more r 
   | yes p ↦ omega (
     arith,
     numbered (λ c. c .x) (row-inj m) (s .x) (t .x - s .x) o q (all-map (λ c x. (x .0, omega arith))
-        (stays {P = λ c. (s .x < c .x) × (c .x ≤ t .x)} right w o q g (omega (arith, row-step m s b r (first-in w q) n)))),
+        (stays right w o q g (omega (arith, row-step m s b r (first-in w q) n)))),
   )
-  | no p ↦ let x : t .x < s .x = last-in w (stays {P = λ c. c .x < s .x} left w o q g (omega arith)) in absurd (omega arith)
+  | no p ↦ let x : t .x < s .x = last-in w (stays left w o q g (omega arith)) in absurd (omega arith)
 ]
   where
     last : InColumns 0 m 1 t
     last = last-in w q
 
-    right : (a b : Cell) → InColumns 0 m 1 a → InColumns 0 m 1 b → s ≢ a → s ≢ b → a ≢ t → Neighbours a b → (s .x < a .x) × (a .x ≤ t .x) → (s .x < b .x) × (b .x ≤ t .x)
+    right : Keeps (InColumns 0 m 1) (λ c. (s .x < c .x) × (c .x ≤ t .x)) s t
     right a b u v i j k e x = omega (arith, row-step m a b u v e, differ (λ c. c .x) (row-inj m) r v j, differ (λ c. c .x) (row-inj m) u last k)
 
-    left : (a b : Cell) → InColumns 0 m 1 a → InColumns 0 m 1 b → s ≢ a → s ≢ b → a ≢ t → Neighbours a b → a .x < s .x → b .x < s .x
+    left : Keeps (InColumns 0 m 1) (λ c. c .x < s .x) s t
     left a b u v i j k e x = omega (arith, row-step m a b u v e, differ (λ c. c .x) (row-inj m) r v j)
 
 -- ---- two rows
@@ -134,32 +137,37 @@ module _ (m : ℕ) (s t : Cell) (rs : InColumns 0 m 2 s) (rt : InColumns 0 m 2 t
   unfolding number
   number-ends = omega (arith, dist-zero (t .y), dist-other (s .y) (t .y) (rs .top) (rs .bottom) (rt .top) (rt .bottom) h)
 
-  side : (a b : Cell) → InColumns 0 m 2 a → InColumns 0 m 2 b → s ≢ a → s ≢ b → a ≢ t → Neighbours a b
+  step-side : (a b : Cell) → InColumns 0 m 2 a → InColumns 0 m 2 b → s ≢ a → s ≢ b → a ≢ t → Neighbours a b
       → (number t a ≤ number t t → number t b ≤ number t t) × (number t t ≤ number t a → number t t ≤ number t b)
-  side a b u v d e f n =
+  step-side a b u v d e f n =
       let k = number-step a b u v n in
       same-side (number t s) (number t t) (number t a) (number t b) (omega (arith, number-ends)) (omega (arith, number-ends)) (omega (arith, number-ends))
       (differ (number t) number-inj rs u d) (differ (number t) number-inj rs v e) (differ (number t) number-inj u rt f) (k .0) (k .1)
 
-  -- a track whose cells after s have a property that each step keeps
-  counted : {P : Cell → Type 0} {u : Cell} {l : List Cell} (a k : ℕ)
-      → ((a b : Cell) → InColumns 0 m 2 a → InColumns 0 m 2 b → s ≢ a → s ≢ b → a ≢ t → Neighbours a b → P a → P b)
+  left : Keeps (InColumns 0 m 2) (λ c. number t c ≤ number t t) s t
+  left a b u v d e f n = (step-side a b u v d e f n) .0
+
+  right : Keeps (InColumns 0 m 2) (λ c. number t t ≤ number t c) s t
+  right a b u v d e f n = (step-side a b u v d e f n) .1
+
+  -- s and the cells after it, all with numbers from a + 1 to a + k
+  counted : {P : Cell → Type 0} {u : Cell} {l : List Cell} (a k : ℕ) → Keeps (InColumns 0 m 2) P s t
       → ((c : Cell) → P c → (1 < number t c) × (number t c ≤ 2 * m + 1) → (a < number t c) × (number t c ≤ a + k)) → (a < number t s) × (number t s ≤ a + k)
       → Walk u t l → Once l → All (InColumns 0 m 2) l → All (λ d. s ≢ d) l → P u → length l < k
   counted a k keep range first w o q g p =
       numbered (number t) number-inj a k (Once.more g o) (All.more rs q)
       (All.more first (all-map (λ c x. range c (x .1) (number-range c (x .0))) (all-both q (stays keep w o q g p))))
 
-  either : {u : Cell} {l : List Cell} → Walk u t l → Once l → All (InColumns 0 m 2) l → All (λ d. s ≢ d) l → length l < max (s .x + t .x) (2 * m - (s .x + t .x) + 2)
-  either {u} w o q g =
+  either-side : {u : Cell} {l : List Cell} → Walk u t l → Once l → All (InColumns 0 m 2) l → All (λ d. s ≢ d) l → length l < max (s .x + t .x) (2 * m - (s .x + t .x) + 2)
+  either-side {u} w o q g =
       let e = number-ends in
       let r = number-range s rs in
       elim (decLe (number t u) (number t t)) [
-        | yes p ↦ omega (arith, counted {P = λ c. number t c ≤ number t t} 1 (s .x + t .x) (λ a b u v d e f n. (side a b u v d e f n) .0) (λ c x y. omega arith) (omega arith) w o q g p)
-        | no p ↦ omega (arith, counted {P = λ c. number t t ≤ number t c} (s .x + t .x - 1) (2 * m - (s .x + t .x) + 2) (λ a b u v d e f n. (side a b u v d e f n) .1) (λ c x y. omega arith) (omega arith) w o q g (omega arith))
+        | yes p ↦ omega (arith, counted 1 (s .x + t .x) left (λ c x y. omega arith) (omega arith) w o q g p)
+        | no p ↦ omega (arith, counted (s .x + t .x - 1) (2 * m - (s .x + t .x) + 2) right (λ c x y. omega arith) (omega arith) w o q g (omega arith))
       ]
 
 pub two-rows : (m : ℕ) {s t : Cell} {l : List Cell} → s .y ≢ t .y → s .x ≤ t .x → t .x ≤ s .x + 1 → Walk s t l → Once l → All (InColumns 0 m 2) l
     → length l ≤ max (s .x + t .x) (2 * m - (s .x + t .x) + 2)
 two-rows m h i j Walk.end o q = absurd (h refl)
-two-rows m {s} {t} h i j (Walk.step n w) (Once.more g o) (All.more r q) = either m s t r (last-in w q) h i j w o q g
+two-rows m {s} {t} h i j (Walk.step n w) (Once.more g o) (All.more r q) = either-side m s t r (last-in w q) h i j w o q g
