@@ -17,7 +17,7 @@ use Rattle.grid.specs.Track.{Walk, All, Once}
 use Rattle.grid.proofs.Facts.{beside-is}
 use Rattle.grid.proofs.Track.{all-map}
 use Rattle.count.specs.Count.{area, odd}
-use Rattle.count.specs.Longest.{weight, sum, cellAt, columnsWeight, panelWeight, dark, light, Closed}
+use Rattle.count.specs.Longest.{weight, partialSum, cellAt, columnsWeight, panelWeight, ifBlack, ifWhite, Closed}
 use Rattle.count.proofs.Pigeon.{sum-both, pigeon, in-columns, at-most-area}
 
 -- ---- the colour of a cell as a number
@@ -33,13 +33,18 @@ odd-bit k = go (odd k) refl
     go true e = eqb-true _ _ e
     go false e = let h : k % 2 ≢ 1 = eqb-false _ _ e in omega arith
 
-pub dark-bit : (c : Cell) → dark c ≡ bit (black c)
-unfolding dark
-dark-bit c = odd-bit (c .x + c .y)
+pub black-bit : (c : Cell) → ifBlack c ≡ bit (black c)
+unfolding ifBlack
+black-bit c = odd-bit (c .x + c .y)
 
-pub dark-light : (c : Cell) → dark c + light c ≡ 1
-unfolding dark light
-dark-light c = omega arith
+pub black-white : (c : Cell) → ifBlack c + ifWhite c ≡ 1
+unfolding ifBlack ifWhite
+black-white c = omega arith
+
+-- in row 2 a cell is black if its x is odd
+pub row-two : (c : Cell) → c .y ≡ 2 → ifBlack c ≡ c .x % 2
+unfolding ifBlack
+row-two c h = omega arith
 
 -- ---- along a walk
 
@@ -47,46 +52,46 @@ step-parity : (a b c d : ℕ) → (a - c) + (c - a) + ((b - d) + (d - b)) ≡ 1 
 step-parity a b c d h = omega arith
 
 -- neighbours have different colours
-pub alternate : {a b : Cell} → Neighbours a b → dark a + dark b ≡ 1
-unfolding dark
+pub alternate : {a b : Cell} → Neighbours a b → ifBlack a + ifBlack b ≡ 1
+unfolding ifBlack
 alternate {a} {b} h = step-parity (a .x) (a .y) (b .x) (b .y) (beside-is h)
 
 -- how many black cells a track has, by its length and its ends
-pub walk-dark : {s t : Cell} {l : List Cell} → Walk s t l → 2 * weight dark l + 1 ≡ length l + dark s + dark t
-walk-dark Walk.end = omega arith
-walk-dark (Walk.step n w) = omega (arith, alternate n, walk-dark w)
+pub walk-black : {s t : Cell} {l : List Cell} → Walk s t l → 2 * weight ifBlack l + 1 ≡ length l + ifBlack s + ifBlack t
+walk-black Walk.end = omega arith
+walk-black (Walk.step n w) = omega (arith, alternate n, walk-black w)
 
 -- the rest of its cells are white
-pub list-colours : (l : List Cell) → weight dark l + weight light l ≡ length l
+pub list-colours : (l : List Cell) → weight ifBlack l + weight ifWhite l ≡ length l
 list-colours [] = refl
-list-colours (c ∷ l) = omega (arith, dark-light c, list-colours l)
+list-colours (c ∷ l) = omega (arith, black-white c, list-colours l)
 
 -- the number of cells is even exactly if the ends differ in colour
-pub even-length : {s t : Cell} {l : List Cell} → Walk s t l → (length l % 2 ≡ 0) ↔ (dark s ≢ dark t)
-even-length {s} {t} {l} w = go (length l) (dark s) (dark t) _ _ _ (dark-light s) (dark-light t) (walk-dark w)
+pub even-length : {s t : Cell} {l : List Cell} → Walk s t l → (length l % 2 ≡ 0) ↔ (ifBlack s ≢ ifBlack t)
+even-length {s} {t} {l} w = go (length l) (ifBlack s) (ifBlack t) _ _ _ (black-white s) (black-white t) (walk-black w)
   where
     go : (k a b c d e : ℕ) → a + c ≡ 1 → b + d ≡ 1 → 2 * e + 1 ≡ k + a + b → (k % 2 ≡ 0) ↔ (a ≢ b)
     go k a b c d e p q r = omega arith
 
 -- ---- on a panel
 
-column-dark : (x n : ℕ) → sum (λ y. dark (cellAt x y)) 0 n ≡ (n + (x + 1) % 2) / 2
-unfolding dark
-column-dark x zero = omega arith
-column-dark x (suc n) = omega (arith, column-dark x n)
+column-black : (x n : ℕ) → partialSum (λ y. ifBlack (cellAt x y)) 0 n ≡ (n + (x + 1) % 2) / 2
+unfolding ifBlack
+column-black x zero = omega arith
+column-black x (suc n) = omega (arith, column-black x n)
 
-even-rows : (m h : ℕ) → columnsWeight dark 0 m (2 * h) ≡ m * h
+even-rows : (m h : ℕ) → columnsWeight ifBlack 0 m (2 * h) ≡ m * h
 unfolding columnsWeight
 even-rows zero h = omega arith
-even-rows (suc m) h = omega (arith, column-dark (0 + suc m) (2 * h), even-rows m h)
+even-rows (suc m) h = omega (arith, column-black (0 + suc m) (2 * h), even-rows m h)
 
-odd-rows : (m h : ℕ) → columnsWeight dark 0 m (2 * h + 1) ≡ m * h + m / 2
+odd-rows : (m h : ℕ) → columnsWeight ifBlack 0 m (2 * h + 1) ≡ m * h + m / 2
 unfolding columnsWeight
 odd-rows zero h = omega arith
-odd-rows (suc m) h = omega (arith, column-dark (0 + suc m) (2 * h + 1), odd-rows m h)
+odd-rows (suc m) h = omega (arith, column-black (0 + suc m) (2 * h + 1), odd-rows m h)
 
-pub columns-dark : (m n : ℕ) → columnsWeight dark 0 m n ≡ m * n / 2
-columns-dark m n = elim (ℕ-discrete (n % 2) 0) [
+pub columns-black : (m n : ℕ) → columnsWeight ifBlack 0 m n ≡ m * n / 2
+columns-black m n = elim (ℕ-discrete (n % 2) 0) [
   | yes e ↦ let h : n ≡ 2 * (n / 2) = omega arith in rw h (even-rows m (n / 2) ∙ even-half m (n / 2))
   | no e ↦ let h : n ≡ 2 * (n / 2) + 1 = omega arith in rw h (odd-rows m (n / 2) ∙ odd-half m (n / 2))
 ]
@@ -98,17 +103,17 @@ columns-dark m n = elim (ℕ-discrete (n % 2) 0) [
     odd-half m h = omega arith
 
 -- how many black cells a panel has
-pub panel-dark : (p : Panel) → panelWeight dark p ≡ area p / 2
-panel-dark p = columns-dark (p .width) (p .height)
+pub panel-black : (p : Panel) → panelWeight ifBlack p ≡ area p / 2
+panel-black p = columns-black (p .width) (p .height)
 
 -- the rest of its cells are white
-pub panel-colours : (p : Panel) → panelWeight dark p + panelWeight light p ≡ area p
+pub panel-colours : (p : Panel) → panelWeight ifBlack p + panelWeight ifWhite p ≡ area p
 unfolding columnsWeight
-panel-colours p = sum-both _ _ 0 (p .width) (p .height) (λ x. sum-both _ _ 0 (p .height) 1 (λ y. dark-light (cellAt x y)) ∙ mul-one (p .height))
+panel-colours p = sum-both _ _ 0 (p .width) (p .height) (λ x. sum-both _ _ 0 (p .height) 1 (λ y. black-white (cellAt x y)) ∙ mul-one (p .height))
 
 -- a list without repeats on a panel has no more black cells than the panel
-pub at-most-dark : (p : Panel) {l : List Cell} → Once l → All (OnPanel p) l → weight dark l ≤ area p / 2
-at-most-dark p o q = omega (arith, pigeon dark 0 (p .width) (p .height) o (all-map (λ c. in-columns) q), panel-dark p)
+pub at-most-black : (p : Panel) {l : List Cell} → Once l → All (OnPanel p) l → weight ifBlack l ≤ area p / 2
+at-most-black p o q = omega (arith, pigeon ifBlack 0 (p .width) (p .height) o (all-map (λ c. in-columns) q), panel-black p)
 
 -- ---- closed tracks
 

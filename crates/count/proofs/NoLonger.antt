@@ -19,10 +19,10 @@ use Rattle.grid.proofs.Track.{all-map, backwards}
 use Rattle.grid.proofs.Moves.{turning, moved}
 use Rattle.count.specs.declared.ClassCount.{ClassCount}
 use Rattle.count.specs.Count.{area, odd, f1, f2, f3, c2, c0, decided, named, classCount, count}
-use Rattle.count.specs.Longest.{NoLonger, dark, weight}
+use Rattle.count.specs.Longest.{NoLonger, ifBlack, weight}
 use Rattle.count.proofs.Ends.{first-in, last-in}
 use Rattle.count.proofs.Pigeon.{InColumns, at-most-area}
-use Rattle.count.proofs.Colour.{bit, odd-bit, dark-bit, walk-dark, at-most-dark}
+use Rattle.count.proofs.Colour.{bit, row-two, odd-bit, black-bit, walk-black, at-most-black}
 use Rattle.count.proofs.Strip.{strip}
 use Rattle.count.proofs.Rows.{one-row, two-rows}
 
@@ -52,10 +52,6 @@ even-sum false true true e f = refl
 even-sum false true false e f = absurd (omega (arith, ap bit f))
 even-sum false false true e f = absurd (omega (arith, ap bit f))
 even-sum false false false e f = refl
-
-row-two : (s : Cell) → dark s ≡ 1 → s .y ≡ 2 → s .x % 2 ≡ 1
-unfolding dark
-row-two s d h = omega arith
 
 or-false : (a b : Bool) → (a || b) ≡ false → a ≡ false
 or-false true b e = e
@@ -95,10 +91,10 @@ module _ (p : Panel) (s t : Cell) (ne : s ≢ t) {l : List Cell} (r : Track p s 
       bound n h i j = two-rows (p .width) h i j (r .walk) (r .once) (rows 2 n)
 
   -- the odd column from s on is left of t
-  f3-column : dark s ≡ 1 → (leb (s .x + 2) (t .x) || (eqb (s .x + 1) (t .x) && (eqb (s .y) 2 && eqb (t .y) 2))) ≡ true → s .x + (s .x + 1) % 2 < t .x
+  f3-column : ifBlack s ≡ 1 → (leb (s .x + 2) (t .x) || (eqb (s .x + 1) (t .x) && (eqb (s .y) 2 && eqb (t .y) 2))) ≡ true → s .x + (s .x + 1) % 2 < t .x
   f3-column d e = either _ _ e
       (λ y. let q : s .x + 2 ≤ t .x = leb-true _ _ y in omega arith)
-      (λ y. let (x, z) = both _ _ y in let q : s .x + 1 ≡ t .x = eqb-true _ _ x in let two : s .y ≡ 2 = eqb-true _ _ (both _ _ z .0) in omega (arith, row-two s d two))
+      (λ y. let (x, z) = both _ _ y in let q : s .x + 1 ≡ t .x = eqb-true _ _ x in let two : s .y ≡ 2 = eqb-true _ _ (both _ _ z .0) in omega (arith, row-two s two, d))
 
   f3-bound : f3 p s t ≡ true → length l ≤ area p - 2
   unfolding f3
@@ -109,10 +105,10 @@ module _ (p : Panel) (s t : Cell) (ne : s ≢ t) {l : List Cell} (r : Track p s 
       let (wt, x) = both (not (black t)) _ e3 in
       let h : p .height ≡ 3 = eqb-true _ _ n in
       let o : p .width % 2 ≢ 1 = eqb-false _ _ (not-true _ even) in
-      let d : dark s ≡ 1 = dark-bit s ∙ ap bit bs in
+      let d : ifBlack s ≡ 1 = black-bit s ∙ ap bit bs in
       omega (
         arith,
-        strip (s .x + (s .x + 1) % 2) (p .width) (omega arith) (omega arith) (omega arith) (f3-column d x) d (dark-bit t ∙ ap bit (not-true (black t) wt)) (r .walk) (r .once) (rows 3 h),
+        strip (s .x + (s .x + 1) % 2) (p .width) (omega arith) (omega arith) (omega arith) (f3-column d x) d (black-bit t ∙ ap bit (not-true (black t) wt)) (r .walk) (r .once) (rows 3 h),
         ap (λ (k : ℕ). p .width * k) h,
       )
 
@@ -120,7 +116,7 @@ module _ (p : Panel) (s t : Cell) (ne : s ≢ t) {l : List Cell} (r : Track p s 
   odd-bound e =
       let (o, c) = both (odd (area p)) _ e in
       let (bs, bt) = both (black s) (black t) c in
-      odd-black (area p) (length l) (weight dark l) _ _ (eqb-true _ _ o) (dark-bit s ∙ ap bit bs) (dark-bit t ∙ ap bit bt) (walk-dark (r .walk)) (at-most-dark p (r .once) (r .within))
+      odd-black (area p) (length l) (weight ifBlack l) _ _ (eqb-true _ _ o) (black-bit s ∙ ap bit bs) (black-bit t ∙ ap bit bt) (walk-black (r .walk)) (at-most-black p (r .once) (r .within))
     where
       odd-black : (a k w d e : ℕ) → a % 2 ≡ 1 → d ≡ 1 → e ≡ 1 → 2 * w + 1 ≡ k + d + e → w ≤ a / 2 → k ≤ a - 2
       odd-black a k w d e o p q h i = omega arith
@@ -131,8 +127,8 @@ module _ (p : Panel) (s t : Cell) (ne : s ≢ t) {l : List Cell} (r : Track p s 
 
   rest-bound : c2 p s t ≡ false → c0 p s t ≡ false → length l ≤ area p - 1
   unfolding c2 c0
-  rest-bound e f = other-parity (area p) (length l) (weight dark l) _ _ _ _ _ (odd-bit (area p)) (dark-bit s) (dark-bit t)
-      (even-sum (odd (area p)) (black s) (black t) (or-false _ _ e) f) (walk-dark (r .walk)) fits
+  rest-bound e f = other-parity (area p) (length l) (weight ifBlack l) _ _ _ _ _ (odd-bit (area p)) (black-bit s) (black-bit t)
+      (even-sum (odd (area p)) (black s) (black t) (or-false _ _ e) f) (walk-black (r .walk)) fits
     where
       other-parity : (a k w o d e d' e' : ℕ) → a % 2 ≡ o → d ≡ d' → e ≡ e' → (o + (d' + e')) % 2 ≡ 0 → 2 * w + 1 ≡ k + d + e → k ≤ a → k ≤ a - 1
       other-parity a k w o d e d' e' p q r h i j = omega arith

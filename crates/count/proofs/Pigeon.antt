@@ -16,30 +16,30 @@ use Rattle.grid.specs.Track.{All, Once}
 use Rattle.grid.proofs.Facts.{eq-same, ne-same, ne-x, ne-y}
 use Rattle.grid.proofs.Track.{all-map}
 use Rattle.count.specs.Count.{area}
-use Rattle.count.specs.Longest.{weight, sum, cellAt, columnsWeight}
+use Rattle.count.specs.Longest.{weight, partialSum, cellAt, columnsWeight}
 
 -- ---- sums
 
-pub sum-linear : (f g : ℕ → ℕ) (a k d e : ℕ) → ((i : ℕ) → a < i → i ≤ a + k → f i ≡ d * g i + e) → sum f a k ≡ d * sum g a k + k * e
+pub sum-linear : (f g : ℕ → ℕ) (a k d e : ℕ) → ((i : ℕ) → a < i → i ≤ a + k → f i ≡ d * g i + e) → partialSum f a k ≡ d * partialSum g a k + k * e
 sum-linear f g a zero d e h = omega arith
 sum-linear f g a (suc k) d e h = omega (arith, h (a + suc k) (omega arith) (omega arith), sum-linear f g a k d e (λ i p q. h i p (omega arith)))
 
-sum-same : (f g : ℕ → ℕ) (a k : ℕ) → ((i : ℕ) → a < i → i ≤ a + k → f i ≡ g i) → sum f a k ≡ sum g a k
+sum-same : (f g : ℕ → ℕ) (a k : ℕ) → ((i : ℕ) → a < i → i ≤ a + k → f i ≡ g i) → partialSum f a k ≡ partialSum g a k
 sum-same f g a k h = omega (arith, sum-linear f g a k 1 0 (λ i p q. omega (arith, h i p q)))
 
-pub sum-const : (f : ℕ → ℕ) (a k e : ℕ) → ((i : ℕ) → a < i → i ≤ a + k → f i ≡ e) → sum f a k ≡ k * e
+pub sum-const : (f : ℕ → ℕ) (a k e : ℕ) → ((i : ℕ) → a < i → i ≤ a + k → f i ≡ e) → partialSum f a k ≡ k * e
 sum-const f a k e h = omega (arith, sum-linear f (λ i. 0) a k 0 e (λ i p q. omega (arith, h i p q)))
 
-pub sum-both : (f g : ℕ → ℕ) (a k e : ℕ) → ((i : ℕ) → f i + g i ≡ e) → sum f a k + sum g a k ≡ k * e
+pub sum-both : (f g : ℕ → ℕ) (a k e : ℕ) → ((i : ℕ) → f i + g i ≡ e) → partialSum f a k + partialSum g a k ≡ k * e
 sum-both f g a zero e h = omega arith
 sum-both f g a (suc k) e h = omega (arith, h (a + suc k), sum-both f g a k e h)
 
-pub sum-split : (f : ℕ → ℕ) (a k j : ℕ) → sum f a (k + j) ≡ sum f a k + sum f (a + k) j
+pub sum-split : (f : ℕ → ℕ) (a k j : ℕ) → partialSum f a (k + j) ≡ partialSum f a k + partialSum f (a + k) j
 sum-split f a k zero = rw (add-zero k) (omega arith)
 sum-split f a k (suc j) = rw (add-suc k j) (omega (arith, sum-split f a k j, ap f (add-assoc a k (suc j)), ap f (ap (λ (i : ℕ). a + i) (add-suc k j))))
 
 -- two functions that are equal but at one place: their sums differ as they do there
-sum-change : (f g : ℕ → ℕ) (a k i : ℕ) → a < i → i ≤ a + k → ((j : ℕ) → i ≢ j → g j ≡ f j) → sum g a k + f i ≡ sum f a k + g i
+sum-change : (f g : ℕ → ℕ) (a k i : ℕ) → a < i → i ≤ a + k → ((j : ℕ) → i ≢ j → g j ≡ f j) → partialSum g a k + f i ≡ partialSum f a k + g i
 sum-change f g a zero i p q same = absurd (omega arith)
 sum-change f g a (suc k) i p q same = elim (ℕ-discrete i (a + suc k)) [
   | yes t ↦ omega (arith, ap g t, ap f t, sum-same g f a k (λ j u v. same j (omega arith)))
@@ -81,7 +81,7 @@ put-bound c e w d k p q = go (sameCell c d)
 pub put-weight : (c : Cell) (e : ℕ) (w : Cell → ℕ) (a k n : ℕ) → InColumns a k n c → columnsWeight (put c e w) a k n + w c ≡ columnsWeight w a k n + e
 unfolding columnsWeight
 put-weight c e w a k n o =
-    let column : (Cell → ℕ) → ℕ → ℕ = λ v x. sum (λ y. v (cellAt x y)) 0 n in
+    let column : (Cell → ℕ) → ℕ → ℕ = λ v x. partialSum (λ y. v (cellAt x y)) 0 n in
     let v : Cell → ℕ = put c e w in
     omega (
       arith,

@@ -1,6 +1,6 @@
--- Three rows, m even, s black, t white (F3). Let c be odd with s's x ≤ c < t's x. Weigh a black cell of the columns 1 to c with 2, a white one with 0, a cell right of them with 1:
--- the panel weighs mn − 1. The two cells of a step weigh 2 together, or at least 1 if it crosses from column c to c + 1 in row 1 or 3, where column c is white.
--- No cell stands twice, so a row is crossed at most once: 2 * length + 3 ≤ 2 * (mn − 1) + 2 + 2, and the length is even as mn is.
+-- Three rows, m even, s black, t white (F3). Let c be odd with s's x ≤ c < t's x. A black cell of the columns 1 to c weighs 2, a white one 0, a cell right of them 1 (`side`): the panel weighs mn − 1.
+-- The two cells of a step weigh 2 together, but 1 if it crosses from column c to c + 1 in row 1 or 3 (`gate`), where column c is white.
+-- No cell stands twice, so each gate is passed at most once: 2 * length + 3 ≤ 2 * (mn − 1) + 2 + 2 (`along`), and the length is even as mn is.
 use Prim.Native.Nat.{ℕ, suc, _+_, _-_, _*_, _/_, _%_, _≤_, _<_}
 use mathlib.Core.Path.{_≡_, refl, sym, ap, _∙_, subst}
 use mathlib.Core.Bool.{Bool, cond}
@@ -15,10 +15,10 @@ use Rattle.grid.specs.declared.Cell.{Cell}
 use Rattle.grid.specs.Panel.{Neighbours}
 use Rattle.grid.specs.Track.{Walk, All, Once}
 use Rattle.grid.proofs.Facts.{beside-is, cell-eq, ne-x, beside-sym}
-use Rattle.count.specs.Longest.{weight, sum, cellAt, columnsWeight, dark}
+use Rattle.count.specs.Longest.{weight, partialSum, cellAt, columnsWeight, ifBlack}
 use Rattle.count.proofs.Ends.{first-in, last-in}
 use Rattle.count.proofs.Pigeon.{InColumns, sum-linear, sum-const, sum-split, put, put-here, put-there, put-bound, put-weight, pigeon}
-use Rattle.count.proofs.Colour.{alternate, even-length, columns-dark}
+use Rattle.count.proofs.Colour.{row-two, alternate, even-length, columns-black}
 
 -- ---- one lemma over the walk
 
@@ -26,15 +26,15 @@ first-weight : (e : Cell → ℕ) {s t : Cell} {l : List Cell} → Walk s t l �
 first-weight e Walk.end = omega arith
 first-weight e (Walk.step n w) = omega arith
 
--- of k cells in a row of marked ones at most k − 1 steps go from one to the next
+-- k marked cells are passed by at most k − 1 steps from one to the next: a walk's first step, then the rest
 marked : (a b k : ℕ) → a ≤ 1 → b ≤ 1 → b ≤ k → (a + b - 1) + (k - 1) ≤ a + k - 1
 marked a b k p q r = omega arith
 
--- two cells weigh 2 or more together, but 1 less if both are marked by e, and 1 less if both are marked by f
+-- two cells weigh 2 or more together, or 1 less if both are marked by e, or by f
 abbrev Heavy : (w e f : Cell → ℕ) → Cell → Cell → Type 0
 Heavy w e f a b = 2 ≤ w a + w b + ((e a + e b - 1) + (f a + f b - 1))
 
--- the cells of a walk whose steps are heavy
+-- a walk of such steps: its length, by its weight and its marked cells
 module _ {R : Cell → Type 0} (w e f : Cell → ℕ) (e1 : (c : Cell) → e c ≤ 1) (f1 : (c : Cell) → f c ≤ 1)
     (heavy : (a b : Cell) → R a → R b → Neighbours a b → Heavy w e f a b) where
   along : {s t : Cell} {l : List Cell} → Walk s t l → All R l → 2 * length l + w s + w t ≤ 2 * weight w l + 2 + ((weight e l - 1) + (weight f l - 1))
@@ -47,10 +47,6 @@ module _ {R : Cell → Type 0} (w e f : Cell → ℕ) (e1 : (c : Cell) → e c �
       go k x y z u p q p' q' p'' q'' h i j m = omega arith
 
 -- ---- cells of three rows
-
-row-two : (a : Cell) → a .x % 2 ≡ 1 → a .y ≡ 2 → dark a ≡ 1
-unfolding dark
-row-two a p h = omega arith
 
 odd-half : (c : ℕ) → c % 2 ≡ 1 → 2 * (c * 3 / 2) + 1 ≡ c * 3
 odd-half c o = let e : c ≡ 2 * (c / 2) + 1 = omega arith in rw e (go (c / 2))
@@ -70,7 +66,7 @@ module _ (c : ℕ) where
 
   blank-weight : (m n : ℕ) → columnsWeight blank 0 m n ≡ 0
   unfolding columnsWeight blank
-  blank-weight m n = omega (arith, sum-const (λ x. sum (λ y. 0) 0 n) 0 m 0 (λ x p q. omega (arith, sum-const (λ y. 0) 0 n 0 (λ y u v. refl))))
+  blank-weight m n = omega (arith, sum-const (λ x. partialSum (λ y. 0) 0 n) 0 m 0 (λ x p q. omega (arith, sum-const (λ y. 0) 0 n 0 (λ y u v. refl))))
 
   -- marks the two cells beside the edge in row y
   gate : ℕ → Cell → ℕ
@@ -88,7 +84,7 @@ module _ (c : ℕ) where
   unfolding gate blank
   gate-bound y d = put-bound _ 1 _ d 1 (omega arith) (put-bound _ 1 blank d 1 (omega arith) (omega arith))
 
-  -- a list without repeats passes through a gate once
+  -- a list without repeats has at most the two cells
   gate-weight : (y m n : ℕ) {l : List Cell} → 1 ≤ c → c + 1 ≤ m → 1 ≤ y → y ≤ n → Once l → All (InColumns 0 m n) l → weight (gate y) l ≤ 2
   unfolding gate
   gate-weight y m n p q u v o r =
@@ -99,26 +95,26 @@ module _ (c : ℕ) where
   -- ---- the weights
 
   side : Cell → ℕ
-  side d = cond (leb (d .x) c) (2 * dark d) 1
+  side d = cond (leb (d .x) c) (2 * ifBlack d) 1
 
-  side-in : (d : Cell) → d .x ≤ c → side d ≡ 2 * dark d
+  side-in : (d : Cell) → d .x ≤ c → side d ≡ 2 * ifBlack d
   unfolding side
-  side-in d h = ap (λ (b : Bool). cond b (2 * dark d) 1) (le-leb _ _ h)
+  side-in d h = ap (λ (b : Bool). cond b (2 * ifBlack d) 1) (le-leb _ _ h)
 
   side-out : (d : Cell) → c < d .x → side d ≡ 1
   unfolding side
-  side-out d h = ap (λ (b : Bool). cond b (2 * dark d) 1) (lt-leb _ _ h)
+  side-out d h = ap (λ (b : Bool). cond b (2 * ifBlack d) 1) (lt-leb _ _ h)
 
   side-total : (r : ℕ) → c % 2 ≡ 1 → columnsWeight side 0 (c + r) 3 + 1 ≡ (c + r) * 3
   unfolding columnsWeight
   side-total r o =
-      let column : (ℕ → ℕ) = λ x. sum (λ y. side (cellAt x y)) 0 3 in
+      let column : (ℕ → ℕ) = λ x. partialSum (λ y. side (cellAt x y)) 0 3 in
       omega (
         arith,
         sum-split column 0 c r,
-        sum-linear column (λ x. sum (λ y. dark (cellAt x y)) 0 3) 0 c 2 0 (λ x p q. sum-linear (λ y. side (cellAt x y)) (λ y. dark (cellAt x y)) 0 3 2 0 (λ y u v. omega (arith, side-in (cellAt x y) (omega arith)))),
+        sum-linear column (λ x. partialSum (λ y. ifBlack (cellAt x y)) 0 3) 0 c 2 0 (λ x p q. sum-linear (λ y. side (cellAt x y)) (λ y. ifBlack (cellAt x y)) 0 3 2 0 (λ y u v. omega (arith, side-in (cellAt x y) (omega arith)))),
         sum-const column (0 + c) r 3 (λ x p q. sum-const _ 0 3 1 (λ y u v. side-out (cellAt x y) (omega arith))),
-        columns-dark c 3,
+        columns-black c 3,
         odd-half c o,
       )
 
@@ -128,10 +124,10 @@ module _ (c : ℕ) where
     -- a step over the edge: black in row 2, else through a gate
     crossing : (m : ℕ) (a b : Cell) → InColumns 0 m 3 a → a .x ≡ c → b .x ≡ c + 1 → a .y ≡ b .y → Heavy side (gate 1) (gate 3) a b
     crossing m a b r p q e =
-        let i : side a ≡ 2 * dark a = side-in a (omega arith) in
+        let i : side a ≡ 2 * ifBlack a = side-in a (omega arith) in
         let j : side b ≡ 1 = side-out b (omega arith) in
         elim (ℕ-discrete (a .y) 2) [
-          | yes h ↦ omega (arith, row-two a (ap (λ (i : ℕ). i % 2) p ∙ o) h)
+          | yes h ↦ omega (arith, row-two a h ∙ ap (λ (i : ℕ). i % 2) p ∙ o)
           | no h ↦ elim (ℕ-discrete (a .y) 1) [
             | yes k ↦ omega (arith, gate-left 1 a (sym p) (sym k), gate-right 1 b (sym q) (sym k ∙ e))
             | no k ↦ omega (arith, gate-left 3 a (sym p) (omega arith), gate-right 3 b (sym q) (omega arith))
@@ -151,7 +147,7 @@ module _ (c : ℕ) where
     ]
 
 -- F3: a walk without repeats from a black s in the columns 1 to c to a white t right of them leaves two cells out
-pub strip : (c m : ℕ) {s t : Cell} {l : List Cell} → c % 2 ≡ 1 → m % 2 ≡ 0 → s .x ≤ c → c < t .x → dark s ≡ 1 → dark t ≡ 0
+pub strip : (c m : ℕ) {s t : Cell} {l : List Cell} → c % 2 ≡ 1 → m % 2 ≡ 0 → s .x ≤ c → c < t .x → ifBlack s ≡ 1 → ifBlack t ≡ 0
     → Walk s t l → Once l → All (InColumns 0 m 3) l → length l + 2 ≤ m * 3
 strip c m {s} {t} {l} o e p q ds dt w u a =
     let r : InColumns 0 m 3 t = last-in w a in
@@ -167,5 +163,5 @@ strip c m {s} {t} {l} o e p q ds dt w u a =
     both-even : (k m : ℕ) → m % 2 ≡ 0 → k % 2 ≡ 0 → k < m * 3 → k + 2 ≤ m * 3
     both-even k m e f h = omega (arith, halves (k / 2) (m / 2) (omega arith))
 
-    go : (k m x y z g h i : ℕ) → m % 2 ≡ 0 → k % 2 ≡ 0 → z ≤ i → i + 1 ≡ m * 3 → g ≤ 2 → h ≤ 2 → x ≡ 2 * dark s → y ≡ 1 → 2 * k + x + y ≤ 2 * z + 2 + ((g - 1) + (h - 1)) → k + 2 ≤ m * 3
+    go : (k m x y z g h i : ℕ) → m % 2 ≡ 0 → k % 2 ≡ 0 → z ≤ i → i + 1 ≡ m * 3 → g ≤ 2 → h ≤ 2 → x ≡ 2 * ifBlack s → y ≡ 1 → 2 * k + x + y ≤ 2 * z + 2 + ((g - 1) + (h - 1)) → k + 2 ≤ m * 3
     go k m x y z g h i e f a b c d j n q = both-even k m e f (omega arith)

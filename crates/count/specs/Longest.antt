@@ -24,24 +24,24 @@ weight w [] = 0
 weight w (c ∷ l) = w c + weight w l
 
 -- f (a + 1) + f (a + 2) + … + f (a + k)
-abbrev pub sum : (ℕ → ℕ) → ℕ → ℕ → ℕ
-sum f a zero = 0
-sum f a (suc k) = f (a + suc k) + sum f a k
+abbrev pub partialSum : (ℕ → ℕ) → ℕ → ℕ → ℕ
+partialSum f a zero = 0
+partialSum f a (suc k) = f (a + suc k) + partialSum f a k
 
 abbrev pub cellAt : ℕ → ℕ → Cell
 cellAt x y = record { x = x; y = y }
 
 -- the weights of the cells in the columns a + 1 to a + k of n rows, added up
 unfoldable pub columnsWeight : (Cell → ℕ) → ℕ → ℕ → ℕ → ℕ
-columnsWeight w a k n = sum (λ x. sum (λ y. w (cellAt x y)) 0 n) a k
+columnsWeight w a k n = partialSum (λ x. partialSum (λ y. w (cellAt x y)) 0 n) a k
 
 -- the weights of all cells of a panel, added up
 abbrev pub panelWeight : (Cell → ℕ) → Panel → ℕ
 panelWeight w p = columnsWeight w 0 (p .width) (p .height)
 
 -- 1 for a black cell, 0 for a white one; and the other way round
-unfoldable pub dark : Cell → ℕ
-dark c = (c .x + c .y) % 2
+unfoldable pub ifBlack : Cell → ℕ
+ifBlack c = (c .x + c .y) % 2
 
-unfoldable pub light : Cell → ℕ
-light c = (c .x + c .y + 1) % 2
+unfoldable pub ifWhite : Cell → ℕ
+ifWhite c = (c .x + c .y + 1) % 2
