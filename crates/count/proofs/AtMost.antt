@@ -1,4 +1,4 @@
--- No track has more cells than the count. Class by class, for terminals named by x: one row, two rows and F3 have their own files; a track has at most mn cells,
+-- A track has at most the cells of the count. Class by class, for terminals named by x: one row, two rows and F3 have their own files; a track has at most mn cells,
 -- with two black ends on an odd panel two fewer (one black cell more than white ones, where the panel has one fewer), and one fewer where the parity of its length is not that of mn.
 -- A track reversed or turned is a track, which gives the other names and the tall panels.
 use Prim.Native.Nat.{ℕ, _+_, _-_, _*_, _/_, _%_, _≤_, _<_, max}
