@@ -1,0 +1,20 @@
+use borrow.Author.Needs.{needs}
+use Rattle.judge.proofs.gap.Statement.{statement}
+use Rattle.judge.proofs.gap.Tie as tie
+use Rattle.judge.proofs.gap.Reads as reads
+use Rattle.judge.proofs.gap.Lts as lts
+
+-- src/lib.rt:77:16
+sub-result : tie.Need-sub-result
+sub-result c = search needs
+
+-- src/lib.rt:74:1
+returns : tie.Need-returns
+returns c = ?
+
+-- src/lib.rt:74:1
+returns-2 : tie.Need-returns-2
+returns-2 c = ?
+
+pub gap-spec : {M : Type 1} → statement M
+gap-spec = tie.close (tie.spec sub-result returns returns-2)
