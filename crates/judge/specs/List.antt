@@ -1,4 +1,5 @@
 -- Document 01, "Judge": the tests of a list of cells, each over the whole list.
+use Prim.Native.Nat.{ℕ, _+_, _-_, _*_}
 use mathlib.Core.Bool.{Bool, true, false, not, _&&_, _||_}
 use mathlib.Core.List.{List, [], _∷_}
 use Rattle.grid.specs.declared.Panel.{Panel}
@@ -39,3 +40,7 @@ lastFrom c (d ∷ l) = lastFrom d l
 abbrev pub runs : Cell → Cell → List Cell → Bool
 runs s t [] = false
 runs s t (c ∷ l) = sameCell c s && sameCell (lastFrom c l) t
+
+-- the place of a cell in scratch, row by row
+abbrev pub place : Panel → Cell → ℕ
+place p c = (c .y - 1) * p .width + (c .x - 1)

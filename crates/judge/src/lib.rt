@@ -8,11 +8,11 @@ use grid::Refusal;
 ghost use mathlib.Core.Path.{_≡_};
 ghost use mathlib.Core.Bool.{true};
 ghost use mathlib.Core.List.{_++_};
-ghost use Prim.Native.Nat.{_+_, _*_, _≤_, _<_};
+ghost use Prim.Native.Nat.{_+_, _*_, _%_, _≤_, _<_};
 ghost use lib.ListN.{length, take, drop, replicate};
 ghost use Rattle.grid.specs.Panel.{goodPanel, onPanel, dist, neighbours, sameCell};
 ghost use Rattle.grid.specs.Bytes.{cellsIn};
-ghost use Rattle.judge.specs.List.{allOn, allSteps, noneTwice, runs};
+ghost use Rattle.judge.specs.List.{allOn, allSteps, noneTwice, runs, place};
 ghost use Rattle.judge.specs.Judge.{area, wholeCells, sizesCheck, cellsCheck, judgeOf, scratchAfter};
 
 // What Judge answers: the refusal, or the number of cells of the track.
@@ -112,21 +112,28 @@ fn clear(scratch: &mut [u8], k: usize)
     }
 }
 
-// Marks the places of the list's cells, row by row, in scratch whose first mn bytes are 0. It stops
-// and answers false at a place that was marked before: a cell that stands twice.
+// The place of a cell of the panel in scratch, row by row.
+fn place_of(p: Panel, x: u8, y: u8) -> usize
+    requires on { ⌜ onPanel p (record { x = x; y = y }) ≡ true ⌝ }
+    requires good { ⌜ goodPanel p ≡ true ⌝ }
+    ensures { λ r. ⌜ r ≡ place p (record { x = x; y = y }) ⌝ }
+{
+    (y as usize - 1) * (p.width as usize) + (x as usize - 1)
+}
+
+// Marks the places of the list's cells in scratch, whose first mn bytes are 0. It stops and answers
+// false at a place that was marked before: a cell that stands twice.
 fn mark_all(p: Panel, list: &[u8], scratch: &mut [u8]) -> bool
+    requires good { ⌜ goodPanel p ≡ true ⌝ }
     requires on { ⌜ allOn p (cellsIn (now list)) ≡ true ⌝ }
     requires room { ⌜ area p ≤ length (now scratch) ⌝ }
     requires clean { ⌜ take (area p) (now scratch) ≡ replicate (area p) 0 ⌝ }
     ensures told { λ r. ⌜ r ≡ noneTwice (cellsIn (now (list .entry))) ⌝ }
     ensures rest { λ _. ⌜ drop (area p) (now (scratch .exit)) ≡ drop (area p) (now (scratch .entry)) ⌝ }
 {
-    let m = p.width as usize;
     let mut i = 0;
     while i + 1 < list.len() {
-        let x = list[i] as usize;
-        let y = list[i + 1] as usize;
-        let at = (y - 1) * m + (x - 1);
+        let at = place_of(p, list[i], list[i + 1]);
         if scratch[at] != 0 {
             return false;
         }
@@ -138,7 +145,7 @@ fn mark_all(p: Panel, list: &[u8], scratch: &mut [u8]) -> bool
 
 // Whether the first cell of the list is the entry and the last is the exit.
 fn ends_at(entry: Cell, exit: Cell, list: &[u8]) -> bool
-    requires { ⌜ wholeCells (length (now list)) ≡ true ⌝ }
+    requires { ⌜ (2 ≤ length (now list)) × (length (now list) % 2 ≡ 0) ⌝ }
     ensures { λ r. ⌜ r ≡ runs entry exit (cellsIn (now (list .entry))) ⌝ }
 {
     let end = list.len();

@@ -1,3 +1,6 @@
+use Prim.Native.Nat.{_+_}
+use lib.Dec.{eqb}
+use Rattle.grid.specs.Panel.{apart}
 use borrow.Author.Needs.{needs}
 use Rattle.judge.proofs.adjacent.Statement.{statement}
 use Rattle.judge.proofs.adjacent.Tie as tie
@@ -27,7 +30,8 @@ add-result c = search needs
 
 -- src/lib.rt:81:1
 returns : tie.Need-returns
-returns c = ?
+unfolding apart
+returns c = λ i. eqb (c .before .gap .ensures i + c .gap2 .ensures i) 1
 
 pub adjacent-spec : {M : Type 1} → statement M
 adjacent-spec = tie.close (tie.spec gap-requires cast-dx gap-requires-2 cast-dy add-result returns)

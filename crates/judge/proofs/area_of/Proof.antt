@@ -1,3 +1,6 @@
+use native.Mathlib.Omega.{arith}
+use Rattle.grid.proofs.Facts.{good}
+use Rattle.judge.proofs.Area.{area-small}
 use borrow.Author.Needs.{needs}
 use Rattle.judge.proofs.area_of.Statement.{statement}
 use Rattle.judge.proofs.area_of.Tie as tie
@@ -14,7 +17,7 @@ cast-result-2 c = search needs
 
 -- src/lib.rt:29:5
 mul-result : tie.Need-mul-result
-mul-result c = ?
+mul-result c = record { fits = omega (arith, area-small (good (c .before .before .args .p) (c .before .before .pre))) }
 
 -- src/lib.rt:25:1
 returns : tie.Need-returns

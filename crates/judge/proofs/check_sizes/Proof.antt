@@ -1,45 +1,49 @@
+-- The tests in document 01's order: each answer is read off the branches on the way to it.
+use native.Mathlib.Omega.{arith}
+use mathlib.Core.Path.{refl, sym, _∙_}
+use borrow.Author.Tests.{le-leb, lt-leb}
+use Rattle.grid.proofs.Tests.{expect-yes, expect-no, after-good, after-refused}
+use Rattle.judge.specs.Judge.{area}
+use Rattle.judge.proofs.Checks.{order}
+use Rattle.judge.proofs.Bytes.{is-whole, empty, odd}
 use borrow.Author.Needs.{needs}
 use Rattle.judge.proofs.check_sizes.Statement.{statement}
 use Rattle.judge.proofs.check_sizes.Tie as tie
-use Rattle.judge.proofs.check_sizes.Reads as reads
-use Rattle.judge.proofs.check_sizes.Lts as lts
-use Rattle.grid.proofs.check_order.Reads as check-order-reads
-use Rattle.judge.proofs.area_of.Reads as area-of-reads
 
--- src/lib.rt:36:9
 check-order-requires : tie.Need-check-order-requires
 check-order-requires c κs = search needs
 
--- src/lib.rt:37:27
 enum-known-c : tie.Need-enum-known-c
 enum-known-c c = search needs
 
--- src/lib.rt:38:9
 returns : tie.Need-returns
-returns c = ?
+returns c = after-refused _ (sym (c .before .before .before .check-order .ensures) ∙ c .before .c .given .1)
 
 enum-told : tie.Need-enum-told
 enum-told c = search needs
 
--- src/lib.rt:41:9
 returns-2 : tie.Need-returns-2
-returns-2 c = ?
+returns-2 c = after-good _ (sym (c .before .before .before .check-order .ensures) ∙ c .before .enum-told .given .1) (expect-no _ _ (empty _ (c .if1 .taken)))
 
--- src/lib.rt:44:9
 returns-3 : tie.Need-returns-3
-returns-3 c = ?
+returns-3 c = after-good _ (sym (c .before .before .before .before .check-order .ensures) ∙ c .before .before .enum-told .given .1) (expect-no _ _ (odd _ (omega arith) (c .if2 .taken)))
 
--- src/lib.rt:46:15
 area-of-requires : tie.Need-area-of-requires
-area-of-requires c κs = ?
+area-of-requires c κs =
+    let a = c .before .before .before .before .before .args in
+    order (a .p) (a .entry) (a .exit) (sym (c .before .before .before .before .check-order .ensures) ∙ c .before .before .enum-told .given .1) .sides
 
--- src/lib.rt:47:9
 returns-4 : tie.Need-returns-4
-returns-4 c = ?
+returns-4 c = 
+    after-good _ (sym (c .before .before .before .before .before .before .check-order .ensures) ∙ c .before .before .before .before .enum-told .given .1)
+    (expect-yes _ _ (is-whole _ (omega arith) (c .before .before .if2 .left))
+    (expect-no _ _ (lt-leb (area (c .before .before .before .before .before .before .before .args .p)) (c .before .before .before .before .before .before .before .args .room) (omega arith))))
 
--- src/lib.rt:33:1
 returns-5 : tie.Need-returns-5
-returns-5 c = ?
+returns-5 c = 
+    after-good _ (sym (c .before .before .before .before .before .before .check-order .ensures) ∙ c .before .before .before .before .enum-told .given .1)
+    (expect-yes _ _ (is-whole _ (omega arith) (c .before .before .if2 .left))
+    (expect-yes _ _ (le-leb (area (c .before .before .before .before .before .before .before .args .p)) (c .before .before .before .before .before .before .before .args .room) (omega arith)) refl))
 
 pub check-sizes-spec : {M : Type 1} → statement M
 check-sizes-spec =

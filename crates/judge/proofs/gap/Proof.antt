@@ -1,3 +1,5 @@
+use native.Mathlib.Omega.{arith}
+use Rattle.grid.specs.Panel.{dist}
 use borrow.Author.Needs.{needs}
 use Rattle.judge.proofs.gap.Statement.{statement}
 use Rattle.judge.proofs.gap.Tie as tie
@@ -10,11 +12,13 @@ sub-result c = search needs
 
 -- src/lib.rt:74:1
 returns : tie.Need-returns
-returns c = ?
+unfolding dist
+returns c = omega arith
 
 -- src/lib.rt:74:1
 returns-2 : tie.Need-returns-2
-returns-2 c = ?
+unfolding dist
+returns-2 c = omega arith
 
 pub gap-spec : {M : Type 1} → statement M
 gap-spec = tie.close (tie.spec sub-result returns returns-2)

@@ -1,97 +1,90 @@
+-- In the cells ahead a place is found marked, or a cell stands twice there or was passed, exactly if a cell stands twice in the whole list
+-- (`fresh-once` at the start); the cells ahead are on the panel, and scratch behind the places is as it was.
+use Prim.Native.Nat.{_-_, _≤_}
+use native.Mathlib.Omega.{arith}
+use mathlib.Core.Path.{_≡_, refl, sym, _∙_}
+use mathlib.Core.Bool.{true}
+use lib.ListN.{length, drop, length-set}
+use Rattle.grid.specs.Bytes.{cellsIn}
+use Rattle.judge.specs.List.{allOn, noneTwice}
+use Rattle.judge.specs.Judge.{area}
+use Rattle.judge.proofs.Tracks.{all-on}
+use Rattle.judge.proofs.Marks.{fresh, fresh-once}
+use Rattle.judge.proofs.Passes.{on-here, on-rest, mark-end, mark-within, mark-keeps, mark-twice, mark-next}
 use Rattle.judge.proofs.mark_all.Statement.{statement}
 use Rattle.judge.proofs.mark_all.Tie as tie
-use Rattle.judge.proofs.mark_all.Reads as reads
-use Rattle.judge.proofs.mark_all.Lts as lts
 
 abbrev Inv-loop : tie.InvT-loop
-Inv-loop list scratch₀ m i₀ scratch i = ?
+Inv-loop p list scratch₀ i₀ scratch i = 
+    (i ≤ length list) × (length scratch ≡ length scratch₀) × (allOn p (cellsIn (drop i list)) ≡ true)
+    × (fresh p scratch (cellsIn (drop i list)) ≡ noneTwice (cellsIn list))
+    × (drop (area p) scratch ≡ drop (area p) scratch₀)
 
 abbrev μ-loop : tie.MeasureT-loop
-μ-loop list scratch₀ m i₀ scratch i = ?
+μ-loop p list scratch₀ i₀ scratch i = length list - i
 
--- src/lib.rt:124:13
-cast-m : tie.Need-cast-m Inv-loop μ-loop
-cast-m c = ?
-
--- src/lib.rt:126:5
 loop-holds : tie.Need-loop-holds Inv-loop μ-loop
-loop-holds c = ?
+loop-holds c = 
+    let s = c .before .before in
+    (omega arith, refl, s .pre .1 .0, fresh-once (s .args .p) (s .args .scratch .now) {l = cellsIn (s .args .list .now)} (s .pre .1 .1 .0) (s .pre .1 .1 .1) (all-on (s .args .p) (cellsIn (s .args .list .now)) (s .pre .1 .0)), refl)
 
--- src/lib.rt:126:11
 add-loop : tie.Need-add-loop Inv-loop μ-loop
-add-loop c = ?
+add-loop c = omega arith
 
--- src/lib.rt:127:17
-shared-slice-read-x : tie.Need-shared-slice-read-x Inv-loop μ-loop
-shared-slice-read-x c = ?
+shared-slice-read-place-of : tie.Need-shared-slice-read-place-of Inv-loop μ-loop
+shared-slice-read-place-of c = omega arith
 
--- src/lib.rt:127:17
-cast-x : tie.Need-cast-x Inv-loop μ-loop
-cast-x c = ?
+add-place-of : tie.Need-add-place-of Inv-loop μ-loop
+add-place-of c = omega arith
 
--- src/lib.rt:128:22
-add-y : tie.Need-add-y Inv-loop μ-loop
-add-y c = ?
+shared-slice-read-place-of-2 : tie.Need-shared-slice-read-place-of-2 Inv-loop μ-loop
+shared-slice-read-place-of-2 c = omega arith
 
--- src/lib.rt:128:17
-shared-slice-read-y : tie.Need-shared-slice-read-y Inv-loop μ-loop
-shared-slice-read-y c = ?
+place-of-requires : tie.Need-place-of-requires Inv-loop μ-loop
+place-of-requires c κs = (on-here _ _ _ (c .before .before .loop-test .taken) (c .before .before .before .loop .inv .2), c .before .before .before .before .before .before .pre .0)
 
--- src/lib.rt:128:17
-cast-y : tie.Need-cast-y Inv-loop μ-loop
-cast-y c = ?
-
--- src/lib.rt:129:19
-sub-at : tie.Need-sub-at Inv-loop μ-loop
-sub-at c = ?
-
--- src/lib.rt:129:18
-mul-at : tie.Need-mul-at Inv-loop μ-loop
-mul-at c = ?
-
--- src/lib.rt:129:33
-sub-at-2 : tie.Need-sub-at-2 Inv-loop μ-loop
-sub-at-2 c = ?
-
--- src/lib.rt:129:18
-add-at : tie.Need-add-at Inv-loop μ-loop
-add-at c = ?
-
--- src/lib.rt:130:12
 slice-read-if1 : tie.Need-slice-read-if1 Inv-loop μ-loop
-slice-read-if1 c = ?
+slice-read-if1 c =
+    let l = c .before .before .before .before .before .loop in
+    let s = c .before .before .before .before .before .before .before .before .args in
+    let k : area (s .p) ≤ length (l .scratch) = omega arith in
+    mark-within (s .p) (s .list .now) (l .i) (c .before .before .before .before .loop-test .taken) (l .inv .2) (l .scratch) (c .before .place-of .ensures) k
 
--- src/lib.rt:131:13
 same-length : tie.Need-same-length Inv-loop μ-loop
-same-length c = ?
+same-length c = c .before .before .before .before .before .before .loop .inv .1
 
--- src/lib.rt:131:13
 returns : tie.Need-returns Inv-loop μ-loop
-returns c = ?
+returns c = (mark-twice _ _ _ (c .before .before .before .before .before .loop-test .taken) (c .before .before .before .before .before .before .loop .inv .2) _ (c .before .before .place-of .ensures) (c .before .before .before .before .before .before .loop .inv .3) (c .if1 .taken), c .before .before .before .before .before .before .loop .inv .4)
 
--- src/lib.rt:133:9
 slice-write-scratch : tie.Need-slice-write-scratch Inv-loop μ-loop
-slice-write-scratch c = ?
+slice-write-scratch c =
+    let l = c .before .before .before .before .before .before .loop in
+    let s = c .before .before .before .before .before .before .before .before .before .args in
+    let k : area (s .p) ≤ length (l .scratch) = omega arith in
+    mark-within (s .p) (s .list .now) (l .i) (c .before .before .before .before .before .loop-test .taken) (l .inv .2) (l .scratch) (c .before .before .place-of .ensures) k
 
--- src/lib.rt:134:9
 add-i : tie.Need-add-i Inv-loop μ-loop
-add-i c = ?
+add-i c = omega arith
 
--- src/lib.rt:126:5
 loop-less : tie.Need-loop-less Inv-loop μ-loop
-loop-less c = ?
+loop-less c = omega arith
 
--- src/lib.rt:126:5
 loop-again : tie.Need-loop-again Inv-loop μ-loop
-loop-again c = ?
+loop-again c = 
+    let l = c .before .before .before .before .before .before .loop in
+    let h = c .before .before .before .before .before .loop-test .taken in
+    let e = c .before .before .place-of .ensures in
+    (omega arith,
+    length-set (l .scratch) (c .before .before .place-of .result) 1 ∙ l .inv .1,
+    on-rest _ _ (l .i) h (l .inv .2),
+    mark-next _ _ (l .i) h (l .inv .2) _ e (l .inv .3) (c .if1 .left),
+    mark-keeps _ _ (l .i) h (l .inv .2) _ e (l .inv .4))
 
--- src/lib.rt:117:1
 same-length-2 : tie.Need-same-length-2 Inv-loop μ-loop
-same-length-2 c = ?
+same-length-2 c = c .before .loop .inv .1
 
--- src/lib.rt:117:1
 returns-2 : tie.Need-returns-2 Inv-loop μ-loop
-returns-2 c = ?
+returns-2 c = (sym (mark-end _ _ _ _ (c .loop-test .left)) ∙ c .before .loop .inv .3, c .before .loop .inv .4)
 
 pub mark-all-spec : {M : Type 1} → statement M
 mark-all-spec =
@@ -99,18 +92,12 @@ mark-all-spec =
     (tie.spec
     Inv-loop
     μ-loop
-    cast-m
     loop-holds
     add-loop
-    shared-slice-read-x
-    cast-x
-    add-y
-    shared-slice-read-y
-    cast-y
-    sub-at
-    mul-at
-    sub-at-2
-    add-at
+    shared-slice-read-place-of
+    add-place-of
+    shared-slice-read-place-of-2
+    place-of-requires
     slice-read-if1
     same-length
     returns
