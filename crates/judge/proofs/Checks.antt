@@ -2,17 +2,23 @@
 use mathlib.Core.Path.{_≡_, refl, sym, ap, subst, _∙_}
 use mathlib.Core.Bool.{Bool, true, false, not}
 use mathlib.Core.Logic.{_≢_}
-use borrow.Author.Tests.{not-true}
+use mathlib.Core.List.{List}
+use Prim.Native.Nat.{ℕ, _≤_}
+use lib.Dec.{leb}
+use lib.ListN.{length}
+use borrow.Author.Tests.{not-true, leb-true, le-leb}
 use Rattle.grid.specs.declared.Panel.{Panel}
 use Rattle.grid.specs.declared.Cell.{Cell}
 use Rattle.grid.specs.declared.Refusal.{Refusal}
-use Rattle.grid.specs.declared.Refusal.the-variants.{Side, EntryOff, ExitOff, SameCell}
+use Rattle.grid.specs.declared.Refusal.the-variants.{Side, EntryOff, ExitOff, SameCell, ListLength, ShortBuffer, CellOff, NotNeighbours, Repeated, TooManyCells, WrongEnds}
 use Rattle.grid.specs.declared.Check.{Check}
 use Rattle.grid.specs.declared.Check.the-variants.{Good, Refused}
 use Rattle.grid.specs.Panel.{goodPanel, onPanel, OnPanel, sameCell}
 use Rattle.grid.specs.Check.{expect, after, checkPanel, checkEntry, checkOrder}
 use Rattle.grid.proofs.Facts.{on, is-on, same-ne, ne-same}
 use Rattle.grid.proofs.Tests.{expect-yes, after-good}
+use Rattle.judge.specs.List.{allOn, allSteps, noneTwice, runs}
+use Rattle.judge.specs.Judge.{area, wholeCells, sizesCheck, cellsCheck}
 
 abbrev isGood : Check → Type 0
 isGood Good = Unit {0}
@@ -58,3 +64,57 @@ pub is-order : {p : Panel} {s t : Cell} → Order p s t → Good ≡ checkOrder 
 is-order {p} {s} {t} o =
     after-good _ (sym (after-good _ (sym (expect-yes _ _ (o .sides) refl)) (expect-yes _ _ (is-on (o .entry)) refl)))
     (expect-yes _ _ (is-on (o .exit)) (expect-yes _ _ (ap not (ne-same s t (o .different))) refl))
+
+-- what is known once the refusals before 7 are passed
+pub record Sized (p : Panel) (s t : Cell) (bytes room : ℕ) : Type 0 where
+  pub ordered : Order p s t
+  pub whole : wholeCells bytes ≡ true
+  pub enough : area p ≤ room
+
+pub sized : (p : Panel) (s t : Cell) (bytes room : ℕ) → sizesCheck p s t bytes room ≡ Good → Sized p s t bytes room
+sized p s t bytes room e =
+    let short = expect (leb (area p) room) ShortBuffer Good in
+    let rest = after-rest (checkOrder p s t) (expect (wholeCells bytes) ListLength short) e in
+    record {
+      ordered = order p s t (after-passed (checkOrder p s t) (expect (wholeCells bytes) ListLength short) e);
+      whole = expect-passed (wholeCells bytes) ListLength short rest;
+      enough = leb-true (area p) room (expect-passed (leb (area p) room) ShortBuffer Good (expect-rest (wholeCells bytes) ListLength short rest));
+    }
+
+pub is-sized : {p : Panel} {s t : Cell} {bytes room : ℕ} → Sized p s t bytes room → Good ≡ sizesCheck p s t bytes room
+is-sized {p} {s} {t} {bytes} {room} z =
+    after-good _ (sym (is-order (z .ordered))) (expect-yes _ _ (z .whole) (expect-yes _ _ (le-leb (area p) room (z .enough)) refl))
+
+-- what is known of a list that passes the tests of its cells
+pub record Judged (p : Panel) (s t : Cell) (l : List Cell) : Type 0 where
+  pub on-panel : allOn p l ≡ true
+  pub steps : allSteps l ≡ true
+  pub once : noneTwice l ≡ true
+  pub few : length l ≤ area p
+  pub ends : runs s t l ≡ true
+
+pub judged : (p : Panel) (s t : Cell) (l : List Cell) → cellsCheck p s t l ≡ Good → Judged p s t l
+judged p s t l e =
+    let k11 = expect (runs s t l) WrongEnds Good in
+    let k10 = expect (leb (length l) (area p)) TooManyCells k11 in
+    let k9 = expect (noneTwice l) Repeated k10 in
+    let k8 = expect (allSteps l) NotNeighbours k9 in
+    let e8 = expect-rest (allOn p l) CellOff k8 e in
+    let e9 = expect-rest (allSteps l) NotNeighbours k9 e8 in
+    let e10 = expect-rest (noneTwice l) Repeated k10 e9 in
+    let e11 = expect-rest (leb (length l) (area p)) TooManyCells k11 e10 in
+    record {
+      on-panel = expect-passed (allOn p l) CellOff k8 e;
+      steps = expect-passed (allSteps l) NotNeighbours k9 e8;
+      once = expect-passed (noneTwice l) Repeated k10 e9;
+      few = leb-true (length l) (area p) (expect-passed (leb (length l) (area p)) TooManyCells k11 e10);
+      ends = expect-passed (runs s t l) WrongEnds Good e11;
+    }
+
+pub is-judged : {p : Panel} {s t : Cell} {l : List Cell} → Judged p s t l → Good ≡ cellsCheck p s t l
+is-judged {p} {s} {t} {l} j =
+    expect-yes _ _ (j .on-panel)
+    (expect-yes _ _ (j .steps)
+    (expect-yes _ _ (j .once)
+    (expect-yes _ _ (le-leb (length l) (area p) (j .few))
+    (expect-yes _ _ (j .ends) refl))))

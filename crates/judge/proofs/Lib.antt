@@ -1,6 +1,7 @@
 pub mod Checks
 pub mod Bytes
 pub mod Area
-pub mod Passes
 pub mod Tracks
 pub mod Marks
+pub mod Passes
+pub mod Scratch

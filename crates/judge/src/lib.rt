@@ -143,6 +143,20 @@ fn mark_all(p: Panel, list: &[u8], scratch: &mut [u8]) -> bool
     true
 }
 
+// Whether no cell of the list stands twice. Scratch is clean before and after.
+fn all_once(p: Panel, list: &[u8], scratch: &mut [u8]) -> bool
+    requires good { ⌜ goodPanel p ≡ true ⌝ }
+    requires on { ⌜ allOn p (cellsIn (now list)) ≡ true ⌝ }
+    requires room { ⌜ area p ≤ length (now scratch) ⌝ }
+    requires clean { ⌜ take (area p) (now scratch) ≡ replicate (area p) 0 ⌝ }
+    ensures told { λ r. ⌜ r ≡ noneTwice (cellsIn (now (list .entry))) ⌝ }
+    ensures same { λ _. ⌜ now (scratch .exit) ≡ now (scratch .entry) ⌝ }
+{
+    let once = mark_all(p, list, scratch);
+    clear(scratch, area_of(p));
+    once
+}
+
 // Whether the first cell of the list is the entry and the last is the exit.
 fn ends_at(entry: Cell, exit: Cell, list: &[u8]) -> bool
     requires { ⌜ (2 ≤ length (now list)) × (length (now list) % 2 ≡ 0) ⌝ }
@@ -179,9 +193,7 @@ fn check_cells(p: Panel, entry: Cell, exit: Cell, list: &[u8], scratch: &mut [u8
     if !all_adjacent(list) {
         return Check::Refused(Refusal::NotNeighbours);
     }
-    let once = mark_all(p, list, scratch);
-    clear(scratch, area);
-    if !once {
+    if !all_once(p, list, scratch) {
         return Check::Refused(Refusal::Repeated);
     }
     if area < list.len() / 2 {

@@ -1,90 +1,101 @@
+-- The tests in document 01's order: each answer is read off the branches on the way to it. Scratch is as the first clearing left it.
+use native.Mathlib.Omega.{arith}
+use mathlib.Core.Path.{refl, sym, _∙_}
+use borrow.Author.Tests.{not-true, not-false, le-leb, lt-leb}
+use lib.ListN.{length}
+use Rattle.grid.specs.Bytes.{cellsIn}
+use Rattle.grid.proofs.Tests.{expect-yes, expect-no}
+use Rattle.judge.specs.Judge.{area}
+use Rattle.judge.proofs.Bytes.{length-cells, whole}
+use Rattle.judge.proofs.Scratch.{cleared-at, clean-front}
 use borrow.Author.Needs.{needs}
 use Rattle.judge.proofs.check_cells.Statement.{statement}
 use Rattle.judge.proofs.check_cells.Tie as tie
-use Rattle.judge.proofs.check_cells.Reads as reads
-use Rattle.judge.proofs.check_cells.Lts as lts
-use Rattle.judge.proofs.all_adjacent.Reads as all-adjacent-reads
-use Rattle.judge.proofs.all_on_panel.Reads as all-on-panel-reads
-use Rattle.judge.proofs.area_of.Reads as area-of-reads
-use Rattle.judge.proofs.clear.Reads as clear-reads
-use Rattle.judge.proofs.ends_at.Reads as ends-at-reads
-use Rattle.judge.proofs.mark_all.Reads as mark-all-reads
 
--- src/lib.rt:174:9
 area-of-requires : tie.Need-area-of-requires
 area-of-requires c κs = search needs
 
--- src/lib.rt:175:5
 clear-requires : tie.Need-clear-requires
 clear-requires c κs = search needs
 
--- src/lib.rt:176:9
 all-on-panel-requires : tie.Need-all-on-panel-requires
 all-on-panel-requires c κs = search needs
 
--- src/lib.rt:177:9
 same-length : tie.Need-same-length
 same-length c = search needs
 
--- src/lib.rt:177:9
 returns : tie.Need-returns
-returns c = ?
+returns c = 
+    (expect-no _ _ (sym (c .before .all-on-panel .ensures) ∙ not-true _ (c .if1 .taken)),
+    cleared-at (c .before .before .before .before .before .before .area-of .ensures) (c .before .before .before .before .before .before .before .before .before .args .scratch .now) (c .before .before .before .before .clear .ensures))
 
--- src/lib.rt:179:9
 all-adjacent-requires : tie.Need-all-adjacent-requires
 all-adjacent-requires c κs = search needs
 
--- src/lib.rt:180:9
 same-length-2 : tie.Need-same-length-2
 same-length-2 c = search needs
 
--- src/lib.rt:180:9
 returns-2 : tie.Need-returns-2
-returns-2 c = ?
+returns-2 c = 
+    (expect-yes _ _ (sym (c .before .before .before .all-on-panel .ensures) ∙ not-false _ (c .before .before .if1 .left))
+    (expect-no _ _ (sym (c .before .all-adjacent .ensures) ∙ not-true _ (c .if2 .taken))),
+    cleared-at (c .before .before .before .before .before .before .before .before .area-of .ensures) (c .before .before .before .before .before .before .before .before .before .before .before .args .scratch .now) (c .before .before .before .before .before .before .clear .ensures))
 
--- src/lib.rt:182:9
-mark-all-requires : tie.Need-mark-all-requires
-mark-all-requires c κs = ?
+all-once-requires : tie.Need-all-once-requires
+all-once-requires c κs = 
+    let s = c .before .before .before .before .before .before .before .before .before .before .before .before in
+    let e = cleared-at (c .before .before .before .before .before .before .before .before .before .area-of .ensures) (s .args .scratch .now) (c .before .before .before .before .before .before .before .clear .ensures) in
+    (s .pre .0,
+    (sym (c .before .before .before .before .all-on-panel .ensures) ∙ not-false _ (c .before .before .before .if1 .left),
+    (omega (arith, c .before .before .before .before .before .before .before .clear .kept .0), clean-front (area (s .args .p)) (s .args .scratch .now) e)))
 
--- src/lib.rt:183:5
-clear-requires-2 : tie.Need-clear-requires-2
-clear-requires-2 c κs = search needs
-
--- src/lib.rt:185:9
 same-length-3 : tie.Need-same-length-3
 same-length-3 c = search needs
 
--- src/lib.rt:185:9
 returns-3 : tie.Need-returns-3
-returns-3 c = ?
+returns-3 c = 
+    (expect-yes _ _ (sym (c .before .before .before .before .before .before .before .before .all-on-panel .ensures) ∙ not-false _ (c .before .before .before .before .before .before .before .if1 .left))
+    (expect-yes _ _ (sym (c .before .before .before .before .before .before .all-adjacent .ensures) ∙ not-false _ (c .before .before .before .before .before .if2 .left))
+    (expect-no _ _ (sym (c .before .before .before .all-once .ensures .0) ∙ not-true _ (c .if3 .taken)))),
+    c .before .before .before .all-once .ensures .1 ∙ cleared-at (c .before .before .before .before .before .before .before .before .before .before .before .before .before .area-of .ensures) (c .before .before .before .before .before .before .before .before .before .before .before .before .before .before .before .before .args .scratch .now) (c .before .before .before .before .before .before .before .before .before .before .before .clear .ensures))
 
--- src/lib.rt:188:9
 same-length-4 : tie.Need-same-length-4
 same-length-4 c = search needs
 
--- src/lib.rt:188:9
 returns-4 : tie.Need-returns-4
-returns-4 c = ?
+returns-4 c = 
+    (expect-yes _ _ (sym (c .before .before .before .before .before .before .before .before .before .all-on-panel .ensures) ∙ not-false _ (c .before .before .before .before .before .before .before .before .if1 .left))
+    (expect-yes _ _ (sym (c .before .before .before .before .before .before .before .all-adjacent .ensures) ∙ not-false _ (c .before .before .before .before .before .before .if2 .left))
+    (expect-yes _ _ (sym (c .before .before .before .before .all-once .ensures .0) ∙ not-false _ (c .before .if3 .left))
+    (expect-no _ _ (lt-leb (length (cellsIn (c .before .before .before .before .before .before .before .before .before .before .before .before .before .before .before .before .before .args .list .now))) (area (c .before .before .before .before .before .before .before .before .before .before .before .before .before .before .before .before .before .args .p)) (omega (arith, length-cells (c .before .before .before .before .before .before .before .before .before .before .before .before .before .before .before .before .before .args .list .now))))))),
+    c .before .before .before .before .all-once .ensures .1 ∙ cleared-at (c .before .before .before .before .before .before .before .before .before .before .before .before .before .before .area-of .ensures) (c .before .before .before .before .before .before .before .before .before .before .before .before .before .before .before .before .before .args .scratch .now) (c .before .before .before .before .before .before .before .before .before .before .before .before .clear .ensures))
 
--- src/lib.rt:190:9
 ends-at-requires : tie.Need-ends-at-requires
-ends-at-requires c κs = ?
+ends-at-requires c κs = whole (length (c .before .before .before .before .before .before .before .before .before .before .before .before .before .before .before .before .before .args .list .now)) (c .before .before .before .before .before .before .before .before .before .before .before .before .before .before .before .before .before .pre .1 .0)
 
--- src/lib.rt:191:9
 same-length-5 : tie.Need-same-length-5
 same-length-5 c = search needs
 
--- src/lib.rt:191:9
 returns-5 : tie.Need-returns-5
-returns-5 c = ?
+returns-5 c = 
+    (expect-yes _ _ (sym (c .before .before .before .before .before .before .before .before .before .before .before .all-on-panel .ensures) ∙ not-false _ (c .before .before .before .before .before .before .before .before .before .before .if1 .left))
+    (expect-yes _ _ (sym (c .before .before .before .before .before .before .before .before .before .all-adjacent .ensures) ∙ not-false _ (c .before .before .before .before .before .before .before .before .if2 .left))
+    (expect-yes _ _ (sym (c .before .before .before .before .before .before .all-once .ensures .0) ∙ not-false _ (c .before .before .before .if3 .left))
+    (expect-yes _ _ (le-leb (length (cellsIn (c .before .before .before .before .before .before .before .before .before .before .before .before .before .before .before .before .before .before .before .args .list .now))) (area (c .before .before .before .before .before .before .before .before .before .before .before .before .before .before .before .before .before .before .before .args .p)) (omega (arith, length-cells (c .before .before .before .before .before .before .before .before .before .before .before .before .before .before .before .before .before .before .before .args .list .now))))
+    (expect-no _ _ (sym (c .before .ends-at .ensures) ∙ not-true _ (c .if5 .taken)))))),
+    c .before .before .before .before .before .before .all-once .ensures .1 ∙ cleared-at (c .before .before .before .before .before .before .before .before .before .before .before .before .before .before .before .before .area-of .ensures) (c .before .before .before .before .before .before .before .before .before .before .before .before .before .before .before .before .before .before .before .args .scratch .now) (c .before .before .before .before .before .before .before .before .before .before .before .before .before .before .clear .ensures))
 
--- src/lib.rt:167:1
 same-length-6 : tie.Need-same-length-6
 same-length-6 c = search needs
 
--- src/lib.rt:167:1
 returns-6 : tie.Need-returns-6
-returns-6 c = ?
+returns-6 c = 
+    (expect-yes _ _ (sym (c .before .before .before .before .before .before .before .before .before .before .before .all-on-panel .ensures) ∙ not-false _ (c .before .before .before .before .before .before .before .before .before .before .if1 .left))
+    (expect-yes _ _ (sym (c .before .before .before .before .before .before .before .before .before .all-adjacent .ensures) ∙ not-false _ (c .before .before .before .before .before .before .before .before .if2 .left))
+    (expect-yes _ _ (sym (c .before .before .before .before .before .before .all-once .ensures .0) ∙ not-false _ (c .before .before .before .if3 .left))
+    (expect-yes _ _ (le-leb (length (cellsIn (c .before .before .before .before .before .before .before .before .before .before .before .before .before .before .before .before .before .before .before .args .list .now))) (area (c .before .before .before .before .before .before .before .before .before .before .before .before .before .before .before .before .before .before .before .args .p)) (omega (arith, length-cells (c .before .before .before .before .before .before .before .before .before .before .before .before .before .before .before .before .before .before .before .args .list .now))))
+    (expect-yes _ _ (sym (c .before .ends-at .ensures) ∙ not-false _ (c .if5 .left)) refl)))),
+    c .before .before .before .before .before .before .all-once .ensures .1 ∙ cleared-at (c .before .before .before .before .before .before .before .before .before .before .before .before .before .before .before .before .area-of .ensures) (c .before .before .before .before .before .before .before .before .before .before .before .before .before .before .before .before .before .before .before .args .scratch .now) (c .before .before .before .before .before .before .before .before .before .before .before .before .before .before .clear .ensures))
 
 pub check-cells-spec : {M : Type 1} → statement M
 check-cells-spec =
@@ -98,8 +109,7 @@ check-cells-spec =
     all-adjacent-requires
     same-length-2
     returns-2
-    mark-all-requires
-    clear-requires-2
+    all-once-requires
     same-length-3
     returns-3
     same-length-4

@@ -1,56 +1,70 @@
+-- The tests of the sizes, then those of the cells; a count that is given is at most mn, so that it fits.
+use Prim.Native.Nat.{ℕ}
+use native.Mathlib.Omega.{arith}
+use mathlib.Core.Path.{refl, sym, ap, _∙_}
+use lib.ListN.{length}
+use Rattle.grid.specs.Bytes.{cellsIn}
+use Rattle.grid.proofs.Facts.{good}
+use Rattle.grid.proofs.Tests.{after-good, after-refused, answer-good, answer-refused}
+use Rattle.judge.specs.declared.Judged.the-variants.{Accepted}
+use Rattle.judge.proofs.Checks.{sized, judged}
+use Rattle.judge.proofs.Bytes.{length-cells}
+use Rattle.judge.proofs.Area.{area-small}
 use borrow.Author.Needs.{needs}
 use Rattle.judge.proofs.judge.Statement.{statement}
 use Rattle.judge.proofs.judge.Tie as tie
-use Rattle.judge.proofs.judge.Reads as reads
-use Rattle.judge.proofs.judge.Lts as lts
-use Rattle.judge.proofs.check_cells.Reads as check-cells-reads
-use Rattle.judge.proofs.check_sizes.Reads as check-sizes-reads
 
--- src/lib.rt:201:9
 check-sizes-requires : tie.Need-check-sizes-requires
 check-sizes-requires c κs = search needs
 
--- src/lib.rt:202:27
 enum-known-sizes : tie.Need-enum-known-sizes
 enum-known-sizes c = search needs
 
--- src/lib.rt:203:9
 returns : tie.Need-returns
-returns c = ?
+returns c = 
+    let e = sym (c .before .before .before .check-sizes .ensures) ∙ c .before .sizes .given .1 in
+    (answer-refused _ _ (sym (after-refused _ e)), answer-refused _ _ e)
 
 enum-told : tie.Need-enum-told
 enum-told c = search needs
 
--- src/lib.rt:205:9
 check-cells-requires : tie.Need-check-cells-requires
-check-cells-requires c κs = ?
+check-cells-requires c κs = 
+    let a = c .before .before .before .before .before .before .args in
+    let z = sized (a .p) (a .entry) (a .exit) (length (a .list .now)) (length (a .scratch .now)) (sym (c .before .before .before .check-sizes .ensures) ∙ c .before .enum-told .given .1) in
+    (z .ordered .sides, (z .whole, z .enough))
 
--- src/lib.rt:206:27
 enum-known-cells : tie.Need-enum-known-cells
 enum-known-cells c = search needs
 
--- src/lib.rt:207:9
 same-length : tie.Need-same-length
 same-length c = search needs
 
--- src/lib.rt:207:9
 returns-2 : tie.Need-returns-2
-returns-2 c = ?
+returns-2 c = 
+    let e = (sym (c .before .before .before .before .before .before .before .before .before .check-sizes .ensures) ∙ c .before .before .before .before .before .before .before .enum-told .given .1) in
+    (answer-refused _ _ (sym (after-good _ e (sym (sym (c .before .before .before .before .before .check-cells .ensures .0) ∙ c .before .cells .given .1)))),
+    answer-good _ _ e (c .before .before .before .before .before .check-cells .ensures .1))
 
 enum-told-2 : tie.Need-enum-told-2
 enum-told-2 c = search needs
 
--- src/lib.rt:209:28
 cast-t14 : tie.Need-cast-t14
-cast-t14 c = ?
+cast-t14 c = 
+    let a = c .before .before .before .before .before .before .before .before .before .before .before .args in
+    let z = sized (a .p) (a .entry) (a .exit) (length (a .list .now)) (length (a .scratch .now)) (sym (c .before .before .before .before .before .before .before .before .check-sizes .ensures) ∙ c .before .before .before .before .before .before .enum-told .given .1) in
+    let j = judged (a .p) (a .entry) (a .exit) (cellsIn (a .list .now)) (sym (c .before .before .before .before .check-cells .ensures .0) ∙ c .enum-told2 .given .1) in
+    record { fits = omega (arith, j .few, area-small (good (a .p) (z .ordered .sides)), length-cells (a .list .now)) }
 
--- src/lib.rt:197:1
 same-length-2 : tie.Need-same-length-2
 same-length-2 c = search needs
 
--- src/lib.rt:197:1
 returns-3 : tie.Need-returns-3
-returns-3 c = ?
+returns-3 c = 
+    let e = (sym (c .before .before .before .before .before .before .before .before .check-sizes .ensures) ∙ c .before .before .before .before .before .before .enum-told .given .1) in
+    (answer-good _ _ (sym (after-good _ e (sym (sym (c .before .before .before .before .check-cells .ensures .0) ∙ c .enum-told2 .given .1))))
+    (ap (λ (k : ℕ). Accepted (record { 0 = k })) (sym (length-cells (c .before .before .before .before .before .before .before .before .before .before .before .args .list .now)))),
+    answer-good _ _ e (c .before .before .before .before .check-cells .ensures .1))
 
 pub judge-spec : {M : Type 1} → statement M
 judge-spec =
