@@ -86,15 +86,15 @@ is-sized {p} {s} {t} {bytes} {room} z =
     after-good _ (sym (is-order (z .ordered))) (expect-yes _ _ (z .whole) (expect-yes _ _ (le-leb (area p) room (z .enough)) refl))
 
 -- what is known of a list that passes the tests of its cells
-pub record Judged (p : Panel) (s t : Cell) (l : List Cell) : Type 0 where
+pub record Passed (p : Panel) (s t : Cell) (l : List Cell) : Type 0 where
   pub on-panel : allOn p l ≡ true
   pub steps : allSteps l ≡ true
   pub once : noneTwice l ≡ true
   pub few : length l ≤ area p
   pub ends : runs s t l ≡ true
 
-pub judged : (p : Panel) (s t : Cell) (l : List Cell) → cellsCheck p s t l ≡ Good → Judged p s t l
-judged p s t l e =
+pub passed : (p : Panel) (s t : Cell) (l : List Cell) → cellsCheck p s t l ≡ Good → Passed p s t l
+passed p s t l e =
     let k11 = expect (runs s t l) WrongEnds Good in
     let k10 = expect (leb (length l) (area p)) TooManyCells k11 in
     let k9 = expect (noneTwice l) Repeated k10 in
@@ -111,8 +111,8 @@ judged p s t l e =
       ends = expect-passed (runs s t l) WrongEnds Good e11;
     }
 
-pub is-judged : {p : Panel} {s t : Cell} {l : List Cell} → Judged p s t l → Good ≡ cellsCheck p s t l
-is-judged {p} {s} {t} {l} j =
+pub is-passed : {p : Panel} {s t : Cell} {l : List Cell} → Passed p s t l → Good ≡ cellsCheck p s t l
+is-passed {p} {s} {t} {l} j =
     expect-yes _ _ (j .on-panel)
     (expect-yes _ _ (j .steps)
     (expect-yes _ _ (j .once)

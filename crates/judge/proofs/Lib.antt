@@ -5,3 +5,4 @@ pub mod Tracks
 pub mod Marks
 pub mod Passes
 pub mod Scratch
+pub mod Theorem

@@ -7,7 +7,7 @@ use Rattle.grid.specs.Bytes.{cellsIn}
 use Rattle.grid.proofs.Facts.{good}
 use Rattle.grid.proofs.Tests.{after-good, after-refused, answer-good, answer-refused}
 use Rattle.judge.specs.declared.Judged.the-variants.{Accepted}
-use Rattle.judge.proofs.Checks.{sized, judged}
+use Rattle.judge.proofs.Checks.{sized, passed}
 use Rattle.judge.proofs.Bytes.{length-cells}
 use Rattle.judge.proofs.Area.{area-small}
 use borrow.Author.Needs.{needs}
@@ -43,7 +43,7 @@ same-length c = search needs
 returns-2 : tie.Need-returns-2
 returns-2 c = 
     let e = (sym (c .before .before .before .before .before .before .before .before .before .check-sizes .ensures) ∙ c .before .before .before .before .before .before .before .enum-told .given .1) in
-    (answer-refused _ _ (sym (after-good _ e (sym (sym (c .before .before .before .before .before .check-cells .ensures .0) ∙ c .before .cells .given .1)))),
+    (answer-refused _ _ (sym (after-good _ e (sym (c .before .cells .given .1) ∙ c .before .before .before .before .before .check-cells .ensures .0))),
     answer-good _ _ e (c .before .before .before .before .before .check-cells .ensures .1))
 
 enum-told-2 : tie.Need-enum-told-2
@@ -53,7 +53,7 @@ cast-t14 : tie.Need-cast-t14
 cast-t14 c = 
     let a = c .before .before .before .before .before .before .before .before .before .before .before .args in
     let z = sized (a .p) (a .entry) (a .exit) (length (a .list .now)) (length (a .scratch .now)) (sym (c .before .before .before .before .before .before .before .before .check-sizes .ensures) ∙ c .before .before .before .before .before .before .enum-told .given .1) in
-    let j = judged (a .p) (a .entry) (a .exit) (cellsIn (a .list .now)) (sym (c .before .before .before .before .check-cells .ensures .0) ∙ c .enum-told2 .given .1) in
+    let j = passed (a .p) (a .entry) (a .exit) (cellsIn (a .list .now)) (sym (c .before .before .before .before .check-cells .ensures .0) ∙ c .enum-told2 .given .1) in
     record { fits = omega (arith, j .few, area-small (good (a .p) (z .ordered .sides)), length-cells (a .list .now)) }
 
 same-length-2 : tie.Need-same-length-2
@@ -62,7 +62,7 @@ same-length-2 c = search needs
 returns-3 : tie.Need-returns-3
 returns-3 c = 
     let e = (sym (c .before .before .before .before .before .before .before .before .check-sizes .ensures) ∙ c .before .before .before .before .before .before .enum-told .given .1) in
-    (answer-good _ _ (sym (after-good _ e (sym (sym (c .before .before .before .before .check-cells .ensures .0) ∙ c .enum-told2 .given .1))))
+    (answer-good _ _ (sym (after-good _ e (sym (c .enum-told2 .given .1) ∙ c .before .before .before .before .check-cells .ensures .0)))
     (ap (λ (k : ℕ). Accepted (record { 0 = k })) (sym (length-cells (c .before .before .before .before .before .before .before .before .before .before .before .args .list .now)))),
     answer-good _ _ e (c .before .before .before .before .check-cells .ensures .1))
 
