@@ -69,8 +69,8 @@ pub odd : (k : ℕ) → 1 ≤ k → (k % 2 ≡ 0 → ⊥) → wholeCells k ≡ f
 odd k l n = sym (and-yes _ (le-leb _ _ l) (sym (ne-eqb _ _ n)))
 
 pub runs-is : (s t : Cell) (b : List ℕ) → (2 ≤ length b) × (length b % 2 ≡ 0)
-  → runs s t (cellsIn b)
-  ≡ (sameCell (record { x = getD b 0 0; y = getD b 1 0 }) s && sameCell (record { x = getD b (length b - 2) 0; y = getD b (length b - 1) 0 }) t)
+    → runs s t (cellsIn b)
+    ≡ (sameCell (record { x = getD b 0 0; y = getD b 1 0 }) s && sameCell (record { x = getD b (length b - 2) 0; y = getD b (length b - 1) 0 }) t)
 runs-is s t [] w = absurd (omega arith)
 runs-is s t (x ∷ []) w = absurd (omega arith)
 runs-is s t (x ∷ y ∷ b) w =

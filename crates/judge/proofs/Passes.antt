@@ -36,7 +36,7 @@ module _ (b : List ℕ) (i : ℕ) where
     on-end h = ap (allOn p) (cells-end b i h)
 
     pub mark-turn : (s : List ℕ) → i + 1 < length b
-      → fresh p s (cellsIn (drop i b)) ≡ (free p s (cellAt b i) && fresh p (set s (place p (cellAt b i)) 1) (cellsIn (drop (i + 2) b)))
+        → fresh p s (cellsIn (drop i b)) ≡ (free p s (cellAt b i) && fresh p (set s (place p (cellAt b i)) 1) (cellsIn (drop (i + 2) b)))
     mark-turn s h = ap (fresh p s) (cells-next b i h)
 
     pub mark-end : (s : List ℕ) → length b ≤ i + 1 → fresh p s (cellsIn (drop i b)) ≡ true
@@ -50,7 +50,7 @@ module _ (b : List ℕ) (i : ℕ) where
       e = omega arith
 
   pub step-turn : i + 3 < length b
-    → allSteps (cellsIn (drop i b)) ≡ (neighbours (cellAt b i) (record { x = getD b (i + 2) 0; y = getD b (i + 3) 0 }) && allSteps (cellsIn (drop (i + 2) b)))
+      → allSteps (cellsIn (drop i b)) ≡ (neighbours (cellAt b i) (record { x = getD b (i + 2) 0; y = getD b (i + 3) 0 }) && allSteps (cellsIn (drop (i + 2) b)))
   step-turn h =
       let f = cells-next b (i + 2) (omega arith) in
       ap allSteps (cells-next b i (omega arith) ∙ ap (λ (l : List Cell). cellAt b i ∷ l) f)

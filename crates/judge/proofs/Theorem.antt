@@ -103,8 +103,8 @@ module _ (p : Panel) (s t : Cell) (list : List ℕ) (room : ℕ) where
 -- What Draw promises, Judge accepts: where the first k cells of a buffer are a track between different cells of a good panel, their bytes
 -- are accepted with the count k.
 pub drawn : (p : Panel) (s t : Cell) (k : ℕ) (buffer : List ℕ) (room : ℕ)
-  → goodPanel p ≡ true → s ≢ t → 2 * k ≤ length buffer → Track p s t (front k buffer) → area p ≤ room
-  → judgeOf p s t (take (2 * k) buffer) room ≡ Accepted (record { 0 = k })
+    → goodPanel p ≡ true → s ≢ t → 2 * k ≤ length buffer → Track p s t (front k buffer) → area p ≤ room
+    → judgeOf p s t (take (2 * k) buffer) room ≡ Accepted (record { 0 = k })
 drawn p s t k buffer room g d n track h =
     let e : length (take (2 * k) buffer) ≡ 2 * k = length-take-le (2 * k) buffer n in
     let f : length (cellsIn (take (2 * k) buffer)) ≡ k = omega (arith, length-cells (take (2 * k) buffer)) in

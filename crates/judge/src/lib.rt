@@ -53,7 +53,13 @@ fn check_sizes(p: Panel, entry: Cell, exit: Cell, bytes: usize, room: usize) -> 
 fn on_panel(p: Panel, x: u8, y: u8) -> bool
     ensures { λ r. ⌜ r ≡ onPanel p (record { x = x; y = y }) ⌝ }
 {
-    grid::on_panel(p, Cell { x: x as u32, y: y as u32 })
+    grid::on_panel(
+        p,
+        Cell {
+            x: x as u32,
+            y: y as u32,
+        },
+    )
 }
 
 // Whether every cell of the list is on the panel.
@@ -174,7 +180,13 @@ fn ends_at(entry: Cell, exit: Cell, list: &[u8]) -> bool
 fn same(c: Cell, x: u8, y: u8) -> bool
     ensures { λ r. ⌜ r ≡ sameCell (record { x = x; y = y }) c ⌝ }
 {
-    grid::same_cell(Cell { x: x as u32, y: y as u32 }, c)
+    grid::same_cell(
+        Cell {
+            x: x as u32,
+            y: y as u32,
+        },
+        c,
+    )
 }
 
 // The refusals of the cells. Scratch is cleared first, so that it is clean whichever test fails.

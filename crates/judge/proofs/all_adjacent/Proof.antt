@@ -48,7 +48,7 @@ adjacent-requires : tie.Need-adjacent-requires Inv-loop μ-loop
 adjacent-requires c κs = search needs
 
 returns : tie.Need-returns Inv-loop μ-loop
-returns c = 
+returns c =
     let l = c .before .before .before .before .before .before .before in
     turn-failed _ _ (step-turn _ (l .loop .i) (c .before .before .before .before .before .before .loop-test .taken)) (l .loop .inv .1)
     (sym (c .before .adjacent .ensures) ∙ not-true _ (c .if1 .taken))
@@ -60,11 +60,12 @@ loop-less : tie.Need-loop-less Inv-loop μ-loop
 loop-less c = omega arith
 
 loop-again : tie.Need-loop-again Inv-loop μ-loop
-loop-again c = 
-    let l = c .before .before .before .before .before .before .before in
-    (omega arith,
-    turn-passed _ _ (step-turn _ (l .loop .i) (c .before .before .before .before .before .before .loop-test .taken)) (l .loop .inv .1)
-    (sym (c .before .adjacent .ensures) ∙ not-false _ (c .if1 .left)))
+loop-again c =
+    let l = c .before .before .before .before .before .before .before in (
+      omega arith,
+      turn-passed _ _ (step-turn _ (l .loop .i) (c .before .before .before .before .before .before .loop-test .taken)) (l .loop .inv .1)
+          (sym (c .before .adjacent .ensures) ∙ not-false _ (c .if1 .left)),
+    )
 
 returns-2 : tie.Need-returns-2 Inv-loop μ-loop
 returns-2 c = sym (step-end _ (c .before .loop .i) (c .loop-test .left)) ∙ c .before .loop .inv .1

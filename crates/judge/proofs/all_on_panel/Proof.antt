@@ -36,7 +36,7 @@ on-panel-requires : tie.Need-on-panel-requires Inv-loop μ-loop
 on-panel-requires c κs = search needs
 
 returns : tie.Need-returns Inv-loop μ-loop
-returns c = 
+returns c =
     let l = c .before .before .before .before .before in
     turn-failed _ _ (on-turn _ (l .loop .i) _ (c .before .before .before .before .loop-test .taken)) (l .loop .inv .1)
     (sym (c .before .on-panel .ensures) ∙ not-true _ (c .if1 .taken))
@@ -48,11 +48,12 @@ loop-less : tie.Need-loop-less Inv-loop μ-loop
 loop-less c = omega arith
 
 loop-again : tie.Need-loop-again Inv-loop μ-loop
-loop-again c = 
-    let l = c .before .before .before .before .before in
-    (omega arith,
-    turn-passed _ _ (on-turn _ (l .loop .i) _ (c .before .before .before .before .loop-test .taken)) (l .loop .inv .1)
-    (sym (c .before .on-panel .ensures) ∙ not-false _ (c .if1 .left)))
+loop-again c =
+    let l = c .before .before .before .before .before in (
+      omega arith,
+      turn-passed _ _ (on-turn _ (l .loop .i) _ (c .before .before .before .before .loop-test .taken)) (l .loop .inv .1)
+          (sym (c .before .on-panel .ensures) ∙ not-false _ (c .if1 .left)),
+    )
 
 returns-2 : tie.Need-returns-2 Inv-loop μ-loop
 returns-2 c = sym (on-end _ (c .before .loop .i) _ (c .loop-test .left)) ∙ c .before .loop .inv .1

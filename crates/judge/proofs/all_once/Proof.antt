@@ -18,7 +18,7 @@ same-length : tie.Need-same-length
 same-length c = search needs
 
 returns : tie.Need-returns
-returns c = 
+returns c =
     let s = c .before .before .before .before .before .before .before .before .before .before .before in
     let m = c .before .before .before .before .before .before .before .mark-all in
     (m .ensures .0, restored (c .before .before .before .area-of .ensures) (s .args .scratch .now) (m .last .1 .1 .0) (c .before .before .clear .ensures) (m .ensures .1) (s .pre .1 .1 .1))

@@ -34,13 +34,13 @@ area-of-requires c κs =
     order (a .p) (a .entry) (a .exit) (sym (c .before .before .before .before .check-order .ensures) ∙ c .before .before .enum-told .given .1) .sides
 
 returns-4 : tie.Need-returns-4
-returns-4 c = 
+returns-4 c =
     after-good _ (sym (c .before .before .before .before .before .before .check-order .ensures) ∙ c .before .before .before .before .enum-told .given .1)
     (expect-yes _ _ (is-whole _ (omega arith) (c .before .before .if2 .left))
     (expect-no _ _ (lt-leb (area (c .before .before .before .before .before .before .before .args .p)) (c .before .before .before .before .before .before .before .args .room) (omega arith))))
 
 returns-5 : tie.Need-returns-5
-returns-5 c = 
+returns-5 c =
     after-good _ (sym (c .before .before .before .before .before .before .check-order .ensures) ∙ c .before .before .before .before .enum-told .given .1)
     (expect-yes _ _ (is-whole _ (omega arith) (c .before .before .if2 .left))
     (expect-yes _ _ (le-leb (area (c .before .before .before .before .before .before .before .args .p)) (c .before .before .before .before .before .before .before .args .room) (omega arith)) refl))

@@ -28,7 +28,7 @@ loop-less : tie.Need-loop-less Inv-loop μ-loop
 loop-less c = omega arith
 
 loop-again : tie.Need-loop-again Inv-loop μ-loop
-loop-again c = 
+loop-again c =
     let l = c .before .loop in
     (omega arith, length-set (l .scratch) (l .i) 0 ∙ l .inv .1, ap (λ (s : List ℕ). set s (l .i) 0) (l .inv .2) ∙ fill-more (l .i) 0 _ (omega arith))
 
@@ -36,7 +36,7 @@ same-length : tie.Need-same-length Inv-loop μ-loop
 same-length c = c .before .loop .inv .1
 
 returns : tie.Need-returns Inv-loop μ-loop
-returns c = 
+returns c =
     let l = c .before .loop in
     let e : l .i ≡ c .before .before .args .k = le-antisymm (l .inv .0) (c .loop-test .left) in
     l .inv .2 ∙ ap (λ (j : ℕ). replicate j 0 ++ drop j (c .before .before .args .scratch .now)) e

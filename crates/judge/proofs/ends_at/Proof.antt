@@ -32,12 +32,12 @@ same-requires-2 : tie.Need-same-requires-2
 same-requires-2 c κs = search needs
 
 returns : tie.Need-returns
-returns c = 
+returns c =
     and-yes _ (sym (c .before .before .before .before .same .ensures) ∙ c .before .before .before .if1 .taken) (c .same2 .ensures)
     ∙ sym (runs-is (c .before .before .before .before .before .before .before .before .args .entry) (c .before .before .before .before .before .before .before .before .args .exit) (c .before .before .before .before .before .before .before .before .args .list .now) (c .before .before .before .before .before .before .before .before .pre))
 
 returns-2 : tie.Need-returns-2
-returns-2 c = 
+returns-2 c =
     and-no _ (sym (c .before .same .ensures) ∙ c .if1 .left)
     ∙ sym (runs-is (c .before .before .before .before .before .args .entry) (c .before .before .before .before .before .args .exit) (c .before .before .before .before .before .args .list .now) (c .before .before .before .before .before .pre))
 

@@ -21,7 +21,7 @@ enum-known-sizes : tie.Need-enum-known-sizes
 enum-known-sizes c = search needs
 
 returns : tie.Need-returns
-returns c = 
+returns c =
     let e = sym (c .before .before .before .check-sizes .ensures) ∙ c .before .sizes .given .1 in
     (answer-refused _ _ (sym (after-refused _ e)), answer-refused _ _ e)
 
@@ -29,7 +29,7 @@ enum-told : tie.Need-enum-told
 enum-told c = search needs
 
 check-cells-requires : tie.Need-check-cells-requires
-check-cells-requires c κs = 
+check-cells-requires c κs =
     let a = c .before .before .before .before .before .before .args in
     let z = sized (a .p) (a .entry) (a .exit) (length (a .list .now)) (length (a .scratch .now)) (sym (c .before .before .before .check-sizes .ensures) ∙ c .before .enum-told .given .1) in
     (z .ordered .sides, (z .whole, z .enough))
@@ -41,16 +41,17 @@ same-length : tie.Need-same-length
 same-length c = search needs
 
 returns-2 : tie.Need-returns-2
-returns-2 c = 
-    let e = (sym (c .before .before .before .before .before .before .before .before .before .check-sizes .ensures) ∙ c .before .before .before .before .before .before .before .enum-told .given .1) in
-    (answer-refused _ _ (sym (after-good _ e (sym (c .before .cells .given .1) ∙ c .before .before .before .before .before .check-cells .ensures .0))),
-    answer-good _ _ e (c .before .before .before .before .before .check-cells .ensures .1))
+returns-2 c =
+    let e = (sym (c .before .before .before .before .before .before .before .before .before .check-sizes .ensures) ∙ c .before .before .before .before .before .before .before .enum-told .given .1) in (
+      answer-refused _ _ (sym (after-good _ e (sym (c .before .cells .given .1) ∙ c .before .before .before .before .before .check-cells .ensures .0))),
+      answer-good _ _ e (c .before .before .before .before .before .check-cells .ensures .1),
+    )
 
 enum-told-2 : tie.Need-enum-told-2
 enum-told-2 c = search needs
 
 cast-t14 : tie.Need-cast-t14
-cast-t14 c = 
+cast-t14 c =
     let a = c .before .before .before .before .before .before .before .before .before .before .before .args in
     let z = sized (a .p) (a .entry) (a .exit) (length (a .list .now)) (length (a .scratch .now)) (sym (c .before .before .before .before .before .before .before .before .check-sizes .ensures) ∙ c .before .before .before .before .before .before .enum-told .given .1) in
     let j = passed (a .p) (a .entry) (a .exit) (cellsIn (a .list .now)) (sym (c .before .before .before .before .check-cells .ensures .0) ∙ c .enum-told2 .given .1) in
@@ -60,11 +61,12 @@ same-length-2 : tie.Need-same-length-2
 same-length-2 c = search needs
 
 returns-3 : tie.Need-returns-3
-returns-3 c = 
-    let e = (sym (c .before .before .before .before .before .before .before .before .check-sizes .ensures) ∙ c .before .before .before .before .before .before .enum-told .given .1) in
-    (answer-good _ _ (sym (after-good _ e (sym (c .enum-told2 .given .1) ∙ c .before .before .before .before .check-cells .ensures .0)))
-    (ap (λ (k : ℕ). Accepted (record { 0 = k })) (sym (length-cells (c .before .before .before .before .before .before .before .before .before .before .before .args .list .now)))),
-    answer-good _ _ e (c .before .before .before .before .check-cells .ensures .1))
+returns-3 c =
+    let e = (sym (c .before .before .before .before .before .before .before .before .check-sizes .ensures) ∙ c .before .before .before .before .before .before .enum-told .given .1) in (
+      answer-good _ _ (sym (after-good _ e (sym (c .enum-told2 .given .1) ∙ c .before .before .before .before .check-cells .ensures .0)))
+          (ap (λ (k : ℕ). Accepted (record { 0 = k })) (sym (length-cells (c .before .before .before .before .before .before .before .before .before .before .before .args .list .now)))),
+      answer-good _ _ e (c .before .before .before .before .check-cells .ensures .1),
+    )
 
 pub judge-spec : {M : Type 1} → statement M
 judge-spec =

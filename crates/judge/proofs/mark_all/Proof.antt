@@ -15,7 +15,7 @@ use Rattle.judge.proofs.mark_all.Statement.{statement}
 use Rattle.judge.proofs.mark_all.Tie as tie
 
 abbrev Inv-loop : tie.InvT-loop
-Inv-loop p list scratch₀ i₀ scratch i = 
+Inv-loop p list scratch₀ i₀ scratch i =
     (i ≤ length list) × (length scratch ≡ length scratch₀) × (allOn p (cellsIn (drop i list)) ≡ true)
     × (fresh p scratch (cellsIn (drop i list)) ≡ noneTwice (cellsIn list))
     × (drop (area p) scratch ≡ drop (area p) scratch₀)
@@ -24,7 +24,7 @@ abbrev μ-loop : tie.MeasureT-loop
 μ-loop p list scratch₀ i₀ scratch i = length list - i
 
 loop-holds : tie.Need-loop-holds Inv-loop μ-loop
-loop-holds c = 
+loop-holds c =
     let s = c .before .before in
     (omega arith, refl, s .pre .1 .0, fresh-once (s .args .p) (s .args .scratch .now) {l = cellsIn (s .args .list .now)} (s .pre .1 .1 .0) (s .pre .1 .1 .1) (all-on (s .args .p) (cellsIn (s .args .list .now)) (s .pre .1 .0)), refl)
 
@@ -70,15 +70,16 @@ loop-less : tie.Need-loop-less Inv-loop μ-loop
 loop-less c = omega arith
 
 loop-again : tie.Need-loop-again Inv-loop μ-loop
-loop-again c = 
+loop-again c =
     let l = c .before .before .before .before .before .before .loop in
     let h = c .before .before .before .before .before .loop-test .taken in
-    let e = c .before .before .place-of .ensures in
-    (omega arith,
-    length-set (l .scratch) (c .before .before .place-of .result) 1 ∙ l .inv .1,
-    on-rest _ _ (l .i) h (l .inv .2),
-    mark-next _ _ (l .i) h (l .inv .2) _ e (l .inv .3) (c .if1 .left),
-    mark-keeps _ _ (l .i) h (l .inv .2) _ e (l .inv .4))
+    let e = c .before .before .place-of .ensures in (
+      omega arith,
+      length-set (l .scratch) (c .before .before .place-of .result) 1 ∙ l .inv .1,
+      on-rest _ _ (l .i) h (l .inv .2),
+      mark-next _ _ (l .i) h (l .inv .2) _ e (l .inv .3) (c .if1 .left),
+      mark-keeps _ _ (l .i) h (l .inv .2) _ e (l .inv .4),
+    )
 
 same-length-2 : tie.Need-same-length-2 Inv-loop μ-loop
 same-length-2 c = c .before .loop .inv .1
