@@ -2,10 +2,10 @@
 use mathlib.Core.Path.{_≡_, refl, sym, ap, subst, _∙_}
 use mathlib.Core.Bool.{Bool, true, false, not}
 use mathlib.Core.Logic.{_≢_}
-use mathlib.Core.List.{List}
+use mathlib.Core.List.{List, _++_}
 use Prim.Native.Nat.{ℕ, _≤_}
 use lib.Dec.{leb}
-use lib.ListN.{length}
+use lib.ListN.{length, drop, replicate}
 use borrow.Author.Tests.{not-true, leb-true, le-leb}
 use Rattle.grid.specs.declared.Panel.{Panel}
 use Rattle.grid.specs.declared.Cell.{Cell}
@@ -16,9 +16,11 @@ use Rattle.grid.specs.declared.Check.the-variants.{Good, Refused}
 use Rattle.grid.specs.Panel.{goodPanel, onPanel, OnPanel, sameCell}
 use Rattle.grid.specs.Check.{expect, after, checkPanel, checkEntry, checkOrder}
 use Rattle.grid.proofs.Facts.{on, is-on, same-ne, ne-same}
-use Rattle.grid.proofs.Tests.{expect-yes, after-good}
+use Rattle.grid.specs.Bytes.{cellsIn}
+use Rattle.grid.proofs.Tests.{expect-yes, after-good, after-refused, answer-good, answer-refused}
+use Rattle.judge.specs.declared.Judged.the-variants as answers
 use Rattle.judge.specs.List.{allOn, allSteps, noneTwice, runs}
-use Rattle.judge.specs.Judge.{area, wholeCells, sizesCheck, cellsCheck}
+use Rattle.judge.specs.Judge.{area, wholeCells, sizesCheck, cellsCheck, judgeOf, scratchAfter}
 
 abbrev isGood : Check → Type 0
 isGood Good = Unit {0}
@@ -118,3 +120,30 @@ is-passed {p} {s} {t} {l} j =
     (expect-yes _ _ (j .once)
     (expect-yes _ _ (le-leb (length l) (area p) (j .few))
     (expect-yes _ _ (j .ends) refl))))
+
+-- the call's answer and scratch, where the sizes are refused, where the cells are, and where all is good; z and d are what the two
+-- checks in the code gave
+module _ (p : Panel) (s t : Cell) (list scratch : List ℕ) {z : Check} (sizes : z ≡ sizesCheck p s t (length list) (length scratch)) where
+  pub sizes-refused : {r : Refusal} → z ≡ Refused r
+      → (answers.Refused r ≡ judgeOf p s t list (length scratch)) × (scratch ≡ scratchAfter p s t list scratch)
+  sizes-refused e = (answer-refused _ _ (sym (after-refused _ (sym sizes ∙ e))), answer-refused _ _ (sym sizes ∙ e))
+
+  module _ (g : z ≡ Good) where
+    pub sizes-good : Sized p s t (length list) (length scratch)
+    sizes-good = sized p s t (length list) (length scratch) (sym sizes ∙ g)
+
+    module _ {d : Check} (cells : d ≡ cellsCheck p s t (cellsIn list)) where
+      pub cells-good : d ≡ Good → Passed p s t (cellsIn list)
+      cells-good e = passed p s t (cellsIn list) (sym cells ∙ e)
+
+      module _ {left : List ℕ} (f : left ≡ replicate (area p) 0 ++ drop (area p) scratch) where
+        pub cells-refused : {r : Refusal} → d ≡ Refused r
+            → (answers.Refused r ≡ judgeOf p s t list (length scratch)) × (left ≡ scratchAfter p s t list scratch)
+        cells-refused e = (answer-refused _ _ (sym (after-good _ (sym sizes ∙ g) (sym e ∙ cells))), answer-good _ _ (sym sizes ∙ g) f)
+
+        pub all-good : {k : ℕ} → d ≡ Good → k ≡ length (cellsIn list)
+            → (answers.Accepted (record { 0 = k }) ≡ judgeOf p s t list (length scratch)) × (left ≡ scratchAfter p s t list scratch)
+        all-good e n = (
+          answer-good _ _ (sym (after-good _ (sym sizes ∙ g) (sym e ∙ cells))) (ap (λ (j : ℕ). answers.Accepted (record { 0 = j })) n),
+          answer-good _ _ (sym sizes ∙ g) f,
+        )

@@ -159,7 +159,8 @@ fn all_once(p: Panel, list: &[u8], scratch: &mut [u8]) -> bool
     ensures same { λ _. ⌜ now (scratch .exit) ≡ now (scratch .entry) ⌝ }
 {
     let once = mark_all(p, list, scratch);
-    clear(scratch, area_of(p));
+    let places = area_of(p);
+    clear(scratch, places);
     once
 }
 
@@ -227,8 +228,8 @@ pub fn judge(p: Panel, entry: Cell, exit: Cell, list: &[u8], scratch: &mut [u8])
         return Judged::Refused(r);
     }
     let cells = check_cells(p, entry, exit, list, scratch);
-    if let Check::Refused(r) = cells {
-        return Judged::Refused(r);
+    if let Check::Refused(fault) = cells {
+        return Judged::Refused(fault);
     }
     Judged::Accepted(Cells((list.len() / 2) as u32))
 }

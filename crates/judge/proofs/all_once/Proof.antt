@@ -1,5 +1,4 @@
 -- Marks stay among the panel's places, which were 0 and are cleared again (`restored`).
-use native.Mathlib.Omega.{arith}
 use Rattle.judge.proofs.Scratch.{restored}
 use borrow.Author.Needs.{needs}
 use Rattle.judge.proofs.all_once.Statement.{statement}
@@ -21,7 +20,7 @@ returns : tie.Need-returns
 returns c =
     let s = c .before .before .before .before .before .before .before .before .before .before .before in
     let m = c .before .before .before .before .before .before .before .mark-all in
-    (m .ensures .0, restored (c .before .before .before .area-of .ensures) (s .args .scratch .now) (m .last .1 .1 .0) (c .before .before .clear .ensures) (m .ensures .1) (s .pre .1 .1 .1))
+    (m .ensures .0, restored (c .before .before .before .before .area-of .ensures) (s .args .scratch .now) (m .last .1 .1 .0) (c .before .before .clear .ensures) (m .ensures .1) (s .pre .1 .1 .1))
 
 pub all-once-spec : {M : Type 1} → statement M
 all-once-spec =

@@ -1,21 +1,17 @@
+-- The distance is the one difference that is not cut off at 0.
 use native.Mathlib.Omega.{arith}
 use Rattle.grid.specs.Panel.{dist}
 use borrow.Author.Needs.{needs}
 use Rattle.judge.proofs.gap.Statement.{statement}
 use Rattle.judge.proofs.gap.Tie as tie
-use Rattle.judge.proofs.gap.Reads as reads
-use Rattle.judge.proofs.gap.Lts as lts
 
--- src/lib.rt:77:16
 sub-result : tie.Need-sub-result
 sub-result c = search needs
 
--- src/lib.rt:74:1
 returns : tie.Need-returns
 unfolding dist
 returns c = omega arith
 
--- src/lib.rt:74:1
 returns-2 : tie.Need-returns-2
 unfolding dist
 returns-2 c = omega arith

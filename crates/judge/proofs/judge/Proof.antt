@@ -1,13 +1,8 @@
 -- The tests of the sizes, then those of the cells; a count that is given is at most mn, so that it fits.
-use Prim.Native.Nat.{ℕ}
 use native.Mathlib.Omega.{arith}
-use mathlib.Core.Path.{refl, sym, ap, _∙_}
-use lib.ListN.{length}
-use Rattle.grid.specs.Bytes.{cellsIn}
+use mathlib.Core.Path.{sym}
 use Rattle.grid.proofs.Facts.{good}
-use Rattle.grid.proofs.Tests.{after-good, after-refused, answer-good, answer-refused}
-use Rattle.judge.specs.declared.Judged.the-variants.{Accepted}
-use Rattle.judge.proofs.Checks.{sized, passed}
+use Rattle.judge.proofs.Checks.{sizes-good, cells-good, sizes-refused, cells-refused, all-good}
 use Rattle.judge.proofs.Bytes.{length-cells}
 use Rattle.judge.proofs.Area.{area-small}
 use borrow.Author.Needs.{needs}
@@ -22,8 +17,8 @@ enum-known-sizes c = search needs
 
 returns : tie.Need-returns
 returns c =
-    let e = sym (c .before .before .before .check-sizes .ensures) ∙ c .before .sizes .given .1 in
-    (answer-refused _ _ (sym (after-refused _ e)), answer-refused _ _ e)
+    let a = c .before .before .before .before .before .before .args in
+    sizes-refused (a .p) (a .entry) (a .exit) (a .list .now) (a .scratch .now) (c .before .before .before .check-sizes .ensures) (c .before .sizes .given .1)
 
 enum-told : tie.Need-enum-told
 enum-told c = search needs
@@ -31,7 +26,7 @@ enum-told c = search needs
 check-cells-requires : tie.Need-check-cells-requires
 check-cells-requires c κs =
     let a = c .before .before .before .before .before .before .args in
-    let z = sized (a .p) (a .entry) (a .exit) (length (a .list .now)) (length (a .scratch .now)) (sym (c .before .before .before .check-sizes .ensures) ∙ c .before .enum-told .given .1) in
+    let z = sizes-good (a .p) (a .entry) (a .exit) (a .list .now) (a .scratch .now) (c .before .before .before .check-sizes .ensures) (c .before .enum-told .given .1) in
     (z .ordered .sides, (z .whole, z .enough))
 
 enum-known-cells : tie.Need-enum-known-cells
@@ -42,10 +37,9 @@ same-length c = search needs
 
 returns-2 : tie.Need-returns-2
 returns-2 c =
-    let e = (sym (c .before .before .before .before .before .before .before .before .before .check-sizes .ensures) ∙ c .before .before .before .before .before .before .before .enum-told .given .1) in (
-      answer-refused _ _ (sym (after-good _ e (sym (c .before .cells .given .1) ∙ c .before .before .before .before .before .check-cells .ensures .0))),
-      answer-good _ _ e (c .before .before .before .before .before .check-cells .ensures .1),
-    )
+    let a = c .before .before .before .before .before .before .before .before .before .before .before .before .args in
+    let d = c .before .before .before .before .before .check-cells in
+    cells-refused (a .p) (a .entry) (a .exit) (a .list .now) (a .scratch .now) (c .before .before .before .before .before .before .before .before .before .check-sizes .ensures) (c .before .before .before .before .before .before .before .enum-told .given .1) (d .ensures .0) (d .ensures .1) (c .before .cells .given .1)
 
 enum-told-2 : tie.Need-enum-told-2
 enum-told-2 c = search needs
@@ -53,8 +47,8 @@ enum-told-2 c = search needs
 cast-t14 : tie.Need-cast-t14
 cast-t14 c =
     let a = c .before .before .before .before .before .before .before .before .before .before .before .args in
-    let z = sized (a .p) (a .entry) (a .exit) (length (a .list .now)) (length (a .scratch .now)) (sym (c .before .before .before .before .before .before .before .before .check-sizes .ensures) ∙ c .before .before .before .before .before .before .enum-told .given .1) in
-    let j = passed (a .p) (a .entry) (a .exit) (cellsIn (a .list .now)) (sym (c .before .before .before .before .check-cells .ensures .0) ∙ c .enum-told2 .given .1) in
+    let z = sizes-good (a .p) (a .entry) (a .exit) (a .list .now) (a .scratch .now) (c .before .before .before .before .before .before .before .before .check-sizes .ensures) (c .before .before .before .before .before .before .enum-told .given .1) in
+    let j = cells-good (a .p) (a .entry) (a .exit) (a .list .now) (a .scratch .now) (c .before .before .before .before .before .before .before .before .check-sizes .ensures) (c .before .before .before .before .before .before .enum-told .given .1) (c .before .before .before .before .check-cells .ensures .0) (c .enum-told2 .given .1) in
     record { fits = omega (arith, j .few, area-small (good (a .p) (z .ordered .sides)), length-cells (a .list .now)) }
 
 same-length-2 : tie.Need-same-length-2
@@ -62,11 +56,9 @@ same-length-2 c = search needs
 
 returns-3 : tie.Need-returns-3
 returns-3 c =
-    let e = (sym (c .before .before .before .before .before .before .before .before .check-sizes .ensures) ∙ c .before .before .before .before .before .before .enum-told .given .1) in (
-      answer-good _ _ (sym (after-good _ e (sym (c .enum-told2 .given .1) ∙ c .before .before .before .before .check-cells .ensures .0)))
-          (ap (λ (k : ℕ). Accepted (record { 0 = k })) (sym (length-cells (c .before .before .before .before .before .before .before .before .before .before .before .args .list .now)))),
-      answer-good _ _ e (c .before .before .before .before .check-cells .ensures .1),
-    )
+    let a = c .before .before .before .before .before .before .before .before .before .before .before .args in
+    let d = c .before .before .before .before .check-cells in
+    all-good (a .p) (a .entry) (a .exit) (a .list .now) (a .scratch .now) (c .before .before .before .before .before .before .before .before .check-sizes .ensures) (c .before .before .before .before .before .before .enum-told .given .1) (d .ensures .0) (d .ensures .1) (c .enum-told2 .given .1) (sym (length-cells (a .list .now)))
 
 pub judge-spec : {M : Type 1} → statement M
 judge-spec =
