@@ -5,7 +5,6 @@ use grid::Cell;
 use grid::Panel;
 use judge::Judged;
 use libc::STDOUT_FILENO;
-ghost use Prim.Native.Nat.{_≤_};
 ghost use lib.ListN.{length};
 
 fn print(n: u64, end: &[u8]) {
