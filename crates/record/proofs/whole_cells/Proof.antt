@@ -1,15 +1,17 @@
+use borrow.Author.Tests.{le-leb, lt-leb}
+use mathlib.Core.Path.{refl}
+use Rattle.grid.proofs.Tests.{and-yes, and-no}
+use Rattle.record.specs.Write.{wholeCells}
 use Rattle.record.proofs.whole_cells.Statement.{statement}
 use Rattle.record.proofs.whole_cells.Tie as tie
-use Rattle.record.proofs.whole_cells.Reads as reads
-use Rattle.record.proofs.whole_cells.Lts as lts
 
--- src/lib.rt:114:9
 returns : tie.Need-returns
-returns c = ?
+unfolding wholeCells
+returns c = and-yes _ (le-leb _ _ (c .if1 .taken)) refl
 
--- src/lib.rt:110:1
 returns-2 : tie.Need-returns-2
-returns-2 c = ?
+unfolding wholeCells
+returns-2 c = and-no _ (lt-leb _ _ (c .if1 .left))
 
 pub whole-cells-spec : {M : Type 1} → statement M
 whole-cells-spec = tie.close (tie.spec returns returns-2)
