@@ -14,10 +14,10 @@ ghost use mathlib.Core.Path.{_≡_};
 ghost use mathlib.Core.Bool.{true};
 ghost use mathlib.Core.List.{_++_};
 ghost use Prim.Native.Nat.{_≤_, _<_, _+_, _*_};
-ghost use lib.ListN.{length, take, drop, getD};
+ghost use lib.ListN.{length, take, drop, set};
 ghost use Rattle.grid.specs.Panel.{OnPanel, dist, neighbours, onPanel, goodPanel};
 ghost use Rattle.grid.specs.Bytes.{bytes, cellsIn};
-ghost use Rattle.record.specs.Format.{letter, headOf, headLength, lettersOf, stepsOf, moveOf, largest, walkFrom};
+ghost use Rattle.record.specs.Format.{cellAt, letter, headOf, headLength, lettersOf, stepsOf, moveOf, largest, walkFrom};
 ghost use Rattle.record.specs.Write.{area, wholeCells, allOn, allNext, goodCount, checkList, checkWrite, recordLength, writeAnswer, writeBuffer};
 ghost use Rattle.record.specs.Read.{hasMark, panelIn, entryIn, stepsIn, lettersIn, cellsRead, goodSteps, checkHead, checkKnown, walkedOf, recordCells, checkRecord, readAnswer, readBuffer, lettersAnswer};
 
@@ -78,7 +78,7 @@ fn area_of(p: Panel) -> usize
 // The cell whose x stands at i.
 fn cell_at(list: &[u8], i: usize) -> Cell
     requires { ⌜ i + 1 < length (now list) ⌝ }
-    ensures { λ r. ⌜ r ≡ record { x = getD (now (list .entry)) i 0; y = getD (now (list .entry)) (i + 1) 0 } ⌝ }
+    ensures { λ r. ⌜ r ≡ cellAt (now (list .entry)) i ⌝ }
 {
     Cell {
         x: list[i] as u32,
@@ -376,13 +376,20 @@ fn find_record(file: &[u8]) -> Found
     Found::Record(cells)
 }
 
+fn put_cell(list: &mut [u8], i: usize, c: Cell)
+    requires { ⌜ (OnPanel largest c) × (i + 1 < length (now list)) ⌝ }
+    ensures { λ _. ⌜ now (list .exit) ≡ set (set (now (list .entry)) i (c .x)) (i + 1) (c .y) ⌝ }
+{
+    list[i] = c.x as u8;
+    list[i + 1] = c.y as u8;
+}
+
 // The cells that letters lead over, at the front of the buffer.
 fn write_cells(p: Panel, s: Cell, letters: &[u8], list: &mut [u8])
     requires { ⌜ (goodPanel p ≡ true) × (allOn p (walkFrom s (now letters)) ≡ true) × (2 * length (walkFrom s (now letters)) ≤ length (now list)) ⌝ }
     ensures { λ _. ⌜ now (list .exit) ≡ bytes (walkFrom s (now (letters .entry))) ++ drop (2 * length (walkFrom s (now (letters .entry)))) (now (list .entry)) ⌝ }
 {
-    list[0] = s.x as u8;
-    list[1] = s.y as u8;
+    put_cell(list, 0, s);
     let mut at = s;
     let mut i = 0;
     let mut j = 2;
@@ -391,8 +398,7 @@ fn write_cells(p: Panel, s: Cell, letters: &[u8], list: &mut [u8])
         let Moved::To(next) = m else {
             return;
         };
-        list[j] = next.x as u8;
-        list[j + 1] = next.y as u8;
+        put_cell(list, j, next);
         at = next;
         i += 1;
         j += 2;
