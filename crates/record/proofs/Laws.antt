@@ -3,24 +3,28 @@ use Prim.Native.Nat.{ℕ, suc, _+_, _-_, _*_, _/_, _^_, _≤_, _<_}
 use mathlib.Core.Path.{_≡_, refl, sym, ap, ap₂, _∙_, subst⁻¹}
 use mathlib.Core.Bool.{Bool, true, false, cond, _&&_, _||_}
 use mathlib.Core.List.{List, [], _∷_, _++_}
-use native.Mathlib.Nat.{lt-of-le-of-lt, le-of-lt, mul-le-mul-left, mul-lt-mul-of-pos-right}
+use native.Mathlib.Nat.{lt-of-le-of-lt, le-of-lt, mul-le-mul-left, mul-le-mul, mul-lt-mul-of-pos-right}
 use native.Mathlib.Numerals.{add-one}
 use native.Mathlib.Omega.{arith}
 use lib.Pow.{pow-pos, pow-add}
 use lib.Dec.{leb, ltb, eqb}
 use lib.ListN.{length, take, drop, getD, set, length-drop, length-set, take-append-drop}
-use lib.Seq.{drop-cons, take-suc-set, drop-set-lt, append-snoc}
+use lib.Seq.{drop-cons, take-suc-set, drop-set-lt, append-snoc, sets-eq}
 use borrow.Author.Tests.{eq-eqb, ne-eqb, eqb-true, eqb-false, le-leb, lt-leb, lt-ltb, le-ltb, leb-true, leb-false}
 use Rattle.grid.specs.declared.Cell.{Cell}
 use Rattle.grid.specs.declared.Panel.{Panel}
 use Rattle.grid.specs.declared.Refusal.{Refusal}
 use Rattle.grid.specs.declared.Refusal.the-variants.{UnknownByte}
+use Rattle.grid.specs.declared.Check.{Check}
+use Rattle.grid.specs.declared.Check.the-variants.{Good}
+use Rattle.grid.specs.Check.{checkPanel, checkEntry, expect, after}
 use Rattle.grid.specs.Panel.{OnPanel, dist, apart, neighbours, onPanel, goodPanel, upTo, maxSide}
 use Rattle.grid.specs.Bytes.{bytes, cellsIn}
 use Rattle.record.specs.declared.Moved.{Moved}
 use Rattle.record.specs.declared.Moved.the-variants.{Refused, To}
-use Rattle.record.specs.Format.{cellAt, letter, lettersFrom, lettersOf, stepsOf, known, moved, moveOf, largest, north, east, south, west, walkOn}
-use Rattle.record.specs.Write.{allOn, allNext, nextFrom}
+use Rattle.record.specs.Format.{headLength, cellAt, letter, lettersFrom, lettersOf, stepsOf, known, moved, moveOf, largest, north, east, south, west, walkOn}
+use Rattle.record.specs.Write.{area, allOn, allNext, nextFrom}
+use Rattle.record.specs.Read.{hasMark, panelIn, entryIn, stepsIn, goodSteps, checkHead}
 
 -- Numbers
 
@@ -248,3 +252,59 @@ put-cell l k n c r h m =
 
 pub put-done : (l : List ℕ) (k n : ℕ) → k ≡ n → take k l ++ drop n l ≡ l
 put-done l k n e = ap (λ (j : ℕ). take j l ++ drop n l) e ∙ take-append-drop n l
+
+-- all bytes of a head, one after the other
+pub put-head : (l : List ℕ) (a b c d e f g h : ℕ) → 8 ≤ length l
+    → set (set (set (set (set (set (set (set l 0 a) 1 b) 2 c) 3 d) 4 e) 5 f) 6 g) 7 h ≡ (a ∷ b ∷ c ∷ d ∷ e ∷ f ∷ g ∷ h ∷ []) ++ drop 8 l
+put-head l a b c d e f g h k = sets-eq (a ∷ b ∷ c ∷ d ∷ e ∷ f ∷ g ∷ h ∷ []) l 0 k
+
+-- What a check that finds nothing says
+
+pub expect-good : (b : Bool) (r : Refusal) (k : Check) → expect b r k ≡ Good → (b ≡ true) × (k ≡ Good)
+expect-good true r k e = (refl, e)
+expect-good false r k e = let z : _≡_ {A = ℕ} 0 1 = cc in (absurd (omega arith), absurd (omega arith))
+
+pub both-good : (c k : Check) → after c k ≡ Good → (c ≡ Good) × (k ≡ Good)
+both-good Good k e = (refl, e)
+both-good (Check.Refused r) k e = let z : _≡_ {A = ℕ} 0 1 = cc in (absurd (omega arith), absurd (omega arith))
+
+-- mn is at most 128 by 128
+pub area-bound : (p : Panel) → goodPanel p ≡ true → area p ≤ 16384
+unfolding area
+area-bound p g = let s = sides p g in mul-le-mul (s .wide) (s .high)
+
+-- what a head that is not refused says
+pub record GoodHead (f : List ℕ) : Type 0 where
+  pub mark : hasMark f ≡ true
+  pub long : headLength ≤ length f
+  pub panel : goodPanel (panelIn f) ≡ true
+  pub entry : onPanel (panelIn f) (entryIn f) ≡ true
+  pub some : 1 ≤ stepsIn f
+  pub few : stepsIn f < area (panelIn f)
+  pub whole : headLength + stepsIn f ≤ length f
+
+pub head-good : (f : List ℕ) → checkHead f ≡ Good → GoodHead f
+unfolding goodSteps
+head-good f e =
+    let h₁ = expect-good (hasMark f) _ _ e in
+    let h₂ = expect-good (leb headLength (length f)) _ _ (h₁ .1) in
+    let h₃ = both-good (checkEntry (panelIn f) (entryIn f)) _ (h₂ .1) in
+    let h₄ = both-good (checkPanel (panelIn f)) _ (h₃ .0) in
+    let h₅ = expect-good (goodPanel (panelIn f)) _ _ (h₄ .0) in
+    let h₆ = expect-good (onPanel (panelIn f) (entryIn f)) _ _ (h₄ .1) in
+    let h₇ = expect-good (goodSteps (panelIn f) (stepsIn f)) _ _ (h₃ .1) in
+    let h₈ = expect-good (leb (headLength + stepsIn f) (length f)) _ _ (h₇ .1) in
+    let k = both (leb 1 (stepsIn f)) (leb (stepsIn f) (area (panelIn f) - 1)) (h₇ .0) in
+    let low = leb-true 1 (stepsIn f) (k .0) in
+    record {
+      mark = h₁ .0;
+      long = leb-true _ _ (h₂ .0);
+      panel = h₅ .0;
+      entry = h₆ .0;
+      some = low;
+      few = below (stepsIn f) (area (panelIn f)) low (leb-true _ _ (k .1));
+      whole = leb-true _ _ (h₈ .0)
+    }
+  where
+    below : (k n : ℕ) → 1 ≤ k → k ≤ n - 1 → k < n
+    below k n a b = omega arith

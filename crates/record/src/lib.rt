@@ -263,6 +263,16 @@ fn head_in(file: &[u8]) -> Head
     }
 }
 
+// The stretch that holds the step letters.
+fn letters_in<'a>(file: &'a [u8]) -> &'a [u8]
+    requires { ⌜ headLength + stepsIn (now file) ≤ length (now file) ⌝ }
+    ensures { λ r. ⌜ now r ≡ lettersIn (now (file .entry)) ⌝ }
+{
+    let h = head_in(file);
+    let end = HEAD + h.steps.0 as usize;
+    &file[HEAD..end]
+}
+
 fn good_steps(p: Panel, steps: Steps) -> bool
     ensures { λ r. ⌜ r ≡ goodSteps p (steps .0) ⌝ }
 {
@@ -363,8 +373,7 @@ fn find_record(file: &[u8]) -> Found
     let h = head_in(file);
     let p = h.panel;
     let s = h.entry;
-    let end = HEAD + h.steps.0 as usize;
-    let letters = &file[HEAD..end];
+    let letters = letters_in(file);
     let d = check_known(s, letters);
     if let Check::Refused(r) = d {
         return Found::Refused(r);
@@ -385,8 +394,8 @@ fn put_cell(list: &mut [u8], i: usize, c: Cell)
 }
 
 // The cells that letters lead over, at the front of the buffer.
-fn write_cells(p: Panel, s: Cell, letters: &[u8], list: &mut [u8])
-    requires { ⌜ (goodPanel p ≡ true) × (allOn p (walkFrom s (now letters)) ≡ true) × (2 * length (walkFrom s (now letters)) ≤ length (now list)) ⌝ }
+fn write_cells(s: Cell, letters: &[u8], list: &mut [u8])
+    requires { ⌜ (allOn largest (walkFrom s (now letters)) ≡ true) × (2 * length (walkFrom s (now letters)) ≤ length (now list)) ⌝ }
     ensures { λ _. ⌜ now (list .exit) ≡ bytes (walkFrom s (now (letters .entry))) ++ drop (2 * length (walkFrom s (now (letters .entry)))) (now (list .entry)) ⌝ }
 {
     put_cell(list, 0, s);
@@ -418,9 +427,8 @@ pub fn read(file: &[u8], list: &mut [u8]) -> ReadBack
             if list.len() < 2 * (cells.0 as usize) {
                 return ReadBack::Refused(Refusal::ShortBuffer);
             }
-            let end = HEAD + h.steps.0 as usize;
-            write_cells(p, s, &file[HEAD..end], list);
-            ReadBack::Found(p, cells, end as u32)
+            write_cells(s, letters_in(file), list);
+            ReadBack::Found(p, cells, HEAD as u32 + h.steps.0)
         }
     }
 }
@@ -432,7 +440,5 @@ pub fn letters<'a>(file: &'a [u8]) -> &'a [u8]
     if let Found::Refused(_) = f {
         return &file[..0];
     }
-    let h = head_in(file);
-    let end = HEAD + h.steps.0 as usize;
-    &file[HEAD..end]
+    letters_in(file)
 }
