@@ -91,6 +91,23 @@ abbrev pub readBuffer : List ℕ → List ℕ → List ℕ
 readBuffer f list =
     answer (checkRead f list) (λ r. list) (bytes (cellsRead f) ++ drop (2 * length (cellsRead f)) list)
 
+-- what the answer stands for: panel, cell count and record length, all 0 if refused
+abbrev pub panelGiven : ReadBack → Panel
+panelGiven (ReadBack.Refused r) = record { width = 0; height = 0 }
+panelGiven (ReadBack.Found p n k) = p
+
+abbrev pub cellsGiven : ReadBack → ℕ
+cellsGiven (ReadBack.Refused r) = 0
+cellsGiven (ReadBack.Found p n k) = n .0
+
+abbrev pub lengthGiven : ReadBack → ℕ
+lengthGiven (ReadBack.Refused r) = 0
+lengthGiven (ReadBack.Found p n k) = k
+
+-- the list read: x and y for as many cells as Read says
+abbrev pub listRead : List ℕ → List ℕ → List ℕ
+listRead f list = take (2 * cellsGiven (readAnswer f list)) (readBuffer f list)
+
 -- the letters; empty if refused
 abbrev pub lettersAnswer : List ℕ → List ℕ
 lettersAnswer f = answer (checkRecord f) (λ r. []) (lettersIn f)

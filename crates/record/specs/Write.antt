@@ -2,7 +2,7 @@
 use Prim.Native.Nat.{ℕ, _+_, _*_, _%_}
 use mathlib.Core.Bool.{Bool, true, _&&_}
 use mathlib.Core.List.{List, [], _∷_, _++_}
-use lib.ListN.{length, drop}
+use lib.ListN.{length, take, drop}
 use lib.Dec.{leb, eqb}
 use Rattle.grid.specs.declared.Panel.{Panel}
 use Rattle.grid.specs.declared.Cell.{Cell}
@@ -76,3 +76,7 @@ writeBuffer p list out =
 abbrev pub bytesWritten : Written → ℕ
 bytesWritten (Refused r) = 0
 bytesWritten (Bytes k) = k
+
+-- what Write makes: the bytes that it says it has written
+abbrev pub recordMade : Panel → List ℕ → List ℕ → List ℕ
+recordMade p list out = take (bytesWritten (writeAnswer p list out)) (writeBuffer p list out)
