@@ -1,0 +1,1 @@
+// Corner tracks: from a corner of a rectangle to any cell of it.
