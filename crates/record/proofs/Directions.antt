@@ -14,7 +14,8 @@ use Rattle.grid.specs.declared.Panel.{Panel}
 use Rattle.grid.specs.Panel.{dist, apart, neighbours, onPanel, OnPanel}
 use Rattle.record.specs.Format.{north, east, south, west, letter, lettersFrom, known, moved, allKnown, walkOn, walkFrom}
 use Rattle.record.specs.Write.{allOn, nextFrom}
-use Rattle.record.proofs.Laws.{both, on-panel-is}
+use Rattle.grid.proofs.Facts.{on as on-panel-is}
+use Rattle.record.proofs.Laws.{both}
 
 pub letter-known : (a b : Cell) → known (letter a b) ≡ true
 unfolding known letter

@@ -29,14 +29,13 @@ use Rattle.record.specs.declared.ReadBack.{ReadBack}
 use Rattle.record.specs.Format.{headLength, markHigh, markLow, headOf, recordOf, lettersFrom, lettersOf, allKnown, walkOn, walkFrom}
 use Rattle.record.specs.Write.{area, wholeCells, allOn, allNext, goodCount, checkList, checkWrite, recordLength, writeAnswer, writeBuffer, bytesWritten, recordMade}
 use Rattle.record.specs.Read.{hasMark, panelIn, entryIn, stepsIn, lettersIn, cellsRead, goodSteps, checkHead, checkKnown, checkLetters, checkRecord, checkRead, readAnswer, readBuffer, panelGiven, cellsGiven, lengthGiven, listRead, lettersAnswer}
-use Rattle.record.proofs.Laws.{both, both-good, expect-good, GoodHead, GoodRecord, GoodList, record-good, list-good, length-letters-from, length-walk, length-bytes}
+use Rattle.grid.proofs.Bytes.{length-bytes, cells-bytes}
+use Rattle.record.proofs.Laws.{both}
+use Rattle.record.proofs.Lists.{length-letters-from, length-walk}
+use Rattle.record.proofs.Checks.{both-good, expect-good, GoodHead, GoodRecord, GoodList, record-good, list-good}
 use Rattle.record.proofs.Directions.{known-letters, walk-letters, letters-walk}
 
 -- Bytes and cells
-
-cells-bytes : (l : List Cell) → cellsIn (bytes l) ≡ l
-cells-bytes [] = refl
-cells-bytes (c ∷ l) = ap (λ (k : List Cell). c ∷ k) (cells-bytes l)
 
 bytes-cells : (b : List ℕ) → length b % 2 ≡ 0 → bytes (cellsIn b) ≡ b
 bytes-cells [] e = refl

@@ -10,7 +10,8 @@ use denote.Ref.{now}
 use Rattle.grid.specs.Panel.{neighbours}
 use Rattle.grid.specs.Bytes.{cellsIn}
 use Rattle.record.specs.Write.{allNext}
-use Rattle.record.proofs.Laws.{next-more, next-end, stops, goes-on}
+use Rattle.record.proofs.Laws.{stops, goes-on}
+use Rattle.record.proofs.Lists.{next-more, next-end}
 use Rattle.record.proofs.all_next.Statement.{statement}
 use Rattle.record.proofs.all_next.Tie as tie
 

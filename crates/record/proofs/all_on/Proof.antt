@@ -9,7 +9,8 @@ use denote.Ref.{now}
 use Rattle.grid.specs.Panel.{onPanel}
 use Rattle.grid.specs.Bytes.{cellsIn}
 use Rattle.record.specs.Write.{allOn}
-use Rattle.record.proofs.Laws.{cells-more, cells-end, stops, goes-on}
+use Rattle.record.proofs.Laws.{stops, goes-on}
+use Rattle.record.proofs.Lists.{cells-more, cells-end}
 use Rattle.record.proofs.all_on.Statement.{statement}
 use Rattle.record.proofs.all_on.Tie as tie
 

@@ -8,7 +8,8 @@ use denote.Ref.{now}
 use Rattle.grid.proofs.Tests.{expect-yes, expect-no}
 use Rattle.grid.specs.declared.Check.the-variants.{Refused}
 use Rattle.record.specs.Format.{allKnown, known}
-use Rattle.record.proofs.Laws.{bytes-more, bytes-end, byte-refused, byte-moves, stops, goes-on}
+use Rattle.record.proofs.Laws.{byte-refused, byte-moves, stops, goes-on}
+use Rattle.record.proofs.Lists.{bytes-more, bytes-end}
 use Rattle.record.proofs.check_known.Statement.{statement}
 use Rattle.record.proofs.check_known.Tie as tie
 

@@ -13,7 +13,7 @@ use Rattle.grid.specs.declared.Refusal.the-variants.{ListLength, CellOff, NotNe
 use Rattle.grid.specs.Bytes.{cellsIn}
 use Rattle.grid.specs.Check.{checkPanel, expect, after}
 use Rattle.record.specs.Write.{wholeCells, allOn, allNext, goodCount}
-use Rattle.record.proofs.Laws.{length-cells}
+use Rattle.record.proofs.Lists.{length-cells}
 use Rattle.record.proofs.check_list.Statement.{statement}
 use Rattle.record.proofs.check_list.Tie as tie
 

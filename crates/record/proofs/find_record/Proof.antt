@@ -17,7 +17,8 @@ use Rattle.record.specs.declared.Found.{Found}
 use Rattle.record.specs.declared.Found.the-variants.{Record}
 use Rattle.record.specs.Format.{largest, headLength}
 use Rattle.record.specs.Read.{panelIn, entryIn, stepsIn, lettersIn, checkHead, checkKnown, walkedOf}
-use Rattle.record.proofs.Laws.{GoodHead, head-good, on-largest, steps-bound, walked-on, walked-off}
+use Rattle.record.proofs.Laws.{on-largest}
+use Rattle.record.proofs.Checks.{GoodHead, head-good, steps-bound, walked-on, walked-off}
 use borrow.Author.Needs.{needs}
 use Rattle.record.proofs.find_record.Statement.{statement}
 use Rattle.record.proofs.find_record.Tie as tie

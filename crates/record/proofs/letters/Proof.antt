@@ -4,7 +4,7 @@ use denote.Ref.{now}
 use Rattle.grid.proofs.Tests.{answer-good, answer-refused}
 use Rattle.grid.specs.declared.Check.the-variants.{Good}
 use Rattle.record.specs.Read.{checkRecord}
-use Rattle.record.proofs.Laws.{found-refused, found-record, record-good}
+use Rattle.record.proofs.Checks.{found-refused, found-record, record-good}
 use borrow.Author.Needs.{needs}
 use Rattle.record.proofs.letters.Statement.{statement}
 use Rattle.record.proofs.letters.Tie as tie

@@ -19,7 +19,8 @@ use Rattle.record.specs.declared.ReadBack.{ReadBack}
 use Rattle.record.specs.Format.{headLength, largest, walkFrom}
 use Rattle.record.specs.Write.{allOn}
 use Rattle.record.specs.Read.{panelIn, stepsIn, cellsRead, checkRecord, checkRead}
-use Rattle.record.proofs.Laws.{GoodRecord, record-good, found-refused, found-record, steps-bound, all-on-largest}
+use Rattle.record.proofs.Laws.{all-on-largest}
+use Rattle.record.proofs.Checks.{GoodRecord, record-good, found-refused, found-record, steps-bound}
 use Rattle.record.proofs.read.Statement.{statement}
 use Rattle.record.proofs.read.Tie as tie
 

@@ -12,7 +12,8 @@ use Rattle.grid.specs.Panel.{OnPanel, onPanel}
 use Rattle.record.specs.declared.Walked.the-variants.{On}
 use Rattle.record.specs.Format.{largest, walkFrom, walkOn}
 use Rattle.record.specs.Write.{allOn}
-use Rattle.record.proofs.Laws.{bytes-end, walk-more, length-walk, byte-refused, byte-moves, unknown-off, on-largest, stops, goes-on}
+use Rattle.record.proofs.Laws.{byte-refused, byte-moves, unknown-off, on-largest, stops, goes-on}
+use Rattle.record.proofs.Lists.{bytes-end, walk-more, length-walk}
 use Rattle.record.proofs.walk.Statement.{statement}
 use Rattle.record.proofs.walk.Tie as tie
 

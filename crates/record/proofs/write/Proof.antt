@@ -19,7 +19,9 @@ use Rattle.grid.specs.Bytes.{cellsIn}
 use Rattle.record.specs.declared.Written.{Written}
 use Rattle.record.specs.Format.{headLength, cellAt, headOf, lettersOf, stepsOf}
 use Rattle.record.specs.Write.{allOn, checkList, checkWrite, recordLength}
-use Rattle.record.proofs.Laws.{GoodList, list-good, area-bound, length-cells, cells-more, both, steps-and-one, record-made}
+use Rattle.record.proofs.Laws.{both}
+use Rattle.record.proofs.Lists.{length-cells, cells-more, steps-and-one, record-made}
+use Rattle.record.proofs.Checks.{GoodList, list-good, area-bound}
 use Rattle.record.proofs.write.Statement.{statement}
 use Rattle.record.proofs.write.Tie as tie
 

@@ -12,7 +12,9 @@ use Rattle.grid.specs.Panel.{OnPanel, onPanel}
 use Rattle.grid.specs.Bytes.{bytes}
 use Rattle.record.specs.Format.{largest, moved, walkFrom, walkOn}
 use Rattle.record.specs.Write.{allOn}
-use Rattle.record.proofs.Laws.{both, bytes-end, walk-more, length-walk, byte-refused, byte-moves, unknown-off, on-panel-is, put-cell, put-done}
+use Rattle.grid.proofs.Facts.{on as on-panel-is}
+use Rattle.record.proofs.Laws.{both, byte-refused, byte-moves, unknown-off}
+use Rattle.record.proofs.Lists.{bytes-end, walk-more, length-walk, put-cell, put-done}
 use Rattle.record.proofs.write_cells.Statement.{statement}
 use Rattle.record.proofs.write_cells.Tie as tie
 

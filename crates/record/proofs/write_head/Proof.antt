@@ -4,7 +4,9 @@ use lib.ListN.{length-set}
 use denote.Ref.{now}
 use Rattle.grid.specs.Panel.{OnPanel}
 use Rattle.record.specs.Format.{largest}
-use Rattle.record.proofs.Laws.{put-head, sides, on-largest}
+use Rattle.grid.proofs.Facts.{good}
+use Rattle.record.proofs.Laws.{on-largest}
+use Rattle.record.proofs.Lists.{put-head}
 use borrow.Author.Needs.{needs}
 use Rattle.record.proofs.write_head.Statement.{statement}
 use Rattle.record.proofs.write_head.Tie as tie
@@ -19,13 +21,13 @@ slice-write-out-2 : tie.Need-slice-write-out-2
 slice-write-out-2 c = simp length-set (omega arith)
 
 cast-out : tie.Need-cast-out
-cast-out c = let s = sides (c .before .args .p) (c .before .pre .0) in omega arith
+cast-out c = let s = good (c .before .args .p) (c .before .pre .0) in omega arith
 
 slice-write-out-3 : tie.Need-slice-write-out-3
 slice-write-out-3 c = simp length-set (omega arith)
 
 cast-out-2 : tie.Need-cast-out-2
-cast-out-2 c = let s = sides (c .before .before .args .p) (c .before .before .pre .0) in omega arith
+cast-out-2 c = let s = good (c .before .before .args .p) (c .before .before .pre .0) in omega arith
 
 slice-write-out-4 : tie.Need-slice-write-out-4
 slice-write-out-4 c = simp length-set (omega arith)

@@ -9,7 +9,7 @@ use denote.Ref.{now}
 use Rattle.grid.specs.Bytes.{cellsIn}
 use Rattle.record.specs.Format.{headLength, cellAt, letter, lettersOf}
 use Rattle.record.specs.Write.{recordLength}
-use Rattle.record.proofs.Laws.{letters-more, letters-end, length-letters, put-byte, put-done}
+use Rattle.record.proofs.Lists.{letters-more, letters-end, length-letters, put-byte, put-done}
 use Rattle.record.proofs.write_letters.Statement.{statement}
 use Rattle.record.proofs.write_letters.Tie as tie
 
