@@ -1,36 +1,30 @@
 -- What a check says that refuses nothing, and what the answer of a part of Read says of the check.
-use Prim.Native.Nat.{ℕ, suc, _+_, _-_, _*_, _/_, _^_, _≤_, _<_}
-use mathlib.Core.Path.{_≡_, refl, sym, ap, ap₂, _∙_, subst⁻¹}
-use mathlib.Core.Bool.{Bool, true, false, cond, _&&_, _||_}
-use mathlib.Core.List.{List, [], _∷_, _++_}
-use native.Mathlib.Nat.{lt-of-le-of-lt, le-of-lt, mul-le-mul-left, mul-le-mul, mul-lt-mul-of-pos-right}
-use native.Mathlib.Numerals.{add-one}
+use Prim.Native.Nat.{ℕ, _+_, _-_, _≤_, _<_}
+use mathlib.Core.Path.{_≡_, refl}
+use mathlib.Core.Bool.{Bool, true, false, cond}
+use mathlib.Core.List.{List}
+use native.Mathlib.Nat.{mul-le-mul}
 use native.Mathlib.Omega.{arith}
-use lib.Pow.{pow-pos, pow-add}
-use lib.Dec.{leb, ltb, eqb}
-use lib.ListN.{length, take, drop, getD, set, length-drop, length-set, take-append-drop}
-use lib.Seq.{drop-cons, take-suc-set, drop-set-lt, append-snoc, sets-eq, drop-append-add, drop-drop}
-use borrow.Author.Tests.{eq-eqb, ne-eqb, eqb-true, eqb-false, le-leb, lt-leb, lt-ltb, le-ltb, leb-true, leb-false}
+use lib.Dec.{leb}
+use lib.ListN.{length}
+use borrow.Author.Tests.{leb-true}
 use Rattle.grid.specs.declared.Cell.{Cell}
 use Rattle.grid.specs.declared.Panel.{Panel}
 use Rattle.grid.specs.declared.Refusal.{Refusal}
-use Rattle.grid.specs.declared.Refusal.the-variants.{UnknownByte}
 use Rattle.grid.specs.declared.Cells.{Cells}
 use Rattle.grid.specs.declared.Check.{Check}
 use Rattle.grid.specs.declared.Check.the-variants.{Good}
 use Rattle.grid.specs.Check.{checkPanel, checkEntry, expect, after, answer}
-use Rattle.grid.proofs.Tests.{and-yes}
-use Rattle.grid.specs.Panel.{OnPanel, dist, apart, neighbours, onPanel, goodPanel, upTo, maxSide}
-use Rattle.grid.specs.Bytes.{bytes, cellsIn}
-use Rattle.record.specs.declared.Moved.{Moved}
-use Rattle.record.specs.declared.Moved.the-variants.{Refused, To}
+use Rattle.grid.specs.Panel.{onPanel, goodPanel}
+use Rattle.grid.specs.Bytes.{cellsIn}
+use Rattle.record.specs.declared.Moved.the-variants.{Refused}
 use Rattle.record.specs.declared.Walked.the-variants.{On, Off}
 use Rattle.record.specs.declared.Found.{Found}
 use Rattle.record.specs.declared.Found.the-variants.{Record}
-use Rattle.record.specs.Format.{headLength, cellAt, letter, lettersFrom, lettersOf, stepsOf, headOf, recordOf, known, moved, moveOf, largest, north, east, south, west, allKnown, walkOn, walkFrom}
-use Rattle.record.specs.Write.{area, wholeCells, allOn, allNext, goodCount, checkList, recordLength}
+use Rattle.record.specs.Format.{headLength, allKnown, walkFrom}
+use Rattle.record.specs.Write.{area, wholeCells, allOn, allNext, goodCount, checkList}
 use Rattle.record.specs.Read.{hasMark, panelIn, entryIn, stepsIn, lettersIn, cellsRead, goodSteps, checkHead, checkKnown, checkLetters, checkRecord, walkedOf, recordCells}
-use Rattle.grid.proofs.Facts.{and-left, and-right, and-both, good, on, is-on}
+use Rattle.grid.proofs.Facts.{good, on}
 use Rattle.record.proofs.Laws.{both}
 
 -- What a check that finds nothing says
@@ -78,7 +72,7 @@ head-good f e =
       entry = h₆ .0;
       some = low;
       few = below (stepsIn f) (area (panelIn f)) low (leb-true _ _ (k .1));
-      whole = leb-true _ _ (h₈ .0)
+      whole = leb-true _ _ (h₈ .0);
     }
   where
     below : (k n : ℕ) → 1 ≤ k → k ≤ n - 1 → k < n
@@ -97,7 +91,7 @@ record-good f e =
     record {
       head = head-good f (h .0);
       letters = expect-good (allKnown (lettersIn f)) _ _ (k .0) .0;
-      cells = expect-good (allOn (panelIn f) (cellsRead f)) _ _ (k .1) .0
+      cells = expect-good (allOn (panelIn f) (cellsRead f)) _ _ (k .1) .0;
     }
 
 -- the step count of a good head has two bytes to spare
@@ -127,7 +121,7 @@ list-good p list e =
       on = h₄ .0;
       next = h₅ .0;
       some = leb-true _ _ (k .0);
-      few = leb-true _ _ (k .1)
+      few = leb-true _ _ (k .1);
     }
 
 -- What the answer of a part of Read says

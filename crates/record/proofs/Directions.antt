@@ -1,17 +1,16 @@
 -- Letters and steps undo each other: the letter of a step to a neighbour leads to that neighbour, and a letter is that of the step
 -- it makes. Along a list and along letters, by induction.
-use Prim.Native.Nat.{ℕ, suc, _+_, _-_, _*_, _≤_, _<_}
+use Prim.Native.Nat.{ℕ, _+_, _-_, _≤_, _<_}
 use mathlib.Core.Path.{_≡_, refl, sym, ap, _∙_, subst⁻¹}
 use mathlib.Core.Bool.{Bool, true, false, cond, _||_}
-use mathlib.Core.List.{List, [], _∷_, _++_}
+use mathlib.Core.List.{List, [], _∷_}
 use native.Mathlib.Omega.{arith}
-use lib.ListN.{length}
 use lib.Dec.{ltb, eqb}
 use borrow.Author.Tests.{eqb-true, eq-eqb, lt-ltb, le-ltb, ltb-true, ltb-false}
 use Rattle.grid.proofs.Tests.{and-yes, cond-yes, cond-no}
 use Rattle.grid.specs.declared.Cell.{Cell}
 use Rattle.grid.specs.declared.Panel.{Panel}
-use Rattle.grid.specs.Panel.{dist, apart, neighbours, onPanel, OnPanel}
+use Rattle.grid.specs.Panel.{dist, apart, neighbours, onPanel}
 use Rattle.record.specs.Format.{north, east, south, west, letter, lettersFrom, known, moved, allKnown, walkOn, walkFrom}
 use Rattle.record.specs.Write.{allOn, nextFrom}
 use Rattle.grid.proofs.Facts.{on as on-panel-is}
@@ -63,6 +62,7 @@ moved-letter a b e = at (ltb (b .y) (a .y)) (ltb (a .x) (b .x)) (ltb (a .y) (b .
   where
     one : dist (a .x) (b .x) + dist (a .y) (b .y) ≡ 1
     one = eqb-true _ 1 e
+
     at : (n e s : Bool) → ltb (b .y) (a .y) ≡ n → ltb (a .x) (b .x) ≡ e → ltb (a .y) (b .y) ≡ s
         → moved a (cond n north (cond e east (cond s south west))) ≡ b
     at true e s h i j =

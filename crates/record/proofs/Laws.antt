@@ -1,35 +1,21 @@
 -- Numbers, tests, cells and letters: laws that the proofs of the functions and the theorems on records share.
-use Prim.Native.Nat.{ℕ, suc, _+_, _-_, _*_, _/_, _^_, _≤_, _<_}
-use mathlib.Core.Path.{_≡_, refl, sym, ap, ap₂, _∙_, subst⁻¹}
+use Prim.Native.Nat.{ℕ, _+_, _-_, _*_, _^_, _≤_, _<_}
+use mathlib.Core.Path.{_≡_, refl, sym, ap, _∙_, subst⁻¹}
 use mathlib.Core.Bool.{Bool, true, false, cond, _&&_, _||_}
-use mathlib.Core.List.{List, [], _∷_, _++_}
-use native.Mathlib.Nat.{lt-of-le-of-lt, le-of-lt, mul-le-mul-left, mul-le-mul, mul-lt-mul-of-pos-right}
-use native.Mathlib.Numerals.{add-one}
+use mathlib.Core.List.{List, [], _∷_}
+use native.Mathlib.Nat.{lt-of-le-of-lt, le-of-lt, mul-le-mul-left, mul-lt-mul-of-pos-right}
 use native.Mathlib.Omega.{arith}
 use lib.Pow.{pow-pos, pow-add}
 use lib.Dec.{leb, ltb, eqb}
-use lib.ListN.{length, take, drop, getD, set, length-drop, length-set, take-append-drop}
-use lib.Seq.{drop-cons, take-suc-set, drop-set-lt, append-snoc, sets-eq, drop-append-add, drop-drop}
-use borrow.Author.Tests.{eq-eqb, ne-eqb, eqb-true, eqb-false, le-leb, lt-leb, lt-ltb, le-ltb, leb-true, leb-false}
+use borrow.Author.Tests.{eq-eqb, ne-eqb, eqb-true, eqb-false, lt-ltb, le-ltb, leb-true, leb-false}
 use Rattle.grid.specs.declared.Cell.{Cell}
 use Rattle.grid.specs.declared.Panel.{Panel}
 use Rattle.grid.specs.declared.Refusal.{Refusal}
 use Rattle.grid.specs.declared.Refusal.the-variants.{UnknownByte}
-use Rattle.grid.specs.declared.Cells.{Cells}
-use Rattle.grid.specs.declared.Check.{Check}
-use Rattle.grid.specs.declared.Check.the-variants.{Good}
-use Rattle.grid.specs.Check.{checkPanel, checkEntry, expect, after, answer}
-use Rattle.grid.proofs.Tests.{and-yes}
-use Rattle.grid.specs.Panel.{OnPanel, dist, apart, neighbours, onPanel, goodPanel, upTo, maxSide}
-use Rattle.grid.specs.Bytes.{bytes, cellsIn}
-use Rattle.record.specs.declared.Moved.{Moved}
+use Rattle.grid.specs.Panel.{OnPanel, dist, apart, neighbours, onPanel, goodPanel}
 use Rattle.record.specs.declared.Moved.the-variants.{Refused, To}
-use Rattle.record.specs.declared.Walked.the-variants.{On, Off}
-use Rattle.record.specs.declared.Found.{Found}
-use Rattle.record.specs.declared.Found.the-variants.{Record}
-use Rattle.record.specs.Format.{headLength, cellAt, letter, lettersFrom, lettersOf, stepsOf, headOf, recordOf, known, moved, moveOf, largest, north, east, south, west, allKnown, walkOn, walkFrom}
-use Rattle.record.specs.Write.{area, wholeCells, allOn, allNext, goodCount, checkList, recordLength}
-use Rattle.record.specs.Read.{hasMark, panelIn, entryIn, stepsIn, lettersIn, cellsRead, goodSteps, checkHead, checkKnown, checkLetters, checkRecord, walkedOf, recordCells}
+use Rattle.record.specs.Format.{known, moved, moveOf, largest, north, east, south, west}
+use Rattle.record.specs.Write.{allOn}
 use Rattle.grid.proofs.Facts.{and-left, and-right, and-both, good, on, is-on}
 
 -- Numbers
@@ -114,6 +100,7 @@ unknown-off p c b = by-case (eqb b north) (eqb b east) (eqb b south) (eqb b west
         (cond s (record { x = c .x; y = c .y + 1 })
         (cond w (record { x = c .x - 1; y = c .y })
         (record { x = 0; y = 0 }))))
+
     by-case : (n e s w : Bool) → (n || (e || (s || w))) ≡ false → onPanel p (to n e s w) ≡ false
     by-case false false false false h = refl
     by-case false false false true h = let z : _≡_ {A = ℕ} 0 1 = cc in absurd (omega arith)

@@ -1,37 +1,18 @@
 -- Lists walked from the front: what stands at a place and what is left behind it, and buffers that are filled so.
-use Prim.Native.Nat.{ℕ, suc, _+_, _-_, _*_, _/_, _^_, _≤_, _<_}
+use Prim.Native.Nat.{ℕ, suc, _+_, _/_, _≤_, _<_}
 use mathlib.Core.Path.{_≡_, refl, sym, ap, ap₂, _∙_, subst⁻¹}
-use mathlib.Core.Bool.{Bool, true, false, cond, _&&_, _||_}
+use mathlib.Core.Bool.{true, _&&_}
 use mathlib.Core.List.{List, [], _∷_, _++_}
-use native.Mathlib.Nat.{lt-of-le-of-lt, le-of-lt, mul-le-mul-left, mul-le-mul, mul-lt-mul-of-pos-right}
 use native.Mathlib.Numerals.{add-one}
 use native.Mathlib.Omega.{arith}
-use lib.Pow.{pow-pos, pow-add}
-use lib.Dec.{leb, ltb, eqb}
 use lib.ListN.{length, take, drop, getD, set, length-drop, length-set, take-append-drop}
 use lib.Seq.{drop-cons, take-suc-set, drop-set-lt, append-snoc, sets-eq, drop-append-add, drop-drop}
-use borrow.Author.Tests.{eq-eqb, ne-eqb, eqb-true, eqb-false, le-leb, lt-leb, lt-ltb, le-ltb, leb-true, leb-false}
 use Rattle.grid.specs.declared.Cell.{Cell}
 use Rattle.grid.specs.declared.Panel.{Panel}
-use Rattle.grid.specs.declared.Refusal.{Refusal}
-use Rattle.grid.specs.declared.Refusal.the-variants.{UnknownByte}
-use Rattle.grid.specs.declared.Cells.{Cells}
-use Rattle.grid.specs.declared.Check.{Check}
-use Rattle.grid.specs.declared.Check.the-variants.{Good}
-use Rattle.grid.specs.Check.{checkPanel, checkEntry, expect, after, answer}
-use Rattle.grid.proofs.Tests.{and-yes}
-use Rattle.grid.specs.Panel.{OnPanel, dist, apart, neighbours, onPanel, goodPanel, upTo, maxSide}
-use Rattle.grid.specs.Bytes.{bytes, cellsIn}
-use Rattle.record.specs.declared.Moved.{Moved}
-use Rattle.record.specs.declared.Moved.the-variants.{Refused, To}
-use Rattle.record.specs.declared.Walked.the-variants.{On, Off}
-use Rattle.record.specs.declared.Found.{Found}
-use Rattle.record.specs.declared.Found.the-variants.{Record}
-use Rattle.record.specs.Format.{headLength, cellAt, letter, lettersFrom, lettersOf, stepsOf, headOf, recordOf, known, moved, moveOf, largest, north, east, south, west, allKnown, walkOn, walkFrom}
-use Rattle.record.specs.Write.{area, wholeCells, allOn, allNext, goodCount, checkList, recordLength}
-use Rattle.record.specs.Read.{hasMark, panelIn, entryIn, stepsIn, lettersIn, cellsRead, goodSteps, checkHead, checkKnown, checkLetters, checkRecord, walkedOf, recordCells}
-use Rattle.grid.proofs.Facts.{and-left, and-right, and-both, good, on, is-on}
-use Rattle.record.proofs.Laws.{both}
+use Rattle.grid.specs.Panel.{neighbours}
+use Rattle.grid.specs.Bytes.{cellsIn}
+use Rattle.record.specs.Format.{headLength, cellAt, letter, lettersFrom, lettersOf, stepsOf, headOf, recordOf, moved, walkOn}
+use Rattle.record.specs.Write.{allNext, recordLength}
 
 -- Lists
 

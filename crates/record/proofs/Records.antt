@@ -4,15 +4,15 @@
 --   read-empty     Read with an empty buffer gives 5 exactly where Letters is not refused
 --   letters-read   what Letters hands back are the letters of the list read
 use Prim.Native.Nat.{ℕ, suc, _+_, _-_, _*_, _/_, _%_, _≤_, _<_}
-use mathlib.Core.Path.{_≡_, refl, sym, ap, ap₂, _∙_, subst⁻¹}
+use mathlib.Core.Path.{_≡_, refl, sym, ap, ap₂, _∙_}
 use mathlib.Core.Bool.{Bool, true, false}
 use mathlib.Core.Logic.{_↔_}
 use mathlib.Core.List.{List, [], _∷_, _++_}
 use native.Mathlib.Omega.{arith}
-use lib.ListN.{length, take, drop, getD, length-append, length-take, length-drop}
-use lib.Seq.{take-at, drop-at, take-add, length-take-le}
+use lib.ListN.{length, take, drop, getD, length-append, length-drop}
+use lib.Seq.{take-at, take-add, length-take-le}
 use lib.Dec.{leb, eqb}
-use borrow.Author.Tests.{eqb-true, eq-eqb, le-leb, lt-leb, leb-true}
+use borrow.Author.Tests.{eqb-true, eq-eqb, le-leb, lt-leb}
 use Rattle.grid.proofs.Tests.{and-yes, expect-yes, expect-no, after-good, answer-good, answer-refused}
 use Rattle.grid.specs.declared.Cell.{Cell}
 use Rattle.grid.specs.declared.Panel.{Panel}
@@ -28,11 +28,11 @@ use Rattle.record.specs.declared.Written.{Written}
 use Rattle.record.specs.declared.ReadBack.{ReadBack}
 use Rattle.record.specs.Format.{headLength, markHigh, markLow, headOf, recordOf, lettersFrom, lettersOf, allKnown, walkOn, walkFrom}
 use Rattle.record.specs.Write.{area, wholeCells, allOn, allNext, goodCount, checkList, checkWrite, recordLength, writeAnswer, writeBuffer, bytesWritten, recordMade}
-use Rattle.record.specs.Read.{hasMark, panelIn, entryIn, stepsIn, lettersIn, cellsRead, goodSteps, checkHead, checkKnown, checkLetters, checkRecord, checkRead, readAnswer, readBuffer, panelGiven, cellsGiven, lengthGiven, listRead, lettersAnswer}
+use Rattle.record.specs.Read.{hasMark, panelIn, entryIn, stepsIn, lettersIn, cellsRead, goodSteps, checkHead, checkKnown, checkRecord, checkRead, readAnswer, readBuffer, panelGiven, cellsGiven, lengthGiven, listRead, lettersAnswer}
 use Rattle.grid.proofs.Bytes.{length-bytes, cells-bytes}
 use Rattle.record.proofs.Laws.{both}
 use Rattle.record.proofs.Lists.{length-letters-from, length-walk}
-use Rattle.record.proofs.Checks.{both-good, expect-good, GoodHead, GoodRecord, GoodList, record-good, list-good}
+use Rattle.record.proofs.Checks.{both-good, expect-good, GoodRecord, GoodList, record-good, list-good}
 use Rattle.record.proofs.Directions.{known-letters, walk-letters, letters-walk}
 
 -- Bytes and cells
@@ -120,7 +120,7 @@ written p list out e =
     let b : writeBuffer p list out ≡ recordOf p (cellsIn list) ++ drop (recordLength (cellsIn list)) out = sym (answer-good _ _ e refl) in (
       a,
       ap₂ (λ (w : Written) (o : List ℕ). take (bytesWritten w) o) a b
-      ∙ take-at (recordOf p (cellsIn list)) _ (recordLength (cellsIn list)) (length-record p (cellsIn list) some),
+          ∙ take-at (recordOf p (cellsIn list)) _ (recordLength (cellsIn list)) (length-record p (cellsIn list) some),
     )
 
 pub reads-back : (p : Panel) (list out rest buffer : List ℕ) → checkWrite p list out ≡ Good → length list ≤ length buffer
@@ -138,7 +138,7 @@ reads-back p list out rest buffer e room =
     let w = written p list out e in
     let r = read-record p (cellsIn list) rest buffer g (omega arith) in (
       ap (λ (k : List ℕ). readAnswer (k ++ rest) buffer) (w .1) ∙ r .0
-      ∙ ap (λ (a : Written). ReadBack.Found p (record { 0 = length (cellsIn list) }) (bytesWritten a)) (sym (w .0)),
+          ∙ ap (λ (a : Written). ReadBack.Found p (record { 0 = length (cellsIn list) }) (bytesWritten a)) (sym (w .0)),
       ap (λ (k : List ℕ). readBuffer (k ++ rest) buffer) (w .1) ∙ r .1 ∙ ap₂ (λ (b : List ℕ) (k : ℕ). b ++ drop k buffer) back n,
     )
 
@@ -181,7 +181,7 @@ module _ (f : List ℕ) (g : GoodRecord f) where
         on = g .cells;
         next = walked .1;
         some = omega (arith, steps-read, g .head .some);
-        few = omega (arith, steps-read, g .head .few)
+        few = omega (arith, steps-read, g .head .few);
       }
 
   record-read : getD f 7 0 < 256 → take (headLength + stepsIn f) f ≡ recordOf (panelIn f) (cellsRead f)
@@ -222,7 +222,7 @@ writes-back f buffer out byte e room =
     let w = written p (bytes l) out c in (
       ap₂ (λ (r : ReadBack) (o : List ℕ). writeAnswer (panelGiven r) o out) a list ∙ w .0 ∙ ap Written.Bytes n ∙ ap (λ (r : ReadBack). Written.Bytes (lengthGiven r)) (sym a),
       ap₂ (λ (r : ReadBack) (o : List ℕ). recordMade (panelGiven r) o out) a list ∙ w .1 ∙ ap (recordOf p) (cells-bytes l) ∙ sym (record-read f g (byte 7))
-      ∙ ap (λ (r : ReadBack). take (lengthGiven r) f) (sym a),
+          ∙ ap (λ (r : ReadBack). take (lengthGiven r) f) (sym a),
     )
 
 -- Letters
@@ -262,6 +262,7 @@ read-empty f = (at (checkRecord f) (never-five f), λ e. sym (answer-refused Rea
   where
     short : leb (2 * length (cellsRead f)) 0 ≡ false
     short = lt-leb (2 * length (cellsRead f)) 0 (omega arith)
+
     at : (c : Check) → NotFive c
         → answer (after c (expect (leb (2 * length (cellsRead f)) 0) ShortBuffer Good)) ReadBack.Refused (ReadBack.Found (panelIn f) (record { 0 = length (cellsRead f) }) (headLength + stepsIn f)) ≡ ReadBack.Refused ShortBuffer
         → c ≡ Good

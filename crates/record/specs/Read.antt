@@ -1,16 +1,16 @@
 -- Document 01, "Read" and "Letters": the refusals in order, the answers and the final content of the lent buffer.
 use Prim.Native.Nat.{ℕ, _+_, _-_, _*_}
 use mathlib.Core.Bool.{Bool, _&&_, cond}
-use mathlib.Core.List.{List, [], _∷_, _++_}
+use mathlib.Core.List.{List, [], _++_}
 use lib.ListN.{length, take, drop, getD}
 use lib.Dec.{leb, eqb}
 use Rattle.grid.specs.declared.Panel.{Panel}
 use Rattle.grid.specs.declared.Cell.{Cell}
-use Rattle.grid.specs.declared.Cells.{Cells}
 use Rattle.grid.specs.declared.Check.{Check}
 use Rattle.grid.specs.declared.Check.the-variants.{Good}
 use Rattle.grid.specs.declared.Refusal.the-variants.{Mark, CutShort, StepCount, UnknownByte, CellOff, ShortBuffer}
 use Rattle.grid.specs.Panel.{upTo}
+use Rattle.grid.specs.Refusal.{number}
 use Rattle.grid.specs.Bytes.{bytes}
 use Rattle.grid.specs.Check.{checkEntry, expect, after, answer}
 use Rattle.record.specs.declared.ReadBack.{ReadBack}
@@ -91,7 +91,11 @@ abbrev pub readBuffer : List ℕ → List ℕ → List ℕ
 readBuffer f list =
     answer (checkRead f list) (λ r. list) (bytes (cellsRead f) ++ drop (2 * length (cellsRead f)) list)
 
--- what the answer stands for: panel, cell count and record length, all 0 if refused
+-- what the answer stands for: the refusal's number, 0 if there is none; panel, cell count and record length, all 0 if refused
+abbrev pub readNumber : ReadBack → ℕ
+readNumber (ReadBack.Refused r) = number r
+readNumber (ReadBack.Found p n k) = 0
+
 abbrev pub panelGiven : ReadBack → Panel
 panelGiven (ReadBack.Refused r) = record { width = 0; height = 0 }
 panelGiven (ReadBack.Found p n k) = p

@@ -10,6 +10,7 @@ use Rattle.grid.specs.declared.Check.{Check}
 use Rattle.grid.specs.declared.Check.the-variants.{Good}
 use Rattle.grid.specs.declared.Refusal.the-variants.{ListLength, CellOff, NotNeighbours, StepCount, ShortBuffer}
 use Rattle.grid.specs.Panel.{onPanel, neighbours}
+use Rattle.grid.specs.Refusal.{number}
 use Rattle.grid.specs.Bytes.{cellsIn}
 use Rattle.grid.specs.Check.{checkPanel, expect, after, answer}
 use Rattle.record.specs.declared.Written.{Written}
@@ -72,7 +73,11 @@ abbrev pub writeBuffer : Panel → List ℕ → List ℕ → List ℕ
 writeBuffer p list out =
     answer (checkWrite p list out) (λ r. out) (recordOf p (cellsIn list) ++ drop (recordLength (cellsIn list)) out)
 
--- what the answer stands for: the number of bytes written, 0 if refused
+-- what the answer stands for: the refusal's number, 0 if there is none, and the number of bytes written, 0 if refused
+abbrev pub writeNumber : Written → ℕ
+writeNumber (Refused r) = number r
+writeNumber (Bytes k) = 0
+
 abbrev pub bytesWritten : Written → ℕ
 bytesWritten (Refused r) = 0
 bytesWritten (Bytes k) = k

@@ -8,6 +8,7 @@ use grid::Refusal;
 use grid::Steps;
 use grid::check_entry;
 use grid::check_panel;
+use grid::number_of;
 use grid::on_panel;
 use grid::steps_of;
 ghost use mathlib.Core.Path.{_≡_};
@@ -17,19 +18,24 @@ ghost use Prim.Native.Nat.{_≤_, _<_, _+_, _*_};
 ghost use lib.ListN.{length, take, drop, set};
 ghost use Rattle.grid.specs.Panel.{OnPanel, dist, neighbours, onPanel, goodPanel};
 ghost use Rattle.grid.specs.Bytes.{bytes, cellsIn};
-ghost use Rattle.record.specs.Format.{cellAt, letter, headOf, headLength, lettersOf, stepsOf, moveOf, largest, walkFrom};
-ghost use Rattle.record.specs.Write.{area, wholeCells, allOn, allNext, goodCount, checkList, checkWrite, recordLength, writeAnswer, writeBuffer};
-ghost use Rattle.record.specs.Read.{hasMark, panelIn, entryIn, stepsIn, lettersIn, cellsRead, goodSteps, checkHead, checkKnown, walkedOf, recordCells, checkRecord, readAnswer, readBuffer, lettersAnswer};
+ghost use Rattle.record.specs.Format.{cellAt, letter, headOf, headLength, lettersOf, moveOf, largest, walkFrom};
+ghost use Rattle.record.specs.Write.{area, wholeCells, allOn, allNext, goodCount, checkList, recordLength, writeAnswer, writeBuffer, writeNumber, bytesWritten};
+ghost use Rattle.record.specs.Read.{hasMark, panelIn, entryIn, stepsIn, lettersIn, goodSteps, checkHead, checkKnown, walkedOf, recordCells, readAnswer, readBuffer, readNumber, panelGiven, cellsGiven, lengthGiven, lettersAnswer};
 
 // The mark, and the number of bytes before the letters.
 pub const MARK_HIGH: u8 = 0x46;
+
 pub const MARK_LOW: u8 = 0x54;
+
 pub const HEAD: usize = 8;
 
 // The letters: up, right, down, left.
 pub const NORTH: u8 = 0x4E;
+
 pub const EAST: u8 = 0x45;
+
 pub const SOUTH: u8 = 0x53;
+
 pub const WEST: u8 = 0x57;
 
 // What Write gives: why it refuses, or the bytes written.
@@ -234,6 +240,26 @@ pub fn write(p: Panel, list: &[u8], out: &mut [u8]) -> Written
     Written::Bytes(k as u32)
 }
 
+// The refusal's number, 0 where nothing is refused.
+pub fn write_number(w: Written) -> u32
+    ensures { λ k. ⌜ k ≡ writeNumber w ⌝ }
+{
+    match w {
+        Written::Refused(r) => number_of(r),
+        Written::Bytes(_) => 0,
+    }
+}
+
+// The bytes written, 0 where refused.
+pub fn bytes_written(w: Written) -> u32
+    ensures { λ k. ⌜ k ≡ bytesWritten w ⌝ }
+{
+    match w {
+        Written::Refused(_) => 0,
+        Written::Bytes(k) => k,
+    }
+}
+
 fn has_mark(file: &[u8]) -> bool
     ensures { λ r. ⌜ r ≡ hasMark (now (file .entry)) ⌝ }
 {
@@ -319,7 +345,9 @@ fn move_by(c: Cell, letter: u8) -> Moved
         EAST => Moved::To(Cell { x: c.x + 1, y: c.y }),
         SOUTH => Moved::To(Cell { x: c.x, y: c.y + 1 }),
         WEST => Moved::To(Cell { x: c.x - 1, y: c.y }),
-        0x00..=0x44 | 0x46..=0x4D | 0x4F..=0x52 | 0x54..=0x56 | 0x58..=0xFF => Moved::Refused(Refusal::UnknownByte),
+        0x00..=0x44 | 0x46..=0x4D | 0x4F..=0x52 | 0x54..=0x56 | 0x58..=0xFF => Moved::Refused(
+            Refusal::UnknownByte,
+        ),
     }
 }
 
@@ -441,4 +469,47 @@ pub fn letters<'a>(file: &'a [u8]) -> &'a [u8]
         return &file[..0];
     }
     letters_in(file)
+}
+
+// The refusal's number, 0 where nothing is refused.
+pub fn read_number(b: ReadBack) -> u32
+    ensures { λ k. ⌜ k ≡ readNumber b ⌝ }
+{
+    match b {
+        ReadBack::Refused(r) => number_of(r),
+        ReadBack::Found(_, _, _) => 0,
+    }
+}
+
+// The panel read, 0 by 0 where refused.
+pub fn panel_given(b: ReadBack) -> Panel
+    ensures { λ p. ⌜ p ≡ panelGiven b ⌝ }
+{
+    match b {
+        ReadBack::Refused(_) => Panel {
+            width: 0,
+            height: 0,
+        },
+        ReadBack::Found(p, _, _) => p,
+    }
+}
+
+// The cells read, 0 where refused.
+pub fn cells_given(b: ReadBack) -> Cells
+    ensures { λ n. ⌜ n .0 ≡ cellsGiven b ⌝ }
+{
+    match b {
+        ReadBack::Refused(_) => Cells(0),
+        ReadBack::Found(_, n, _) => n,
+    }
+}
+
+// The record's length, 0 where refused.
+pub fn length_given(b: ReadBack) -> u32
+    ensures { λ k. ⌜ k ≡ lengthGiven b ⌝ }
+{
+    match b {
+        ReadBack::Refused(_) => 0,
+        ReadBack::Found(_, _, k) => k,
+    }
 }

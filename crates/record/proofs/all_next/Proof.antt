@@ -1,9 +1,8 @@
 -- The invariant: the cells from i on decide the test of the whole list.
 use borrow.Author.Needs.{needs}
 use borrow.Author.Tests.{not-true, not-false}
-use Prim.Native.Nat.{_-_, _+_, _≤_}
+use Prim.Native.Nat.{_-_, _≤_}
 use mathlib.Core.Path.{_≡_, refl, sym, ap₂, _∙_}
-use mathlib.Core.Bool.{Bool}
 use native.Mathlib.Omega.{arith}
 use lib.ListN.{length, drop}
 use denote.Ref.{now}
@@ -62,7 +61,7 @@ loop-again c =
     let a = at-loop .before .before .args in (
       omega arith,
       goes-on _ (at-loop .loop .inv .1) (next-more (now (a .list)) (at-loop .loop .i) (at-test .loop-test .taken))
-      (ap₂ neighbours (sym (first .cell-at .ensures)) (sym (c .before .before .cell-at2 .ensures)) ∙ sym (c .before .are-neighbours .ensures) ∙ not-false _ (c .if1 .left)),
+          (ap₂ neighbours (sym (first .cell-at .ensures)) (sym (c .before .before .cell-at2 .ensures)) ∙ sym (c .before .are-neighbours .ensures) ∙ not-false _ (c .if1 .left)),
     )
 
 returns-2 : tie.Need-returns-2 Inv-loop μ-loop

@@ -1,7 +1,7 @@
 -- The invariant: the cells from i on decide the test of the whole list.
 use borrow.Author.Needs.{needs}
 use borrow.Author.Tests.{not-true, not-false}
-use Prim.Native.Nat.{_-_, _+_, _≤_}
+use Prim.Native.Nat.{_-_, _≤_}
 use mathlib.Core.Path.{_≡_, refl, sym, ap, _∙_}
 use native.Mathlib.Omega.{arith}
 use lib.ListN.{length, drop}
@@ -53,7 +53,7 @@ loop-again c =
     let a = at-loop .before .before .args in (
       omega arith,
       goes-on _ (at-loop .loop .inv .1) (ap (allOn (a .p)) (cells-more (now (a .list)) (at-loop .loop .i) (at-test .loop-test .taken)))
-      (ap (onPanel (a .p)) (sym (c .before .before .cell-at .ensures)) ∙ sym (c .before .on-panel .ensures) ∙ not-false _ (c .if1 .left)),
+          (ap (onPanel (a .p)) (sym (c .before .before .cell-at .ensures)) ∙ sym (c .before .on-panel .ensures) ∙ not-false _ (c .if1 .left)),
     )
 
 returns-2 : tie.Need-returns-2 Inv-loop μ-loop

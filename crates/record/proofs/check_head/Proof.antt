@@ -9,7 +9,6 @@ use lib.Dec.{leb}
 use denote.Ref.{now}
 use Rattle.grid.proofs.Tests.{expect-yes, expect-no, after-good, after-refused}
 use Rattle.grid.specs.declared.Check.{Check}
-use Rattle.grid.specs.declared.Check.the-variants.{Good}
 use Rattle.grid.specs.declared.Refusal.the-variants.{Mark, CutShort, StepCount}
 use Rattle.grid.specs.Check.{checkEntry, expect, after}
 use Rattle.record.specs.declared.Head.{Head}

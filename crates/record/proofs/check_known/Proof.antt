@@ -1,13 +1,13 @@
 -- The invariant: the bytes from i on decide the test of all letters.
 use borrow.Author.Needs.{needs}
-use Prim.Native.Nat.{_-_, _+_, _≤_}
+use Prim.Native.Nat.{_-_, _≤_}
 use mathlib.Core.Path.{_≡_, refl, sym, ap, _∙_}
 use native.Mathlib.Omega.{arith}
 use lib.ListN.{length, drop, getD}
 use denote.Ref.{now}
 use Rattle.grid.proofs.Tests.{expect-yes, expect-no}
 use Rattle.grid.specs.declared.Check.the-variants.{Refused}
-use Rattle.record.specs.Format.{allKnown, known}
+use Rattle.record.specs.Format.{allKnown}
 use Rattle.record.proofs.Laws.{byte-refused, byte-moves, stops, goes-on}
 use Rattle.record.proofs.Lists.{bytes-more, bytes-end}
 use Rattle.record.proofs.check_known.Statement.{statement}

@@ -1,5 +1,5 @@
 -- Each test that passes leaves the tests behind it, and each `return` gives the first that fails.
-use Prim.Native.Nat.{ℕ, _<_}
+use Prim.Native.Nat.{ℕ}
 use mathlib.Core.Path.{_≡_, refl, sym, ap, ap₂, _∙_}
 use mathlib.Core.Bool.{true}
 use mathlib.Core.List.{List}
@@ -10,12 +10,12 @@ use Rattle.grid.proofs.Tests.{expect-yes, expect-no, after-good, after-refused,
 use Rattle.grid.specs.declared.Check.{Check}
 use Rattle.grid.specs.declared.Check.the-variants.{Good}
 use Rattle.grid.specs.declared.Refusal.the-variants.{CellOff}
-use Rattle.grid.specs.Panel.{OnPanel, goodPanel, onPanel}
+use Rattle.grid.specs.Panel.{goodPanel, onPanel}
 use Rattle.grid.specs.Check.{after}
 use Rattle.record.specs.declared.Head.{Head}
 use Rattle.record.specs.declared.Found.{Found}
 use Rattle.record.specs.declared.Found.the-variants.{Record}
-use Rattle.record.specs.Format.{largest, headLength}
+use Rattle.record.specs.Format.{headLength}
 use Rattle.record.specs.Read.{panelIn, entryIn, stepsIn, lettersIn, checkHead, checkKnown, walkedOf}
 use Rattle.record.proofs.Laws.{on-largest}
 use Rattle.record.proofs.Checks.{GoodHead, head-good, steps-bound, walked-on, walked-off}

@@ -1,7 +1,7 @@
 -- What was found says whether the record is refused; if not, its cells go to the buffer.
 use borrow.Author.Needs.{needs}
 use borrow.Author.Tests.{le-leb, lt-leb}
-use Prim.Native.Nat.{ℕ, _+_, _*_, _≤_}
+use Prim.Native.Nat.{ℕ, _+_, _*_}
 use mathlib.Core.Path.{_≡_, refl, sym, ap, ap₂, _∙_}
 use mathlib.Core.List.{List, _++_}
 use native.Mathlib.Omega.{arith}
@@ -18,7 +18,7 @@ use Rattle.record.specs.declared.Head.{Head}
 use Rattle.record.specs.declared.ReadBack.{ReadBack}
 use Rattle.record.specs.Format.{headLength, largest, walkFrom}
 use Rattle.record.specs.Write.{allOn}
-use Rattle.record.specs.Read.{panelIn, stepsIn, cellsRead, checkRecord, checkRead}
+use Rattle.record.specs.Read.{panelIn, cellsRead, checkRecord, checkRead}
 use Rattle.record.proofs.Laws.{all-on-largest}
 use Rattle.record.proofs.Checks.{GoodRecord, record-good, found-refused, found-record, steps-bound}
 use Rattle.record.proofs.read.Statement.{statement}

@@ -8,7 +8,7 @@ use native.Mathlib.Omega.{arith}
 use lib.ListN.{length, drop, getD}
 use denote.Ref.{now}
 use Rattle.grid.proofs.Tests.{and-yes, cond-yes, cond-no}
-use Rattle.grid.specs.Panel.{OnPanel, onPanel}
+use Rattle.grid.specs.Panel.{OnPanel}
 use Rattle.record.specs.declared.Walked.the-variants.{On}
 use Rattle.record.specs.Format.{largest, walkFrom, walkOn}
 use Rattle.record.specs.Write.{allOn}

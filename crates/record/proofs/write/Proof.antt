@@ -1,7 +1,7 @@
 -- A list that is not refused has its head and its letters written one after the other, which is the record.
 use borrow.Author.Needs.{needs}
 use borrow.Author.Tests.{le-leb, lt-leb}
-use Prim.Native.Nat.{ℕ, _+_, _≤_, _<_}
+use Prim.Native.Nat.{ℕ, _+_, _≤_}
 use mathlib.Core.Path.{_≡_, refl, sym, ap, _∙_}
 use mathlib.Core.Bool.{true}
 use mathlib.Core.List.{List, _++_, _∷_}
@@ -137,10 +137,10 @@ returns-3 c =
     let e : checkWrite (P at) (L at) (O at) ≡ Good = sym (after-good _ (passed at) (expect-yes _ _ (asked call ∙ le-leb _ _ (room .if1 .left)) refl)) in (
       answer-good _ _ e (ap (λ (n : ℕ). Written.Bytes (headLength + n)) (counted call)),
       answer-good _ _ e
-      (letters .write-letters .ensures
-      ∙ ap (λ (o : List ℕ). take headLength o ++ (lettersOf cs ++ drop (recordLength cs) o))
-      (head .write-head .ensures ∙ ap (λ (s : Cell). headOf (P at) s k ++ drop headLength (O at)) (cell .cell-at .ensures))
-      ∙ record-made (P at) cs (cellAt (L at) 0) (cellsIn (drop 2 (L at))) k (O at) (split at) (counted call)),
+          (letters .write-letters .ensures
+          ∙ ap (λ (o : List ℕ). take headLength o ++ (lettersOf cs ++ drop (recordLength cs) o))
+          (head .write-head .ensures ∙ ap (λ (s : Cell). headOf (P at) s k ++ drop headLength (O at)) (cell .cell-at .ensures))
+          ∙ record-made (P at) cs (cellAt (L at) 0) (cellsIn (drop 2 (L at))) k (O at) (split at) (counted call)),
     )
 
 pub write-spec : {M : Type 1} → statement M

@@ -1,11 +1,11 @@
 -- The invariant: what the letters from i on still make of the buffer is what all of them make of it after the first cell.
 use borrow.Author.Needs.{needs}
 use Prim.Native.Nat.{ℕ, _-_, _+_, _*_, _≤_, _<_}
-use mathlib.Core.Path.{_≡_, refl, sym, ap, ap₂, _∙_}
+use mathlib.Core.Path.{_≡_, refl, sym, ap, _∙_}
 use mathlib.Core.Bool.{true, true≢false}
-use mathlib.Core.List.{List, _++_, _∷_}
+use mathlib.Core.List.{List, _++_}
 use native.Mathlib.Omega.{arith}
-use lib.ListN.{length, take, drop, getD, length-set}
+use lib.ListN.{length, take, drop, getD}
 use denote.Ref.{now}
 use Rattle.grid.specs.declared.Cell.{Cell}
 use Rattle.grid.specs.Panel.{OnPanel, onPanel}
@@ -141,9 +141,9 @@ loop-again c =
       on-panel-is largest next (on .0),
       on .1,
       at-loop .loop .inv .5
-      ∙ ap (λ (w : List Cell). take j list ++ (bytes w ++ drop n list)) (walk-more l i (at-loop .loop .at) (in-loop .loop-test .taken) (leads told))
-      ∙ put-cell list j n next rest (room in-loop .0) (room in-loop .1)
-      ∙ ap (λ (k : List ℕ). take (j + 2) k ++ (rest ++ drop n k)) (sym (call .put-cell2 .ensures)),
+          ∙ ap (λ (w : List Cell). take j list ++ (bytes w ++ drop n list)) (walk-more l i (at-loop .loop .at) (in-loop .loop-test .taken) (leads told))
+          ∙ put-cell list j n next rest (room in-loop .0) (room in-loop .1)
+          ∙ ap (λ (k : List ℕ). take (j + 2) k ++ (rest ++ drop n k)) (sym (call .put-cell2 .ensures)),
     )
 
 same-length-2 : tie.Need-same-length-2 Inv-loop μ-loop

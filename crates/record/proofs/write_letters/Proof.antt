@@ -92,8 +92,8 @@ loop-again c =
       omega arith,
       omega (arith, ap length (more in-loop)),
       at-loop .loop .inv .3
-      ∙ ap (λ (k : List ℕ). take at out ++ (k ++ drop (whole list) out)) r
-      ∙ put-byte out at (whole list) b (rest list (i + 2)) (omega (arith, room in-loop)) (omega (arith, room in-loop)),
+          ∙ ap (λ (k : List ℕ). take at out ++ (k ++ drop (whole list) out)) r
+          ∙ put-byte out at (whole list) b (rest list (i + 2)) (omega (arith, room in-loop)) (omega (arith, room in-loop)),
     )
 
 same-length : tie.Need-same-length Inv-loop μ-loop
