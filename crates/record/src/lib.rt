@@ -15,7 +15,7 @@ ghost use mathlib.Core.Path.{_≡_};
 ghost use mathlib.Core.Bool.{true};
 ghost use mathlib.Core.List.{_++_};
 ghost use Prim.Native.Nat.{_≤_, _<_, _+_, _*_};
-ghost use lib.ListN.{length, take, drop, set};
+ghost use lib.ListN.{length, take, drop, getD, set};
 ghost use Rattle.grid.specs.Panel.{OnPanel, dist, neighbours, onPanel, goodPanel};
 ghost use Rattle.grid.specs.Bytes.{bytes, cellsIn};
 ghost use Rattle.record.specs.Format.{cellAt, letter, headOf, headLength, lettersOf, moveOf, largest, walkFrom};
@@ -81,14 +81,21 @@ fn area_of(p: Panel) -> usize
     (p.width as usize) * (p.height as usize)
 }
 
+fn byte_at(s: &[u8], i: usize) -> u32
+    requires { ⌜ i < length (now s) ⌝ }
+    ensures { λ r. ⌜ (r ≡ getD (now (s .entry)) i 0) × (r < 256) ⌝ }
+{
+    s[i] as u32
+}
+
 // The cell whose x stands at i.
 fn cell_at(list: &[u8], i: usize) -> Cell
     requires { ⌜ i + 1 < length (now list) ⌝ }
     ensures { λ r. ⌜ r ≡ cellAt (now (list .entry)) i ⌝ }
 {
     Cell {
-        x: list[i] as u32,
-        y: list[i + 1] as u32,
+        x: byte_at(list, i),
+        y: byte_at(list, i + 1),
     }
 }
 
@@ -276,16 +283,15 @@ fn head_in(file: &[u8]) -> Head
     requires { ⌜ headLength ≤ length (now file) ⌝ }
     ensures { λ r. ⌜ r ≡ record { panel = panelIn (now (file .entry)); entry = entryIn (now (file .entry)); steps = record { 0 = stepsIn (now (file .entry)) } } ⌝ }
 {
+    let high = byte_at(file, 6);
+    let low = byte_at(file, 7);
     Head {
         panel: Panel {
-            width: file[2] as u32,
-            height: file[3] as u32,
+            width: byte_at(file, 2),
+            height: byte_at(file, 3),
         },
-        entry: Cell {
-            x: file[4] as u32,
-            y: file[5] as u32,
-        },
-        steps: Steps(256 * (file[6] as u32) + (file[7] as u32)),
+        entry: cell_at(file, 4),
+        steps: Steps(256 * high + low),
     }
 }
 

@@ -3,6 +3,8 @@
 // line `bytes` a buffer after a call.
 use grid::Panel;
 use libc::STDOUT_FILENO;
+ghost use Prim.Native.Nat.{_≤_, _<_, _+_};
+ghost use lib.ListN.{length};
 
 fn text(s: &[u8]) {
     io::write_all(STDOUT_FILENO, s);
@@ -142,27 +144,45 @@ fn read_refusals() {
     try_file(&[0x46, 0x54, 5, 1, 2, 1, 0, 2, 0x4E, 0x53]);
 }
 
-// A buffer that is too short, by a byte and empty, and one that is just long enough; bytes after the record.
-fn buffers() {
-    text(b"buffers\n");
-    let file = [0x46, 0x54, 5, 1, 2, 1, 0, 2, 0x45, 0x45, 0x4E, 0x00];
+// Reads into the first k bytes of a buffer.
+fn read_into(file: &[u8], list: &mut [u8], k: usize)
+    requires { ⌜ k ≤ length (now list) ⌝ }
+{
+    show_read(file, &mut list[0..k]);
+}
+
+fn read_short(file: &[u8], k: usize)
+    requires { ⌜ k ≤ 8 ⌝ }
+{
     let mut list = [85u8; 8];
-    show_read(&file, &mut list[..5]);
-    show_read(&file, &mut list[..0]);
-    show_bytes(&list);
-    show_read(&file, &mut list[..6]);
-    show_letters(&file);
+    read_into(file, &mut list, k);
     show_bytes(&list);
 }
 
-// The number that Read gives for each prefix of a file.
+// A buffer that is empty, one that is a byte too short, and one just long enough; bytes after the record.
+fn buffers() {
+    text(b"buffers\n");
+    let file = [0x46, 0x54, 5, 1, 2, 1, 0, 2, 0x45, 0x45, 0x4E, 0x00];
+    read_short(&file, 0);
+    read_short(&file, 5);
+    read_short(&file, 6);
+    show_letters(&file);
+}
+
+// The number that Read gives for the first n bytes of a file.
+fn read_prefix(file: &[u8], n: usize)
+    requires { ⌜ n ≤ length (now file) ⌝ }
+{
+    let mut list = [85u8; 8];
+    number(record::read_number(record::read(&file[0..n], &mut list)));
+    text(b" ");
+}
+
 fn prefixes(file: &[u8]) {
     text(b"prefixes\n");
     let mut n = 0;
     while n <= file.len() {
-        let mut list = [85u8; 8];
-        number(record::read_number(record::read(&file[..n], &mut list)));
-        text(b" ");
+        read_prefix(file, n);
         n += 1;
     }
     end_line();
@@ -182,29 +202,47 @@ fn count_answer(file: &[u8], tally: &mut [u32]) {
     }
 }
 
-// Every other value of one byte of a file.
-fn change_byte(file: &mut [u8], i: usize, tally: &mut [u32]) {
+// Reads a file with one byte changed, and counts its answer.
+fn try_value(file: &mut [u8], i: usize, v: u8, tally: &mut [u32])
+    requires { ⌜ i < length (now file) ⌝ }
+{
     let old = file[i];
-    let mut v: u32 = 0;
-    while v < 256 {
-        if v != wide(old) {
-            file[i] = (v % 256) as u8;
-            count_answer(file, tally);
-        }
-        v += 1;
+    if v != old {
+        file[i] = v;
+        count_answer(file, tally);
+        file[i] = old;
     }
-    file[i] = old;
 }
 
-fn change_each(file: &mut [u8], tally: &mut [u32]) {
+fn try_values(file: &mut [u8], i: usize, tally: &mut [u32])
+    requires { ⌜ i < length (now file) ⌝ }
+{
+    let mut v: u32 = 0;
+    while v < 256 {
+        try_value(file, i, (v % 256) as u8, tally);
+        v += 1;
+    }
+}
+
+fn try_bytes(file: &mut [u8], tally: &mut [u32]) {
     let mut i = 0;
     while i < file.len() {
-        change_byte(file, i, tally);
+        try_values(file, i, tally);
         i += 1;
     }
 }
 
-// How many of the changed files get each number.
+fn show_tally(tally: &[u32]) {
+    let mut i = 0;
+    while i < tally.len() {
+        number(tally[i]);
+        text(b" ");
+        i += 1;
+    }
+    end_line();
+}
+
+// Every byte of a record changed to every other value: how many of the files get the number 0, 1, and so on.
 fn changed_bytes() {
     text(b"changed bytes\n");
     let mut file = [
@@ -226,42 +264,53 @@ fn changed_bytes() {
         0x4E,
     ];
     let mut tally = [0u32; 18];
-    change_each(&mut file, &mut tally);
-    let mut i = 0;
-    while i < 18 {
-        number(tally[i]);
-        text(b" ");
-        i += 1;
-    }
-    end_line();
+    try_bytes(&mut file, &mut tally);
+    show_tally(&tally);
 }
 
-// Row by row, to and fro.
+// Cell i of a track over 128 by 128, row by row, to and fro.
+fn column(i: usize) -> u8 {
+    let x = (i % 128) as u8;
+    if i / 128 % 2 == 0 { x + 1 } else { 128 - x }
+}
+
+fn row(i: usize) -> u8 {
+    (i / 128 % 128) as u8 + 1
+}
+
+fn put(list: &mut [u8], i: usize, x: u8, y: u8)
+    requires { ⌜ i + 1 < length (now list) ⌝ }
+{
+    list[i] = x;
+    list[i + 1] = y;
+}
+
 fn snake(list: &mut [u8]) {
-    let mut i: usize = 0;
-    while 2 * i + 1 < list.len() {
-        let x = (i % 128) as u8;
-        let row = i / 128 % 128;
-        if row % 2 == 0 {
-            list[2 * i] = x + 1;
-        } else {
-            list[2 * i] = 128 - x;
-        }
-        list[2 * i + 1] = row as u8 + 1;
-        i += 1;
+    let mut i = 0;
+    while i + 1 < list.len() {
+        put(list, i, column(i / 2), row(i / 2));
+        i += 2;
     }
 }
 
+// Writes into the first k bytes of a buffer.
+fn write_into(list: &[u8], out: &mut [u8], k: usize)
+    requires { ⌜ k ≤ length (now out) ⌝ }
+{
+    show_write(128, 128, list, &mut out[0..k]);
+}
+
+// A track over the largest panel, there and back, and buffers a byte too short.
 fn largest() {
     text(b"128 by 128\n");
     let mut list = [0u8; 32768];
     snake(&mut list);
-    let mut out = [170u8; 16392];
-    show_write(128, 128, &list, &mut out[..16390]);
-    show_write(128, 128, &list, &mut out);
+    let mut out = [170u8; 16391];
+    write_into(&list, &mut out, 16390);
+    write_into(&list, &mut out, 16391);
     let mut back = [85u8; 32768];
-    show_read(&out, &mut back[..32767]);
-    show_read(&out, &mut back);
+    read_into(&out, &mut back, 32767);
+    read_into(&out, &mut back, 32768);
     if check::same(&list, &back) {
         text(b"the same list\n");
     } else {
