@@ -1,1 +1,4 @@
+pub mod Cases
+pub mod Size
 pub mod Chain
+pub mod Moved

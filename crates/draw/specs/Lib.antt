@@ -1,1 +1,2 @@
 pub mod Leg
+pub mod Plan
