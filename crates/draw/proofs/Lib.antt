@@ -2,3 +2,4 @@ pub mod Cases
 pub mod Size
 pub mod Chain
 pub mod Moved
+pub mod Corners
