@@ -1,2 +1,3 @@
 pub mod Leg
 pub mod Plan
+pub mod Motion

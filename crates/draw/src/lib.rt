@@ -1,6 +1,10 @@
 // Draw: a longest track between two cells, as a plan of corner tracks.
 use grid::Cell;
 
+mod choice;
+mod motions;
+mod shapes;
+
 // A leg of a track: the corner track from the corner `a` of a rectangle to its cell `t`, `b` being
 // the opposite corner; walked from `t` to `a` where `back` is set.
 pub struct Leg {
@@ -16,4 +20,11 @@ pub enum Plan {
     Two(Leg, Leg),
     Three(Leg, Leg, Leg),
     Five(Leg, Leg, Leg, Leg, Leg),
+}
+
+// How a plan is moved: turned, or mirrored so that x, or y, becomes the number less it.
+pub enum Motion {
+    Turn,
+    MirrorX(u32),
+    MirrorY(u32),
 }
