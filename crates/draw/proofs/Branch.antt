@@ -1,21 +1,13 @@
--- How a branch of a choosing function is tied to its definition: "or" decided, a plan made of moved cells and moved back, and numbers that stay small
--- when cells are moved.
-use Prim.Native.Nat.{ℕ, _+_, _-_, _%_, _≤_}
-use mathlib.Core.Path.{_≡_, refl, sym, ap, _∙_, subst⁻¹}
-use mathlib.Core.Bool.{Bool, true, false, cond, _||_}
+-- How a branch of a choosing function is tied to its definition: a plan made of moved cells and moved back, and numbers that stay small when cells
+-- are moved.
+use Prim.Native.Nat.{ℕ, _+_, _-_, _≤_}
+use mathlib.Core.Path.{_≡_, ap, _∙_, subst⁻¹}
 use native.Mathlib.Omega.{arith}
 use Rattle.grid.specs.declared.Cell.{Cell}
 use Rattle.grid.specs.Panel.{maxSide, turnedCell}
-use Rattle.grid.proofs.Tests.{cond-yes, cond-no}
 use Rattle.draw.specs.declared.Plan.{Plan}
 use Rattle.draw.specs.Leg.{movedPlan, mirrorX, mirrorY}
 use Rattle.draw.specs.Motion.{Small}
-
-pub or-yes : {a : Bool} (b : Bool) → a ≡ true → true ≡ (a || b)
-or-yes b e = subst⁻¹ (λ (x : Bool). true ≡ (x || b)) e refl
-
-pub or-no : {a : Bool} (b : Bool) {r : Bool} → a ≡ false → r ≡ b → r ≡ (a || b)
-or-no b {r} e f = subst⁻¹ (λ (x : Bool). r ≡ (x || b)) e f
 
 -- a plan of moved cells, moved
 pub moved-as : (f : Cell → Cell) (G : Cell → Cell → Plan) {r p : Plan} {a b s t : Cell} → r ≡ movedPlan f p → p ≡ G a b → a ≡ f s → b ≡ f t → r ≡ movedPlan f (G (f s) (f t))
@@ -44,7 +36,3 @@ module _ {m n : ℕ} {s t : Cell} where
 
   pub small-swapped : Small m n s t → Small m n t s
   small-swapped h = record { m-small = h .m-small; n-small = h .n-small; s-x = h .t-x; s-y = h .t-y; t-x = h .s-x; t-y = h .s-y }
-
--- the parity of a sum from the parities of its parts
-pub parity-sum : (a b : ℕ) → (a % 2 + b % 2) % 2 ≡ (a + b) % 2
-parity-sum a b = omega arith

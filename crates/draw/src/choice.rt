@@ -2,8 +2,16 @@
 use crate::Leg;
 use crate::Motion;
 use crate::Plan;
-use crate::motions::{less, move_cell, move_plan, reverse_plan};
-use crate::shapes::{bridge, ess, middle, split, wrap};
+use crate::motions::less;
+use crate::motions::move_cell;
+use crate::motions::move_plan;
+use crate::motions::reverse_plan;
+use crate::shapes::bridge;
+use crate::shapes::ess;
+use crate::shapes::middle;
+use crate::shapes::split;
+use crate::shapes::wrap;
+use bound::is_black;
 use grid::Cell;
 use grid::same_cell;
 ghost use mathlib.Core.Path.{_≡_};
@@ -23,12 +31,6 @@ fn is_odd(k: u32) -> bool
     ensures { λ r. ⌜ r ≡ odd k ⌝ }
 {
     k % 2 == 1
-}
-
-fn is_black(c: Cell) -> bool
-    ensures { λ r. ⌜ r ≡ black c ⌝ }
-{
-    (c.x % 2 + c.y % 2) % 2 == 1
 }
 
 // Whether two cells differ in colour.
@@ -226,7 +228,14 @@ fn edge_split(m: u32, n: u32, s: Cell, t: Cell) -> Plan
     requires { ⌜ Small m n s t ⌝ }
     ensures { λ r. ⌜ r ≡ edgeSplit m n s t ⌝ }
 {
-    let p = split(n, m, move_cell(Motion::Turn, s), move_cell(Motion::Turn, t), s.y, m);
+    let p = split(
+        n,
+        m,
+        move_cell(Motion::Turn, s),
+        move_cell(Motion::Turn, t),
+        s.y,
+        m,
+    );
     move_plan(Motion::Turn, p)
 }
 

@@ -1,52 +1,44 @@
 use borrow.Author.Needs.{needs}
+use borrow.Author.Tests.{eq-eqb, ne-eqb, lt-ltb, le-ltb}
+use Rattle.grid.proofs.Tests.{cond-yes, cond-no}
+use Rattle.draw.specs.Leg.{mirrorY}
+use Rattle.draw.specs.Plan.{edgeSplit, atEdge}
+use Rattle.draw.proofs.Branch.{moved-as, small-as, small-y}
 use Rattle.draw.proofs.choice.at_edge.Statement.{statement}
 use Rattle.draw.proofs.choice.at_edge.Tie as tie
-use Rattle.draw.proofs.choice.at_edge.Reads as reads
-use Rattle.draw.proofs.choice.at_edge.Lts as lts
-use Rattle.draw.proofs.choice.edge_split.Reads as edge-split-reads
-use Rattle.draw.proofs.choice.wrapped.Reads as wrapped-reads
-use Rattle.draw.proofs.motions.move_cell.Reads as move-cell-reads
-use Rattle.draw.proofs.motions.move_plan.Reads as move-plan-reads
 
--- src/choice.rt:238:9
 wrapped-requires : tie.Need-wrapped-requires
 wrapped-requires c κs = search needs
 
--- src/choice.rt:238:9
 returns : tie.Need-returns
-returns c = ?
+unfolding atEdge
+returns c = cond-yes _ _ (eq-eqb _ _ (c .before .if1 .taken)) (c .wrapped .ensures)
 
--- src/choice.rt:241:38
 add-t8 : tie.Need-add-t8
 add-t8 c = search needs
 
--- src/choice.rt:242:34
 move-cell-requires : tie.Need-move-cell-requires
 move-cell-requires c κs = search needs
 
--- src/choice.rt:242:56
 move-cell-requires-2 : tie.Need-move-cell-requires-2
 move-cell-requires-2 c κs = search needs
 
--- src/choice.rt:242:13
 edge-split-requires : tie.Need-edge-split-requires
-edge-split-requires c κs = ?
+edge-split-requires c κs = small-as (c .before .move-cell .ensures) (c .move-cell2 .ensures) (small-y (c .before .before .before .before .before .before .before .before .pre))
 
--- src/choice.rt:243:9
 move-plan-requires : tie.Need-move-plan-requires
 move-plan-requires c κs = search needs
 
--- src/choice.rt:243:9
 returns-2 : tie.Need-returns-2
-returns-2 c = ?
+unfolding atEdge
+returns-2 c = cond-no _ _ (ne-eqb _ _ (c .before .before .before .before .before .before .before .if1 .left)) (cond-yes _ _ (lt-ltb _ _ (c .before .before .before .before .if2 .taken)) (moved-as (mirrorY (c .before .before .before .before .before .before .before .before .before .before .args .n)) (edgeSplit (c .before .before .before .before .before .before .before .before .before .before .args .m) (c .before .before .before .before .before .before .before .before .before .before .args .n)) (c .move-plan .ensures) (c .before .edge-split .ensures) (c .before .before .before .move-cell .ensures) (c .before .before .move-cell2 .ensures)))
 
--- src/choice.rt:245:5
 edge-split-requires-2 : tie.Need-edge-split-requires-2
 edge-split-requires-2 c κs = search needs
 
--- src/choice.rt:233:1
 returns-3 : tie.Need-returns-3
-returns-3 c = ?
+unfolding atEdge
+returns-3 c = cond-no _ _ (ne-eqb _ _ (c .before .before .before .before .if1 .left)) (cond-no _ _ (le-ltb _ _ (c .before .if2 .left)) (c .edge-split2 .ensures))
 
 pub at-edge-spec : {M : Type 1} → statement M
 at-edge-spec =

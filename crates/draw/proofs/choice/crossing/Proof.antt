@@ -1,39 +1,34 @@
 use borrow.Author.Needs.{needs}
+use mathlib.Core.Path.{refl, sym, _∙_}
+use Rattle.grid.proofs.Tests.{cond-yes, cond-no}
+use Rattle.draw.specs.Plan.{crossing}
 use Rattle.draw.proofs.choice.crossing.Statement.{statement}
 use Rattle.draw.proofs.choice.crossing.Tie as tie
-use Rattle.draw.proofs.choice.crossing.Reads as reads
-use Rattle.draw.proofs.choice.crossing.Lts as lts
-use Rattle.draw.proofs.choice.colours_differ.Reads as colours-differ-reads
-use Rattle.draw.proofs.choice.even_and_differ.Reads as even-and-differ-reads
-use Rattle.draw.proofs.choice.is_free.Reads as is-free-reads
 
--- src/choice.rt:193:8
 even-and-differ-requires : tie.Need-even-and-differ-requires
 even-and-differ-requires c κs = search needs
 
--- src/choice.rt:194:12
 colours-differ-requires : tie.Need-colours-differ-requires
 colours-differ-requires c κs = search needs
 
--- src/choice.rt:195:13
 returns : tie.Need-returns
-returns c = ?
+unfolding crossing
+returns c = cond-yes _ _ (sym (c .before .before .before .even-and-differ .ensures) ∙ c .before .before .if1 .taken) (cond-yes _ _ (sym (c .before .colours-differ .ensures) ∙ c .if2 .taken) refl)
 
--- src/choice.rt:197:9
 returns-2 : tie.Need-returns-2
-returns-2 c = ?
+unfolding crossing
+returns-2 c = cond-yes _ _ (sym (c .before .before .before .even-and-differ .ensures) ∙ c .before .before .if1 .taken) (cond-no _ _ (sym (c .before .colours-differ .ensures) ∙ c .if2 .left) refl)
 
--- src/choice.rt:199:8
 is-free-requires : tie.Need-is-free-requires
 is-free-requires c κs = search needs
 
--- src/choice.rt:200:9
 returns-3 : tie.Need-returns-3
-returns-3 c = ?
+unfolding crossing
+returns-3 c = cond-no _ _ (sym (c .before .before .before .even-and-differ .ensures) ∙ c .before .before .if1 .left) (cond-yes _ _ (sym (c .before .is-free .ensures) ∙ c .if3 .taken) refl)
 
--- src/choice.rt:189:1
 returns-4 : tie.Need-returns-4
-returns-4 c = ?
+unfolding crossing
+returns-4 c = cond-no _ _ (sym (c .before .before .before .even-and-differ .ensures) ∙ c .before .before .if1 .left) (cond-no _ _ (sym (c .before .is-free .ensures) ∙ c .if3 .left) refl)
 
 pub crossing-spec : {M : Type 1} → statement M
 crossing-spec =

@@ -1,31 +1,25 @@
 use borrow.Author.Needs.{needs}
+use Rattle.grid.specs.Panel.{turnedCell}
+use Rattle.draw.specs.Plan.{split, edgeSplit}
+use Rattle.draw.proofs.Branch.{moved-as}
 use Rattle.draw.proofs.choice.edge_split.Statement.{statement}
 use Rattle.draw.proofs.choice.edge_split.Tie as tie
-use Rattle.draw.proofs.choice.edge_split.Reads as reads
-use Rattle.draw.proofs.choice.edge_split.Lts as lts
-use Rattle.draw.proofs.motions.move_cell.Reads as move-cell-reads
-use Rattle.draw.proofs.motions.move_plan.Reads as move-plan-reads
-use Rattle.draw.proofs.shapes.split.Reads as split-reads
 
--- src/choice.rt:229:25
 move-cell-requires : tie.Need-move-cell-requires
 move-cell-requires c κs = search needs
 
--- src/choice.rt:229:53
 move-cell-requires-2 : tie.Need-move-cell-requires-2
 move-cell-requires-2 c κs = search needs
 
--- src/choice.rt:229:9
 split-requires : tie.Need-split-requires
 split-requires c κs = search needs
 
--- src/choice.rt:230:5
 move-plan-requires : tie.Need-move-plan-requires
 move-plan-requires c κs = search needs
 
--- src/choice.rt:225:1
 returns : tie.Need-returns
-returns c = ?
+unfolding edgeSplit
+returns c = moved-as (turnedCell) (λ a b. split (c .before .before .before .before .args .n) (c .before .before .before .before .args .m) a b (c .before .before .before .before .args .s .y) (c .before .before .before .before .args .m)) (c .move-plan .ensures) (c .before .split .ensures) (c .before .before .before .move-cell .ensures) (c .before .before .move-cell2 .ensures)
 
 pub edge-split-spec : {M : Type 1} → statement M
 edge-split-spec =

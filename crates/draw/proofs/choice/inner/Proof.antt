@@ -1,54 +1,42 @@
 use borrow.Author.Needs.{needs}
+use borrow.Author.Tests.{eq-eqb, ne-eqb}
+use mathlib.Core.Path.{sym, _∙_}
+use Rattle.grid.specs.Panel.{turnedCell}
+use Rattle.grid.proofs.Tests.{cond-yes, cond-no}
+use Rattle.draw.specs.Plan.{orderedFour}
+use Rattle.draw.proofs.Branch.{moved-as, small-as, small-turned}
 use Rattle.draw.proofs.choice.inner.Statement.{statement}
 use Rattle.draw.proofs.choice.inner.Tie as tie
-use Rattle.draw.proofs.choice.inner.Reads as reads
-use Rattle.draw.proofs.choice.inner.Lts as lts
-use Rattle.draw.proofs.choice.four_rows.Reads as four-rows-reads
-use Rattle.draw.proofs.choice.is_steep.Reads as is-steep-reads
-use Rattle.draw.proofs.choice.ordered_four.Reads as ordered-four-reads
-use Rattle.draw.proofs.choice.three_rows.Reads as three-rows-reads
-use Rattle.draw.proofs.motions.move_cell.Reads as move-cell-reads
-use Rattle.draw.proofs.motions.move_plan.Reads as move-plan-reads
 
--- src/choice.rt:362:9
 three-rows-requires : tie.Need-three-rows-requires
 three-rows-requires c κs = search needs
 
--- src/choice.rt:362:9
 returns : tie.Need-returns
-returns c = ?
+returns c = cond-yes _ _ (eq-eqb _ _ (c .before .if1 .taken)) (c .three-rows .ensures)
 
--- src/choice.rt:364:8
 is-steep-requires : tie.Need-is-steep-requires
 is-steep-requires c κs = search needs
 
--- src/choice.rt:365:36
 move-cell-requires : tie.Need-move-cell-requires
 move-cell-requires c κs = search needs
 
--- src/choice.rt:365:64
 move-cell-requires-2 : tie.Need-move-cell-requires-2
 move-cell-requires-2 c κs = search needs
 
--- src/choice.rt:365:13
 ordered-four-requires : tie.Need-ordered-four-requires
-ordered-four-requires c κs = ?
+ordered-four-requires c κs = small-as (c .before .move-cell .ensures) (c .move-cell2 .ensures) (small-turned (c .before .before .before .before .before .pre))
 
--- src/choice.rt:366:9
 move-plan-requires : tie.Need-move-plan-requires
 move-plan-requires c κs = search needs
 
--- src/choice.rt:366:9
 returns-2 : tie.Need-returns-2
-returns-2 c = ?
+returns-2 c = cond-no _ _ (ne-eqb _ _ (c .before .before .before .before .before .before .if1 .left)) (cond-yes _ _ (sym (c .before .before .before .before .before .is-steep .ensures) ∙ c .before .before .before .before .if2 .taken) (moved-as (turnedCell) (orderedFour (c .before .before .before .before .before .before .before .args .n) (c .before .before .before .before .before .before .before .args .m)) (c .move-plan .ensures) (c .before .ordered-four .ensures) (c .before .before .before .move-cell .ensures) (c .before .before .move-cell2 .ensures)))
 
--- src/choice.rt:368:5
 four-rows-requires : tie.Need-four-rows-requires
 four-rows-requires c κs = search needs
 
--- src/choice.rt:357:1
 returns-3 : tie.Need-returns-3
-returns-3 c = ?
+returns-3 c = cond-no _ _ (ne-eqb _ _ (c .before .before .before .if1 .left)) (cond-no _ _ (sym (c .before .before .is-steep .ensures) ∙ c .before .if2 .left) (c .four-rows .ensures))
 
 pub inner-spec : {M : Type 1} → statement M
 inner-spec =

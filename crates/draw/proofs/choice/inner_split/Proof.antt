@@ -1,34 +1,30 @@
 use borrow.Author.Needs.{needs}
+use borrow.Author.Tests.{lt-ltb, le-ltb}
+use mathlib.Core.Path.{refl, ap, _∙_}
+use Rattle.grid.proofs.Tests.{cond-yes, cond-no}
+use Rattle.draw.specs.Plan.{split, crossing, innerSplit}
 use Rattle.draw.proofs.choice.inner_split.Statement.{statement}
 use Rattle.draw.proofs.choice.inner_split.Tie as tie
-use Rattle.draw.proofs.choice.inner_split.Reads as reads
-use Rattle.draw.proofs.choice.inner_split.Lts as lts
-use Rattle.draw.proofs.choice.crossing.Reads as crossing-reads
-use Rattle.draw.proofs.shapes.split.Reads as split-reads
 
--- src/choice.rt:219:37
 crossing-requires : tie.Need-crossing-requires
 crossing-requires c κs = search needs
 
--- src/choice.rt:219:9
 split-requires : tie.Need-split-requires
 split-requires c κs = search needs
 
--- src/choice.rt:219:9
 returns : tie.Need-returns
-returns c = ?
+unfolding innerSplit
+returns c = c .split .ensures ∙ ap (λ k. split (c .before .before .before .before .args .m) (c .before .before .before .before .args .n) (c .before .before .before .before .args .s) (c .before .before .before .before .args .t) 2 k) (c .before .crossing .ensures) ∙ ap (λ k. split (c .before .before .before .before .args .m) (c .before .before .before .before .args .n) (c .before .before .before .before .args .s) (c .before .before .before .before .args .t) k (crossing (c .before .before .before .before .args .n) (c .before .before .before .before .args .s) (c .before .before .before .before .args .t) k)) (cond-yes 2 (c .before .before .before .before .args .s .x) (lt-ltb _ _ (c .before .before .if1 .taken)) refl)
 
--- src/choice.rt:221:28
 crossing-requires-2 : tie.Need-crossing-requires-2
 crossing-requires-2 c κs = search needs
 
--- src/choice.rt:221:5
 split-requires-2 : tie.Need-split-requires-2
 split-requires-2 c κs = search needs
 
--- src/choice.rt:214:1
 returns-2 : tie.Need-returns-2
-returns-2 c = ?
+unfolding innerSplit
+returns-2 c = c .split2 .ensures ∙ ap (λ k. split (c .before .before .before .before .args .m) (c .before .before .before .before .args .n) (c .before .before .before .before .args .s) (c .before .before .before .before .args .t) (c .before .before .before .before .args .s .x) k) (c .before .crossing2 .ensures) ∙ ap (λ k. split (c .before .before .before .before .args .m) (c .before .before .before .before .args .n) (c .before .before .before .before .args .s) (c .before .before .before .before .args .t) k (crossing (c .before .before .before .before .args .n) (c .before .before .before .before .args .s) (c .before .before .before .before .args .t) k)) (cond-no 2 (c .before .before .before .before .args .s .x) (le-ltb _ _ (c .before .before .if1 .left)) refl)
 
 pub inner-split-spec : {M : Type 1} → statement M
 inner-split-spec =

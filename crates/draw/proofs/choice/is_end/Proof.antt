@@ -1,15 +1,14 @@
+use borrow.Author.Tests.{eq-eqb, ne-eqb}
+use mathlib.Core.Path.{refl}
+use Rattle.bound.proofs.Tests.{or-yes, or-no}
 use Rattle.draw.proofs.choice.is_end.Statement.{statement}
 use Rattle.draw.proofs.choice.is_end.Tie as tie
-use Rattle.draw.proofs.choice.is_end.Reads as reads
-use Rattle.draw.proofs.choice.is_end.Lts as lts
 
--- src/choice.rt:80:9
 returns : tie.Need-returns
-returns c = ?
+returns c = or-yes _ (eq-eqb _ _ (c .if1 .taken))
 
--- src/choice.rt:76:1
 returns-2 : tie.Need-returns-2
-returns-2 c = ?
+returns-2 c = or-no _ (ne-eqb _ _ (c .if1 .left)) refl
 
 pub is-end-spec : {M : Type 1} → statement M
 is-end-spec = tie.close (tie.spec returns returns-2)

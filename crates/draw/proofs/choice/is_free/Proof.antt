@@ -1,29 +1,24 @@
 use borrow.Author.Needs.{needs}
+use mathlib.Core.Path.{sym, ap, _∙_}
+use mathlib.Core.Bool.{not}
+use Rattle.grid.proofs.Tests.{and-yes, and-no}
 use Rattle.draw.proofs.choice.is_free.Statement.{statement}
 use Rattle.draw.proofs.choice.is_free.Tie as tie
-use Rattle.draw.proofs.choice.is_free.Reads as reads
-use Rattle.draw.proofs.choice.is_free.Lts as lts
-use Rattle.grid.proofs.same_cell.Reads as same-cell-reads
 
--- src/choice.rt:60:8
 same-cell-requires : tie.Need-same-cell-requires
 same-cell-requires c κs = search needs
 
--- src/choice.rt:61:9
 returns : tie.Need-returns
-returns c = ?
+returns c = and-no _ (ap not (sym (c .before .same-cell .ensures) ∙ c .if1 .taken))
 
--- src/choice.rt:63:26
 add-t8 : tie.Need-add-t8
 add-t8 c = search needs
 
--- src/choice.rt:63:6
 same-cell-requires-2 : tie.Need-same-cell-requires-2
 same-cell-requires-2 c κs = search needs
 
--- src/choice.rt:56:1
 returns-2 : tie.Need-returns-2
-returns-2 c = ?
+returns-2 c = and-yes _ (ap not (sym (c .before .before .same-cell .ensures) ∙ c .before .if1 .left)) (ap not (c .same-cell2 .ensures))
 
 pub is-free-spec : {M : Type 1} → statement M
 is-free-spec =

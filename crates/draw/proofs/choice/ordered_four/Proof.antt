@@ -1,30 +1,28 @@
 use borrow.Author.Needs.{needs}
+use borrow.Author.Tests.{lt-ltb, le-ltb}
+use mathlib.Core.Path.{ap, _∙_}
+use Rattle.grid.proofs.Tests.{cond-yes, cond-no}
+use Rattle.draw.specs.Leg.{reversedPlan}
+use Rattle.draw.specs.Plan.{orderedFour}
 use Rattle.draw.proofs.choice.ordered_four.Statement.{statement}
 use Rattle.draw.proofs.choice.ordered_four.Tie as tie
-use Rattle.draw.proofs.choice.ordered_four.Reads as reads
-use Rattle.draw.proofs.choice.ordered_four.Lts as lts
-use Rattle.draw.proofs.choice.four_rows.Reads as four-rows-reads
-use Rattle.draw.proofs.motions.reverse_plan.Reads as reverse-plan-reads
 
--- src/choice.rt:335:29
 four-rows-requires : tie.Need-four-rows-requires
 four-rows-requires c κs = search needs
 
--- src/choice.rt:335:9
 reverse-plan-requires : tie.Need-reverse-plan-requires
 reverse-plan-requires c κs = search needs
 
--- src/choice.rt:335:9
 returns : tie.Need-returns
-returns c = ?
+unfolding orderedFour
+returns c = cond-yes _ _ (lt-ltb _ _ (c .before .before .if1 .taken)) (c .reverse-plan .ensures ∙ ap reversedPlan (c .before .four-rows .ensures))
 
--- src/choice.rt:337:5
 four-rows-requires-2 : tie.Need-four-rows-requires-2
 four-rows-requires-2 c κs = search needs
 
--- src/choice.rt:330:1
 returns-2 : tie.Need-returns-2
-returns-2 c = ?
+unfolding orderedFour
+returns-2 c = cond-no _ _ (le-ltb _ _ (c .before .if1 .left)) (c .four-rows2 .ensures)
 
 pub ordered-four-spec : {M : Type 1} → statement M
 ordered-four-spec =

@@ -1,30 +1,28 @@
 use borrow.Author.Needs.{needs}
+use borrow.Author.Tests.{lt-ltb, le-ltb}
+use mathlib.Core.Path.{ap, _∙_}
+use Rattle.grid.proofs.Tests.{cond-yes, cond-no}
+use Rattle.draw.specs.Leg.{reversedPlan}
+use Rattle.draw.specs.Plan.{orderedWide}
 use Rattle.draw.proofs.choice.ordered_wide.Statement.{statement}
 use Rattle.draw.proofs.choice.ordered_wide.Tie as tie
-use Rattle.draw.proofs.choice.ordered_wide.Reads as reads
-use Rattle.draw.proofs.choice.ordered_wide.Lts as lts
-use Rattle.draw.proofs.choice.wide.Reads as wide-reads
-use Rattle.draw.proofs.motions.reverse_plan.Reads as reverse-plan-reads
 
--- src/choice.rt:401:29
 wide-requires : tie.Need-wide-requires
 wide-requires c κs = search needs
 
--- src/choice.rt:401:9
 reverse-plan-requires : tie.Need-reverse-plan-requires
 reverse-plan-requires c κs = search needs
 
--- src/choice.rt:401:9
 returns : tie.Need-returns
-returns c = ?
+unfolding orderedWide
+returns c = cond-yes _ _ (lt-ltb _ _ (c .before .before .if1 .taken)) (c .reverse-plan .ensures ∙ ap reversedPlan (c .before .wide .ensures))
 
--- src/choice.rt:403:5
 wide-requires-2 : tie.Need-wide-requires-2
 wide-requires-2 c κs = search needs
 
--- src/choice.rt:396:1
 returns-2 : tie.Need-returns-2
-returns-2 c = ?
+unfolding orderedWide
+returns-2 c = cond-no _ _ (le-ltb _ _ (c .before .if1 .left)) (c .wide2 .ensures)
 
 pub ordered-wide-spec : {M : Type 1} → statement M
 ordered-wide-spec =

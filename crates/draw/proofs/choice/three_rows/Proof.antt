@@ -1,88 +1,72 @@
 use borrow.Author.Needs.{needs}
+use borrow.Author.Tests.{eq-eqb, ne-eqb, not-true, not-false}
+use mathlib.Core.Path.{sym, ap, _∙_}
+use mathlib.Core.Bool.{not}
+use Rattle.grid.proofs.Tests.{and-yes, and-no, cond-yes, cond-no}
+use Rattle.draw.specs.Leg.{mirrorX}
+use Rattle.draw.specs.Plan.{ess, third, threeRows}
+use Rattle.draw.proofs.Branch.{moved-as, small-as, small-x}
 use Rattle.draw.proofs.choice.three_rows.Statement.{statement}
 use Rattle.draw.proofs.choice.three_rows.Tie as tie
-use Rattle.draw.proofs.choice.three_rows.Reads as reads
-use Rattle.draw.proofs.choice.three_rows.Lts as lts
-use Rattle.draw.proofs.choice.is_critical.Reads as is-critical-reads
-use Rattle.draw.proofs.choice.is_odd.Reads as is-odd-reads
-use Rattle.draw.proofs.choice.third.Reads as third-reads
-use Rattle.draw.proofs.choice.three_rows_apart.Reads as three-rows-apart-reads
-use Rattle.draw.proofs.motions.move_cell.Reads as move-cell-reads
-use Rattle.draw.proofs.motions.move_plan.Reads as move-plan-reads
-use Rattle.draw.proofs.shapes.ess.Reads as ess-reads
-use Rattle.draw.proofs.shapes.middle.Reads as middle-reads
 
--- src/choice.rt:148:9
 is-critical-requires : tie.Need-is-critical-requires
 is-critical-requires c κs = search needs
 
--- src/choice.rt:149:9
 three-rows-apart-requires : tie.Need-three-rows-apart-requires
 three-rows-apart-requires c κs = search needs
 
--- src/choice.rt:149:9
 returns : tie.Need-returns
-returns c = ?
+unfolding threeRows
+returns c = cond-no _ _ (sym (c .before .before .is-critical .ensures) ∙ not-true _ (c .before .if1 .taken)) (c .three-rows-apart .ensures)
 
--- src/choice.rt:152:38
 add-ess : tie.Need-add-ess
 add-ess c = search needs
 
--- src/choice.rt:153:24
 move-cell-requires : tie.Need-move-cell-requires
 move-cell-requires c κs = search needs
 
--- src/choice.rt:153:46
 move-cell-requires-2 : tie.Need-move-cell-requires-2
 move-cell-requires-2 c κs = search needs
 
--- src/choice.rt:153:68
 third-requires : tie.Need-third-requires
 third-requires c κs = search needs
 
--- src/choice.rt:153:13
 ess-requires : tie.Need-ess-requires
-ess-requires c κs = ?
+ess-requires c κs = small-as (c .before .before .move-cell .ensures) (c .before .move-cell2 .ensures) (small-x (c .before .before .before .before .before .before .before .before .pre))
 
--- src/choice.rt:154:9
 move-plan-requires : tie.Need-move-plan-requires
 move-plan-requires c κs = search needs
 
--- src/choice.rt:154:9
 returns-2 : tie.Need-returns-2
-returns-2 c = ?
+unfolding threeRows
+returns-2 c = cond-yes _ _ (sym (c .before .before .before .before .before .before .before .before .before .is-critical .ensures) ∙ not-false _ (c .before .before .before .before .before .before .before .before .if1 .left)) (cond-yes _ _ (eq-eqb _ _ (c .before .before .before .before .before .if2 .taken)) (moved-as (mirrorX (c .before .before .before .before .before .before .before .before .before .before .args .m)) (λ a b. ess (c .before .before .before .before .before .before .before .before .before .before .args .m) a b (third (c .before .before .before .before .before .before .before .before .before .before .args .s) (c .before .before .before .before .before .before .before .before .before .before .args .t))) (c .move-plan .ensures) (c .before .ess .ensures ∙ ap (λ k. ess (c .before .before .before .before .before .before .before .before .before .before .args .m) (c .before .before .before .before .move-cell .result) (c .before .before .before .move-cell2 .result) k) (c .before .before .third .ensures)) (c .before .before .before .before .move-cell .ensures) (c .before .before .before .move-cell2 .ensures)))
 
--- src/choice.rt:156:8
 is-odd-requires : tie.Need-is-odd-requires
 is-odd-requires c κs = search needs
 
--- src/choice.rt:157:9
 three-rows-apart-requires-2 : tie.Need-three-rows-apart-requires-2
 three-rows-apart-requires-2 c κs = search needs
 
--- src/choice.rt:157:9
 returns-3 : tie.Need-returns-3
-returns-3 c = ?
+unfolding threeRows
+returns-3 c = cond-yes _ _ (sym (c .before .before .before .before .before .before .before .is-critical .ensures) ∙ not-false _ (c .before .before .before .before .before .before .if1 .left)) (cond-no _ _ (ne-eqb _ _ (c .before .before .before .if2 .left)) (cond-no _ _ (sym (and-no _ (ap not (sym (c .before .before .is-odd .ensures) ∙ c .before .if3 .taken)))) (c .three-rows-apart2 .ensures)))
 
--- src/choice.rt:159:8
 add-if4 : tie.Need-add-if4
 add-if4 c = search needs
 
--- src/choice.rt:160:9
 middle-requires : tie.Need-middle-requires
 middle-requires c κs = search needs
 
--- src/choice.rt:160:9
 returns-4 : tie.Need-returns-4
-returns-4 c = ?
+unfolding threeRows
+returns-4 c = cond-yes _ _ (sym (c .before .before .before .before .before .before .before .before .before .before .is-critical .ensures) ∙ not-false _ (c .before .before .before .before .before .before .before .before .before .if1 .left)) (cond-no _ _ (ne-eqb _ _ (c .before .before .before .before .before .before .if2 .left)) (cond-yes _ _ (sym (and-yes _ (ap not (sym (c .before .before .before .before .before .is-odd .ensures) ∙ c .before .before .before .before .if3 .left)) (sym (eq-eqb _ _ (c .before .if4 .taken))))) (c .middle .ensures)))
 
--- src/choice.rt:162:5
 three-rows-apart-requires-3 : tie.Need-three-rows-apart-requires-3
 three-rows-apart-requires-3 c κs = search needs
 
--- src/choice.rt:144:1
 returns-5 : tie.Need-returns-5
-returns-5 c = ?
+unfolding threeRows
+returns-5 c = cond-yes _ _ (sym (c .before .before .before .before .before .before .before .before .before .before .is-critical .ensures) ∙ not-false _ (c .before .before .before .before .before .before .before .before .before .if1 .left)) (cond-no _ _ (ne-eqb _ _ (c .before .before .before .before .before .before .if2 .left)) (cond-no _ _ (sym (and-yes _ (ap not (sym (c .before .before .before .before .before .is-odd .ensures) ∙ c .before .before .before .before .if3 .left)) (sym (ne-eqb _ _ (c .before .if4 .left))))) (c .three-rows-apart3 .ensures)))
 
 pub three-rows-spec : {M : Type 1} → statement M
 three-rows-spec =

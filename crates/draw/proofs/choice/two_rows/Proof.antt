@@ -1,50 +1,44 @@
 use borrow.Author.Needs.{needs}
+use borrow.Author.Tests.{eq-eqb, ne-eqb, lt-ltb, le-ltb}
+use mathlib.Core.Path.{ap, _∙_}
+use Rattle.grid.proofs.Tests.{cond-yes, cond-no}
+use Rattle.draw.specs.Plan.{split, twoRows}
 use Rattle.draw.proofs.choice.two_rows.Statement.{statement}
 use Rattle.draw.proofs.choice.two_rows.Tie as tie
-use Rattle.draw.proofs.choice.two_rows.Reads as reads
-use Rattle.draw.proofs.choice.two_rows.Lts as lts
-use Rattle.draw.proofs.motions.less.Reads as less-reads
-use Rattle.draw.proofs.shapes.split.Reads as split-reads
 
--- src/choice.rt:100:9
 less-requires : tie.Need-less-requires
 less-requires c κs = search needs
 
--- src/choice.rt:102:9
 split-requires : tie.Need-split-requires
 split-requires c κs = search needs
 
--- src/choice.rt:102:9
 returns : tie.Need-returns
-returns c = ?
+unfolding twoRows
+returns c = cond-yes _ _ (eq-eqb _ _ (c .before .if1 .taken)) (c .split .ensures ∙ ap (λ k. split (c .before .before .before .before .before .args .m) 2 (c .before .before .before .before .before .args .s) (c .before .before .before .before .before .args .t) (c .before .before .before .before .before .args .s .x) k) (c .before .before .before .before .less .ensures))
 
--- src/choice.rt:104:8
 add-if2 : tie.Need-add-if2
 add-if2 c = search needs
 
--- src/choice.rt:105:9
 split-requires-2 : tie.Need-split-requires-2
 split-requires-2 c κs = search needs
 
--- src/choice.rt:105:9
 returns-2 : tie.Need-returns-2
-returns-2 c = ?
+unfolding twoRows
+returns-2 c = cond-no _ _ (ne-eqb _ _ (c .before .before .before .before .if1 .left)) (cond-yes _ _ (lt-ltb _ _ (c .before .if2 .taken)) (c .split2 .ensures ∙ ap (λ k. split (c .before .before .before .before .before .before .before .before .args .m) 2 (c .before .before .before .before .before .before .before .before .args .s) (c .before .before .before .before .before .before .before .before .args .t) (c .before .before .before .before .before .before .before .before .args .s .x) k) (c .before .before .before .before .before .before .before .less .ensures)))
 
--- src/choice.rt:107:12
 add-if3 : tie.Need-add-if3
 add-if3 c = search needs
 
--- src/choice.rt:108:13
 less-requires-2 : tie.Need-less-requires-2
 less-requires-2 c κs = search needs
 
--- src/choice.rt:109:9
 returns-3 : tie.Need-returns-3
-returns-3 c = ?
+unfolding twoRows
+returns-3 c = cond-no _ _ (ne-eqb _ _ (c .before .before .before .before .before .before .before .if1 .left)) (cond-no _ _ (le-ltb _ _ (c .before .before .before .before .if2 .left)) (cond-yes _ _ (lt-ltb _ _ (c .before .if3 .taken)) (rw (c .less2 .ensures))))
 
--- src/choice.rt:96:1
 returns-4 : tie.Need-returns-4
-returns-4 c = ?
+unfolding twoRows
+returns-4 c = cond-no _ _ (ne-eqb _ _ (c .before .before .before .before .before .before .if1 .left)) (cond-no _ _ (le-ltb _ _ (c .before .before .before .if2 .left)) (cond-no _ _ (le-ltb _ _ (c .if3 .left)) (rw (c .before .before .before .before .before .before .before .before .before .less .ensures))))
 
 pub two-rows-spec : {M : Type 1} → statement M
 two-rows-spec =

@@ -1,29 +1,23 @@
 use borrow.Author.Needs.{needs}
+use mathlib.Core.Path.{refl, sym, _∙_}
+use Rattle.grid.proofs.Tests.{cond-yes, cond-no}
 use Rattle.draw.proofs.choice.wraps_below.Statement.{statement}
 use Rattle.draw.proofs.choice.wraps_below.Tie as tie
-use Rattle.draw.proofs.choice.wraps_below.Reads as reads
-use Rattle.draw.proofs.choice.wraps_below.Lts as lts
-use Rattle.draw.proofs.choice.is_odd.Reads as is-odd-reads
 
--- src/choice.rt:170:8
 is-odd-requires : tie.Need-is-odd-requires
 is-odd-requires c κs = search needs
 
--- src/choice.rt:171:16
 add-result : tie.Need-add-result
 add-result c = search needs
 
--- src/choice.rt:171:9
 returns : tie.Need-returns
-returns c = ?
+returns c = cond-yes _ _ (sym (c .before .before .is-odd .ensures) ∙ c .before .if1 .taken) refl
 
--- src/choice.rt:173:5
 is-odd-requires-2 : tie.Need-is-odd-requires-2
 is-odd-requires-2 c κs = search needs
 
--- src/choice.rt:166:1
 returns-2 : tie.Need-returns-2
-returns-2 c = ?
+returns-2 c = cond-no _ _ (sym (c .before .before .is-odd .ensures) ∙ c .before .if1 .left) (c .is-odd2 .ensures)
 
 pub wraps-below-spec : {M : Type 1} → statement M
 wraps-below-spec =

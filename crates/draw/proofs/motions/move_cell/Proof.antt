@@ -1,41 +1,32 @@
 use borrow.Author.Needs.{needs}
+use mathlib.Core.Path.{sym, ap}
+use Rattle.draw.specs.Motion.{moved}
 use Rattle.draw.proofs.motions.move_cell.Statement.{statement}
 use Rattle.draw.proofs.motions.move_cell.Tie as tie
-use Rattle.draw.proofs.motions.move_cell.Reads as reads
-use Rattle.draw.proofs.motions.move_cell.Lts as lts
-use Rattle.draw.proofs.motions.less.Reads as less-reads
 
--- src/motions.rt:22:25
 enum-told : tie.Need-enum-told
 enum-told c = search needs
 
--- src/motions.rt:23:25
 enum-known-k : tie.Need-enum-known-k
 enum-known-k c = search needs
 
--- src/motions.rt:24:16
 less-requires : tie.Need-less-requires
 less-requires c κs = search needs
 
--- src/motions.rt:27:25
 enum-known-k-2 : tie.Need-enum-known-k-2
 enum-known-k-2 c = search needs
 
--- src/motions.rt:29:16
 less-requires-2 : tie.Need-less-requires-2
 less-requires-2 c κs = search needs
 
--- src/motions.rt:18:1
 returns : tie.Need-returns
-returns c = ?
+returns c = sym (ap (λ k. moved k (c .before .before .args .c)) (c .enum-told .given .1))
 
--- src/motions.rt:18:1
 returns-2 : tie.Need-returns-2
-returns-2 c = ?
+returns-2 c = rw (c .less .ensures) (sym (ap (λ k. moved k (c .before .before .before .before .args .c)) (c .before .before .k .given .1)))
 
--- src/motions.rt:18:1
 returns-3 : tie.Need-returns-3
-returns-3 c = ?
+returns-3 c = rw (c .less2 .ensures) (sym (ap (λ k. moved k (c .before .before .before .before .args .c)) (c .before .before .k2 .given .1)))
 
 pub move-cell-spec : {M : Type 1} → statement M
 move-cell-spec =

@@ -1,43 +1,34 @@
 use borrow.Author.Needs.{needs}
+use mathlib.Core.Path.{ap, _∙_}
+use Rattle.draw.specs.declared.Plan.the-variants.{Five}
+use Rattle.draw.specs.Plan.{round, ess}
 use Rattle.draw.proofs.shapes.ess.Statement.{statement}
 use Rattle.draw.proofs.shapes.ess.Tie as tie
-use Rattle.draw.proofs.shapes.ess.Reads as reads
-use Rattle.draw.proofs.shapes.ess.Lts as lts
-use Rattle.draw.proofs.motions.less.Reads as less-reads
-use Rattle.draw.proofs.shapes.round.Reads as round-reads
-use Rattle.draw.proofs.shapes.row.Reads as row-reads
 
--- src/shapes.rt:149:9
 row-requires : tie.Need-row-requires
 row-requires c κs = search needs
 
--- src/shapes.rt:150:15
 add-round : tie.Need-add-round
 add-round c = search needs
 
--- src/shapes.rt:150:9
 round-requires : tie.Need-round-requires
 round-requires c κs = search needs
 
--- src/shapes.rt:151:9
 row-requires-2 : tie.Need-row-requires-2
 row-requires-2 c κs = search needs
 
--- src/shapes.rt:152:15
 less-requires : tie.Need-less-requires
 less-requires c κs = search needs
 
--- src/shapes.rt:152:9
 round-requires-2 : tie.Need-round-requires-2
 round-requires-2 c κs = search needs
 
--- src/shapes.rt:153:9
 row-requires-3 : tie.Need-row-requires-3
 row-requires-3 c κs = search needs
 
--- src/shapes.rt:144:1
 returns : tie.Need-returns
-returns c = ?
+unfolding ess
+returns c = λ i. Five (c .before .before .before .before .before .before .row .ensures i) (c .before .before .before .before .round .ensures i) (c .before .before .before .row2 .ensures i) ((c .before .round2 .ensures ∙ ap (λ k. round k 1 (c .before .before .before .before .before .before .before .args .r) (c .before .before .before .before .before .before .before .args .t .y)) (c .before .before .less .ensures)) i) (c .row3 .ensures i)
 
 pub ess-spec : {M : Type 1} → statement M
 ess-spec =
