@@ -20,10 +20,10 @@ use Rattle.draw.proofs.Cases.{equal?}
 parity : (k : ℕ) → (k % 2 ≡ 1) ⊎ (k % 2 ≡ 0)
 parity k = ⊎-elim (λ e. inl e) (λ e. inr (omega arith)) (equal? (k % 2) 1)
 
-odd-yes : (k : ℕ) → k % 2 ≡ 1 → eqb (k % 2) 1 ≡ true
+pub odd-yes : (k : ℕ) → k % 2 ≡ 1 → eqb (k % 2) 1 ≡ true
 odd-yes k e = eq-eqb (k % 2) 1 e
 
-odd-no : (k : ℕ) → k % 2 ≡ 0 → eqb (k % 2) 1 ≡ false
+pub odd-no : (k : ℕ) → k % 2 ≡ 0 → eqb (k % 2) 1 ≡ false
 odd-no k e = ne-eqb (k % 2) 1 (λ (z : k % 2 ≡ 1). omega arith)
 
 -- ---- the count's choice

@@ -8,7 +8,7 @@ use mathlib.Core.Bool.{Bool, true, false, cond, not, _&&_}
 use mathlib.Core.List.{List, [], _∷_}
 use native.Mathlib.Omega.{arith}
 use lib.Dec.{eqb, ltb}
-use borrow.Author.Tests.{eqb-true, eqb-false, ltb-true, ltb-false, not-true, not-false}
+use borrow.Author.Tests.{eqb-true, eqb-false, ltb-true, ltb-false, not-true, not-false, eq-eqb}
 use Rattle.grid.specs.declared.Panel.{Panel}
 use Rattle.grid.specs.declared.Cell.{Cell}
 use Rattle.grid.specs.Panel.{OnPanel, Neighbours, dist, black, sameCell}
@@ -23,9 +23,9 @@ use Rattle.draw.specs.Plan.{split, round, ess, middle, critical, free, s
 use Rattle.draw.proofs.Cases.{equal?, less?, if-test, if-equal}
 use Rattle.draw.proofs.Size.{count-row, count-column, count-block, blockCount, block-loss}
 use Rattle.draw.proofs.Chain.{LegFrom, Sep, on-left, on-right, above, below, Each, Chain, Plans}
-use Rattle.draw.proofs.Moved.{plan-mirrored}
+use Rattle.draw.proofs.Moved.{mirror-move, plan-mirrored}
 use Rattle.draw.proofs.Corners.{NotCorner}
-use Rattle.draw.proofs.ThreeCount.{Far, lost-three, whole-three}
+use Rattle.draw.proofs.ThreeCount.{Far, odd-yes, odd-no, lost-three, whole-three}
 
 -- ---- a block of three rows
 
@@ -302,3 +302,198 @@ module _ (p : Panel) (high : p .height ≡ 3) where
 
         left : Around p (s .x - 1) 1 r (t .y) (s .x - 1) (round (s .x - 1) 1 r (t .y))
         left = around (s .x - 1) 1 r (t .y) (s .x - 1) (omega arith) (omega arith) (omega arith) (omega arith) (omega arith) (omega arith) (omega arith) (ot .top) (omega arith) rt
+
+-- ---- the tests
+
+steep-yes : (s t : Cell) → steep s t ≡ true → (t .x + s .y < s .x + t .y) ⊎ (t .x + t .y < s .x + s .y)
+steep-yes s t = go (ltb (t .x + s .y) (s .x + t .y)) refl
+  where
+    go : (b : Bool) → ltb (t .x + s .y) (s .x + t .y) ≡ b → cond b true (ltb (t .x + t .y) (s .x + s .y)) ≡ true → (t .x + s .y < s .x + t .y) ⊎ (t .x + t .y < s .x + s .y)
+    go true e f = inl (ltb-true _ _ e)
+    go false e f = inr (ltb-true _ _ f)
+
+steep-no : (s t : Cell) → steep s t ≡ false → (s .x + t .y ≤ t .x + s .y) × (s .x + s .y ≤ t .x + t .y)
+steep-no s t = go (ltb (t .x + s .y) (s .x + t .y)) refl
+  where
+    go : (b : Bool) → ltb (t .x + s .y) (s .x + t .y) ≡ b → cond b true (ltb (t .x + t .y) (s .x + s .y)) ≡ false → (s .x + t .y ≤ t .x + s .y) × (s .x + s .y ≤ t .x + t .y)
+    go true e f = let z : _≡_ {A = ℕ} 0 1 = cc in (omega arith, omega arith)
+    go false e f = (ltb-false _ _ e, ltb-false _ _ f)
+
+-- the edge from (x, 1) to (x + 1, 1), s being in column x
+free-yes : (s t : Cell) → free (s .x) 1 s t ≡ true → (s .y ≡ 1 → ⊥) × (s .x + 1 ≡ t .x → t .y ≡ 1 → ⊥)
+free-yes s t e = (
+  λ h. same-ne (cell (s .x) 1) s (not-true _ (and-left (not (sameCell (cell (s .x) 1) s)) (not (sameCell (cell (s .x + 1) 1) t)) e)) (cell-eq refl (sym h)),
+  λ g h. same-ne (cell (s .x + 1) 1) t (not-true _ (and-right (not (sameCell (cell (s .x) 1) s)) (not (sameCell (cell (s .x + 1) 1) t)) e)) (cell-eq g (sym h)),
+)
+
+free-no : (s t : Cell) → free (s .x) 1 s t ≡ false → (s .y ≡ 1) ⊎ ((s .x + 1 ≡ t .x) × (t .y ≡ 1))
+free-no s t = go (sameCell (cell (s .x) 1) s) refl
+  where
+    go : (b : Bool) → sameCell (cell (s .x) 1) s ≡ b → (not b && not (sameCell (cell (s .x + 1) 1) t)) ≡ false → (s .y ≡ 1) ⊎ ((s .x + 1 ≡ t .x) × (t .y ≡ 1))
+    go true e f = inl (sym (ap (λ (c : Cell). c .y) (same-eq (cell (s .x) 1) s e)))
+    go false e f = let h = same-eq (cell (s .x + 1) 1) t (not-false _ f) in inr (ap (λ (c : Cell). c .x) h, sym (ap (λ (c : Cell). c .y) h))
+
+even : (a : ℕ) → odd a ≡ false → a % 2 ≡ 0
+even a f = let g = eqb-false (a % 2) 1 f in omega arith
+
+module _ (m : ℕ) (s t : Cell) where
+  critical-yes : critical m s t ≡ true → (m % 2 ≡ 0) × ((s .x + s .y) % 2 ≡ 1) × ((t .x + t .y) % 2 ≡ 0)
+  critical-yes e =
+      let r = and-right (not (odd m)) (black s && not (black t)) e in
+      (even m (not-true _ (and-left (not (odd m)) (black s && not (black t)) e)), eqb-true _ _ (and-left (black s) (not (black t)) r), even (t .x + t .y) (not-true _ (and-right (black s) (not (black t)) r)))
+
+  critical-no : critical m s t ≡ false → m % 2 ≡ 0 → (s .x + s .y) % 2 ≡ 1 → (t .x + t .y) % 2 ≡ 0 → ⊥
+  critical-no e a b c =
+      let f : critical m s t ≡ true = (λ i. not (odd-no m a i) && (odd-yes (s .x + s .y) b i && not (odd-no (t .x + t .y) c i))) in
+      let z : _≡_ {A = ℕ} 0 1 = cc in
+      omega arith
+
+-- further apart in rows than in columns, one of the terminals in row 2
+lone : (x y z q : ℕ) → x ≤ z → 1 ≤ y → y ≤ 3 → 1 ≤ q → q ≤ 3 → (y ≡ 2) ⊎ (q ≡ 2) → (z + y < x + q) ⊎ (z + q < x + y) → (z ≡ x) × (y ≡ q → ⊥)
+lone x y z q l a b c d (inl e) (inl h) = (omega arith, omega arith)
+lone x y z q l a b c d (inl e) (inr h) = (omega arith, omega arith)
+lone x y z q l a b c d (inr e) (inl h) = (omega arith, omega arith)
+lone x y z q l a b c d (inr e) (inr h) = (omega arith, omega arith)
+
+-- rows by colours: in an even column and the next, and in an odd one and the next
+odd-rows : (x y q : ℕ) → x % 2 ≡ 0 → (x + y) % 2 ≡ 1 → (x + 1 + q) % 2 ≡ 0 → (y ≡ 2 → ⊥) × (q ≡ 2 → ⊥)
+odd-rows x y q e f g = (omega arith, omega arith)
+
+even-rows : (x y q : ℕ) → x % 2 ≡ 1 → (x + y) % 2 ≡ 1 → (x + 1 + q) % 2 ≡ 0 → 1 ≤ y → y ≤ 3 → 1 ≤ q → q ≤ 3 → (y ≡ 2) × (q ≡ 2)
+even-rows x y q e f g a b c d = (omega arith, omega arith)
+
+-- colours in the mirror, the width being even
+mirror-white : (m x y : ℕ) → x ≤ m → m % 2 ≡ 0 → (x + y) % 2 ≡ 1 → (m + 1 - x + y) % 2 ≡ 0
+mirror-white m x y l e f = omega arith
+
+mirror-black : (m x y : ℕ) → x ≤ m → m % 2 ≡ 0 → (x + y) % 2 ≡ 0 → (m + 1 - x + y + m + 1) % 2 ≡ 0
+mirror-black m x y l e f = omega arith
+
+twice : (p : Panel) {c : Cell} → OnPanel p c → mirrorX (p .width) (mirrorX (p .width) c) ≡ c
+twice p {c} o = cell-eq (let l = o .right in omega arith) refl
+
+-- ---- which plan
+
+module _ (p : Panel) (s t : Cell) (high : p .height ≡ 3) (wide : 3 ≤ p .width) (os : OnPanel p s) (ot : OnPanel p t) (l : s .x ≤ t .x) (ne : s .x ≡ t .x → s .y ≡ t .y → ⊥) (ns : NotCorner p s) (nt : NotCorner p t) where
+  -- a terminal in the first or last column is in row 2
+  inner : (c : Cell) → OnPanel p c → NotCorner p c → (c .x ≡ 1) ⊎ (c .x ≡ p .width) → c .y ≡ 2
+  inner c oc nc h = ⊎-elim (λ e. absurd (upper e h)) (λ e. ⊎-elim (λ f. absurd (lower f h)) (λ f. omega arith) (equal? (c .y) 3)) (equal? (c .y) 1)
+    where
+      upper : c .y ≡ 1 → (c .x ≡ 1) ⊎ (c .x ≡ p .width) → ⊥
+      upper e (inl f) = nc .upper-left f e
+      upper e (inr f) = nc .upper-right f e
+
+      lower : c .y ≡ 3 → (c .x ≡ 1) ⊎ (c .x ≡ p .width) → ⊥
+      lower e (inl f) = nc .lower-left f (e ∙ sym high)
+      lower e (inr f) = nc .lower-right f (e ∙ sym high)
+
+  -- further apart in rows than in columns, they leave the outer columns free
+  within : (t .x + s .y < s .x + t .y) ⊎ (t .x + t .y < s .x + s .y) → (s .y ≡ t .y → ⊥) × (1 < s .x) × (t .x < p .width)
+  within h = (rows h, ⊎-elim (λ e. e) (λ e. absurd (first (omega arith))) (less? 1 (s .x)), ⊎-elim (λ e. e) (λ e. absurd (last (omega arith))) (less? (t .x) (p .width)))
+    where
+      rows : (t .x + s .y < s .x + t .y) ⊎ (t .x + t .y < s .x + s .y) → s .y ≡ t .y → ⊥
+      rows (inl g) e = omega arith
+      rows (inr g) e = omega arith
+
+      first : s .x ≡ 1 → ⊥
+      first e =
+          let a = inner s os ns (inl e) in
+          let b = lone (s .x) (s .y) (t .x) (t .y) l (os .top) (omega arith) (ot .top) (omega arith) (inl a) h in
+          b .1 (a ∙ sym (inner t ot nt (inl (b .0 ∙ e))))
+
+      last : t .x ≡ p .width → ⊥
+      last e =
+          let a = inner t ot nt (inr e) in
+          let b = lone (s .x) (s .y) (t .x) (t .y) l (os .top) (omega arith) (ot .top) (omega arith) (inr a) h in
+          b .1 (inner s os ns (inr (sym (b .0) ∙ e)) ∙ sym a)
+
+  apart-three : {k : ℕ} → k + ((s .x + s .y) % 2 + (t .x + t .y + p .width + 1) % 2) ≡ 3 * p .width → Plans p s t k (threeRowsApart (p .width) s t)
+  unfolding threeRowsApart
+  apart-three {k} e =
+      if-test (Plans p s t k) (steep s t) _ _
+      (λ f. let w = within (steep-yes s t f) in ess-three p high os ot (third s t) (omega arith) (w .0) l (w .1) (w .2) e)
+      (λ f. if-test (λ j. Plans p s t k (split (p .width) 3 s t (s .x) j)) (free (s .x) 1 s t) 1 3
+      (λ h. split-three p high os ot 1 top (right f) (free-yes s t h .0) (free-yes s t h .1) e)
+      (λ h. split-three p high os ot 3 bottom (right f) (other-s f (free-no s t h)) (other-t f (free-no s t h)) e))
+    where
+      right : steep s t ≡ false → s .x < t .x
+      right f = let g = steep-no s t f in ⊎-elim (λ z. absurd (ne z (omega arith))) (λ z. omega arith) (equal? (s .x) (t .x))
+
+      other-s : steep s t ≡ false → (s .y ≡ 1) ⊎ ((s .x + 1 ≡ t .x) × (t .y ≡ 1)) → s .y ≡ 3 → ⊥
+      other-s f (inl h) z = omega arith
+      other-s f (inr h) z = let g = steep-no s t f in omega arith
+
+      other-t : steep s t ≡ false → (s .y ≡ 1) ⊎ ((s .x + 1 ≡ t .x) × (t .y ≡ 1)) → s .x + 1 ≡ t .x → t .y ≡ 3 → ⊥
+      other-t f (inl h) z y = let g = steep-no s t f in omega arith
+      other-t f (inr h) z y = omega arith
+
+  -- ---- m even, s black, t white
+
+  module _ (em : p .width % 2 ≡ 0) (es : (s .x + s .y) % 2 ≡ 1) (et : (t .x + t .y) % 2 ≡ 0) where
+    -- in one column
+    mirrored-three : s .x ≡ t .x → Plans p s t ((decided p s t) .count .0) (movedPlan (mirrorX (p .width)) (ess (p .width) (mirrorX (p .width) s) (mirrorX (p .width) t) (third s t)))
+    mirrored-three e =
+        subst (λ (c : Cell). Plans p s c k moved) (twice p ot)
+        (subst (λ (c : Cell). Plans p c (mirrorX m (mirrorX m t)) k moved) (twice p os)
+        (plan-mirrored
+        (ess-three p high (mirror-move p .on s os) (mirror-move p .on t ot) (third s t) (omega arith) (w .0) (omega arith) (omega (arith, w .2)) (omega (arith, w .1))
+        (sum (whole-three p s t high em es et (omega arith) (λ z. absurd (off z))) (mirror-white m (s .x) (s .y) (os .right) em es) (mirror-black m (t .x) (t .y) (ot .right) em et)))))
+      where
+        m : ℕ
+        m = p .width
+
+        k : ℕ
+        k = (decided p s t) .count .0
+
+        moved : Plan
+        moved = movedPlan (mirrorX m) (ess m (mirrorX m s) (mirrorX m t) (third s t))
+
+        off : s .x + 1 ≡ t .x → ⊥
+        off z = omega arith
+
+        rows : s .y ≡ t .y → ⊥
+        rows = ne e
+
+        w : (s .y ≡ t .y → ⊥) × (1 < s .x) × (t .x < p .width)
+        w = within (⊎-elim (λ h. inl (omega arith)) (λ h. inr (omega (arith, rows))) (less? (s .y) (t .y)))
+
+        sum : {a b : ℕ} → k ≡ 3 * m → a ≡ 0 → b ≡ 0 → k + (a + b) ≡ 3 * m
+        sum ek ea eb = omega arith
+
+    far-three : (s .x ≡ t .x → ⊥) → (not (odd (s .x)) && eqb (s .x + 1) (t .x)) ≡ false → Far s t
+    far-three n f = ⊎-elim (λ h. inl (omega arith)) (λ h. next (omega arith)) (less? (s .x + 1) (t .x))
+      where
+        next : s .x + 1 ≡ t .x → Far s t
+        next e =
+            ⊎-elim
+            (λ h. inr (e, even-rows (s .x) (s .y) (t .y) h es (omega arith) (os .top) (omega arith) (ot .top) (omega arith) .0, even-rows (s .x) (s .y) (t .y) h es (omega arith) (os .top) (omega arith) (ot .top) (omega arith) .1))
+            (λ h. absurd (never (omega arith)))
+            (equal? (s .x % 2) 1)
+          where
+            never : s .x % 2 ≡ 0 → ⊥
+            never h =
+                let g : (not (odd (s .x)) && eqb (s .x + 1) (t .x)) ≡ true = (λ i. not (odd-no (s .x) h i) && eq-eqb (s .x + 1) (t .x) e i) in
+                let z : _≡_ {A = ℕ} 0 1 = cc in
+                omega arith
+
+    crossed-three : s .x % 2 ≡ 0 → s .x + 1 ≡ t .x → Plans p s t ((decided p s t) .count .0) (middle (p .width) s t)
+    crossed-three e f =
+        let r = odd-rows (s .x) (s .y) (t .y) e es (omega arith) in
+        subst⁻¹
+        (λ (k : ℕ). Plans p s t k (middle (p .width) s t))
+        (whole-three p s t high em es et (omega arith) (λ z. r .0))
+        (middle-three p high os ot (outer (s .y) (os .top) (omega arith) (r .0)) (outer (t .y) (ot .top) (omega arith) (r .1)) f e em)
+
+  pub three-rows : Plans p s t ((decided p s t) .count .0) (threeRows (p .width) s t)
+  unfolding threeRows
+  three-rows =
+      if-test (Plans p s t ((decided p s t) .count .0)) (critical (p .width) s t) _ _
+      (λ c.
+      let (em, es, et) = critical-yes (p .width) s t c in
+      if-equal (Plans p s t ((decided p s t) .count .0)) (s .x) (t .x) _ _
+      (λ e. mirrored-three em es et e)
+      (λ n.
+      if-test (Plans p s t ((decided p s t) .count .0)) (not (odd (s .x)) && eqb (s .x + 1) (t .x)) _ _
+      (λ f. crossed-three em es et (even (s .x) (not-true _ (and-left (not (odd (s .x))) (eqb (s .x + 1) (t .x)) f))) (eqb-true _ _ (and-right (not (odd (s .x))) (eqb (s .x + 1) (t .x)) f)))
+      (λ f. apart-three (lost-three p s t high wide (λ a b d. far-three em es et n f)))))
+      (λ c. apart-three (lost-three p s t high wide (λ em es et. absurd (critical-no (p .width) s t c em es et))))
