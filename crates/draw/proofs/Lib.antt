@@ -3,3 +3,5 @@ pub mod Size
 pub mod Chain
 pub mod Moved
 pub mod Corners
+pub mod Decided
+pub mod Rows
