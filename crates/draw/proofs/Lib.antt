@@ -5,3 +5,6 @@ pub mod Moved
 pub mod Corners
 pub mod Decided
 pub mod Rows
+pub mod CornerLeg
+pub mod Wide
+pub mod Exists
