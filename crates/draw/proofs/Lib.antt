@@ -3,5 +3,10 @@ pub mod Size
 pub mod Chain
 pub mod Moved
 pub mod Corners
+pub mod Decided
+pub mod Rows
+pub mod CornerLeg
+pub mod Wide
+pub mod Exists
 pub mod ThreeCount
 pub mod ThreeRows
