@@ -3,3 +3,4 @@ pub mod Size
 pub mod Chain
 pub mod Moved
 pub mod Corners
+pub mod Parity
