@@ -4,3 +4,4 @@ pub mod Chain
 pub mod Moved
 pub mod Corners
 pub mod Parity
+pub mod FourCount
