@@ -5,3 +5,4 @@ pub mod Moved
 pub mod Corners
 pub mod Parity
 pub mod FourCount
+pub mod Split
