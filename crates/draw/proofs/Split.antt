@@ -125,3 +125,103 @@ module _ (p : Panel) (s t : Cell) (c j : ℕ) (os : OnPanel p s) (ot : OnPanel p
       let q : c + d ≡ p .width = omega arith in
       let r : 2 ≤ d = omega arith in
       split-plans d k _ _ q (left-size a h n) (right-size d q r h o) (ap (λ (z : ℕ). k + z) (losses-are d q ∙ e) ∙ f .fits)
+
+-- ---- which row
+
+ne-colour : (a b : Cell) → differ (black a) (black b) ≡ true → a .x ≡ b .x → a .y ≡ b .y → ⊥
+ne-colour a b e f g = true≢false (sym e ∙ (λ i. differ (odd (f i + g i)) (black b)) ∙ never (black b))
+  where
+    never : (z : Bool) → differ z z ≡ false
+    never true = refl
+    never false = refl
+
+ne-same : (a b : Cell) → sameCell a b ≡ false → a .x ≡ b .x → a .y ≡ b .y → ⊥
+ne-same a b e f g = same-ne a b e (cell-eq f g)
+
+and-false : (a b : Bool) → (a && b) ≡ false → (a ≡ false) ⊎ (b ≡ false)
+and-false true b e = inr e
+and-false false b e = inl refl
+
+-- no further apart in rows than in columns
+pub record Near (s t : Cell) : Type 0 where
+  pub up : s .y + s .x ≤ t .y + t .x
+  pub down : t .y + s .x ≤ s .y + t .x
+
+-- where the colours do not choose the row, the terminals are near, and this is not the case that a split does not serve
+pub record Calm (p : Panel) (s t : Cell) : Type 0 where
+  pub near : Near s t
+  pub served : (odd (p .height) && critical (p .width) s t) ≡ false
+
+-- the edge in row 1 meets a terminal: then the edge in the last row does not
+meets : (n c : ℕ) (s t : Cell) → 4 ≤ n → Near s t → free c 1 s t ≡ false → record { at-s : c ≡ s .x → n ≡ s .y → ⊥; at-t : c + 1 ≡ t .x → n ≡ t .y → ⊥ }
+meets n c s t h near f =
+    let u = near .up in
+    let d = near .down in
+    ⊎-elim
+    (λ e.
+      let q = same-eq (cell c 1) s (not-false _ e) in
+      let qx : c ≡ s .x = ap (λ (z : Cell). z .x) q in
+      let qy : 1 ≡ s .y = ap (λ (z : Cell). z .y) q in
+      record { at-s = λ a b. omega arith; at-t = λ a b. omega arith })
+    (λ e.
+      let q = same-eq (cell (c + 1) 1) t (not-false _ e) in
+      let qx : c + 1 ≡ t .x = ap (λ (z : Cell). z .x) q in
+      let qy : 1 ≡ t .y = ap (λ (z : Cell). z .y) q in
+      record { at-s = λ a b. omega arith; at-t = λ a b. omega arith })
+    (and-false _ _ f)
+
+module _ (p : Panel) (s t : Cell) (k c : ℕ) (os : OnPanel p s) (ot : OnPanel p t) (fits : Fits (p .width) (p .height) s t k) (high : 4 ≤ p .height) (two≤ : 2 ≤ c) (wide : c + 2 ≤ p .width) (left : s .x ≤ c) (right : c < t .x) where
+  over-colours : (j : ℕ) → EndRow (p .height) j → (not (odd (p .height)) && differ (black s) (black t)) ≡ true → differ (differ (odd c) (odd j)) (black s) ≡ true → Plans p s t k (split (p .width) (p .height) s t c j)
+  over-colours j row e f =
+      let g = four (λ x y a b. implies (differ a b) (implies (differ (differ x y) a) (differ (differ (differ x true) y) b))) refl (odd c) (odd j) (black s) (black t) in
+      let l = six (λ x m n y a b. implies (not n && differ a b) (implies (differ (differ x y) a) (eqb (splitLoss x m n y a b) (defect m n a b)))) refl (odd c) (odd (p .width)) (odd (p .height)) (odd j) (black s) (black t) in
+      split-fits p s t c j os ot left right row k fits two≤ wide (omega arith)
+      (ne-colour (cell c j) s (ap (λ (z : Bool). differ z (black s)) (odd-sum c j) ∙ f))
+      (ne-colour (cell (c + 1) j) t (ap (λ (z : Bool). differ z (black t)) (odd-sum (c + 1) j ∙ ap (λ (z : Bool). differ z (odd j)) (odd-sum c 1)) ∙ apply (apply g (and-right (not (odd (p .height))) _ e)) f))
+      (eqb-true _ _ (apply (apply l e) f))
+
+  over-free : (j : ℕ) → EndRow (p .height) j → implies (odd (p .height)) (odd j) ≡ true → (not (odd (p .height)) && differ (black s) (black t)) ≡ false → (odd (p .height) && critical (p .width) s t) ≡ false → (c ≡ s .x → j ≡ s .y → ⊥) → (c + 1 ≡ t .x → j ≡ t .y → ⊥) → Plans p s t k (split (p .width) (p .height) s t c j)
+  over-free j row o e f n q =
+      let l = six (λ x m n y a b. implies (implies n y) (implies (not (not n && differ a b)) (implies (not (n && (not m && (a && not b)))) (eqb (splitLoss x m n y a b) (defect m n a b))))) refl (odd c) (odd (p .width)) (odd (p .height)) (odd j) (black s) (black t) in
+      split-fits p s t c j os ot left right row k fits two≤ wide (omega arith) n q (eqb-true _ _ (apply (apply (apply l o) (ap not e)) (ap not f)))
+
+  inner-at : ((not (odd (p .height)) && differ (black s) (black t)) ≡ false → Calm p s t) → Plans p s t k (split (p .width) (p .height) s t c (crossing (p .height) s t c))
+  unfolding crossing
+  inner-at calm =
+      if-test P (not (odd (p .height)) && differ (black s) (black t)) _ _
+      (λ e.
+        if-test P (differ (black (cell c 1)) (black s)) 1 (p .height)
+        (λ f. over-colours 1 (inl refl) e (sym (ap (λ (z : Bool). differ z (black s)) (odd-sum c 1)) ∙ f))
+        (λ f. over-colours (p .height) (inr refl) e (other e (sym (ap (λ (z : Bool). differ z (black s)) (odd-sum c 1)) ∙ f))))
+      (λ e.
+        let h = calm e in
+        if-test P (free c 1 s t) 1 (p .height)
+        (λ f. over-free 1 (inl refl) (one-odd (odd (p .height))) e (h .served) (ne-same (cell c 1) s (not-true _ (and-left _ (not (sameCell (cell (c + 1) 1) t)) f))) (ne-same (cell (c + 1) 1) t (not-true _ (and-right (not (sameCell (cell c 1) s)) _ f))))
+        (λ f. let m = meets (p .height) c s t high (h .near) f in over-free (p .height) (inr refl) (self (odd (p .height))) e (h .served) (m .at-s) (m .at-t)))
+    where
+      P : ℕ → Type 0
+      P j = Plans p s t k (split (p .width) (p .height) s t c j)
+      one-odd : (b : Bool) → implies b true ≡ true
+      one-odd true = refl
+      one-odd false = refl
+      self : (b : Bool) → implies b b ≡ true
+      self true = refl
+      self false = refl
+      other : (not (odd (p .height)) && differ (black s) (black t)) ≡ true → differ (differ (odd c) true) (black s) ≡ false → differ (differ (odd c) (odd (p .height))) (black s) ≡ true
+      other e f = apply (apply (four (λ x n a b. implies (not n && differ a b) (implies (not (differ (differ x true) a)) (differ (differ x n) a))) refl (odd c) (odd (p .height)) (black s) (black t)) e) (ap not f)
+
+-- the split at the column of s, or at column 2 where s is in the first
+pub inner-plans : (p : Panel) (s t : Cell) (k : ℕ) → OnPanel p s → OnPanel p t → Fits (p .width) (p .height) s t k → 4 ≤ p .height → 4 ≤ p .width → s .x + 2 ≤ p .width → s .x < t .x → 2 < t .x → ((not (odd (p .height)) && differ (black s) (black t)) ≡ false → Calm p s t) → Plans p s t k (innerSplit (p .width) (p .height) s t)
+unfolding innerSplit
+inner-plans p s t k os ot f high wide room l r calm =
+    if-less (λ (c : ℕ). Plans p s t k (split (p .width) (p .height) s t c (crossing (p .height) s t c))) (s .x) 2 2 (s .x)
+    (λ h. inner-at p s t k 2 os ot f high (omega arith) (omega arith) (omega arith) r calm)
+    (λ h. inner-at p s t k (s .x) os ot f high h room (omega arith) l calm)
+
+-- ---- beside the edge: s in column 1, t one to the right and one below
+
+-- the last row, where the second block is one: all of it but the first cell
+one-column : (x m : ℕ) → 4 ≤ m → trackCount (cell (x + 1) m) (cell (x + 1) (m + 1 - m)) (cell (x + 1) 2) + 1 ≡ 1 * m
+unfolding trackCount dist
+one-column x m h =
+    ap (λ (z : ℕ). z + 1) (count-column (dist (x + 1) (x + 1) + 1) (dist m (m + 1 - m) + 1) (dist (x + 1) (x + 1)) (dist m 2) (omega arith) (omega arith) (omega arith)) ∙ (omega arith)
