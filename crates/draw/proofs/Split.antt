@@ -1,7 +1,7 @@
 -- Plans of two blocks joined by an edge in the first or last row: a chain wherever the edge is, of the right size where the two blocks lose together
 -- what the panel loses. `inner-plans` chooses the row so that they do; `edge-plans` is a split by rows beside the panel's edge.
 use Prim.Native.Nat.{ℕ, _+_, _-_, _*_, _≤_, _<_, min, max}
-use mathlib.Core.Path.{_≡_, refl, sym, ap, _∙_, subst}
+use mathlib.Core.Path.{_≡_, refl, sym, ap, _∙_, subst₂}
 use mathlib.Core.Logic.{_⊎_, inl, inr, ⊎-elim}
 use mathlib.Core.Bool.{Bool, true, false, cond, not, _&&_, Bool·beq, true≢false}
 use native.Mathlib.Omega.{arith}
@@ -225,3 +225,41 @@ one-column : (x m : ℕ) → 4 ≤ m → trackCount (cell (x + 1) m) (cell (x + 
 unfolding trackCount dist
 one-column x m h =
     ap (λ (z : ℕ). z + 1) (count-column (dist (x + 1) (x + 1) + 1) (dist m (m + 1 - m) + 1) (dist (x + 1) (x + 1)) (dist m 2) (omega arith) (omega arith) (omega arith)) ∙ (omega arith)
+
+second-rows : (y m n d : ℕ) → 4 ≤ m → 1 ≤ d → y + d ≡ n → trackCount (cell (y + 1) m) (cell n (m + 1 - m)) (cell (y + 1) 2) + bit (loss (odd d) (odd m) (differ (black (cell (y + 1) m)) (black (cell (y + 1) 2)))) ≡ d * m
+second-rows y m n d h l e =
+    ⊎-elim
+    (λ (q : d ≡ 1).
+      let r : n ≡ y + 1 = omega arith in
+      let lost = (λ i. loss true (odd m) (differ (odd-sum (y + 1) m i) (odd-sum (y + 1) 2 i))) ∙ two (λ a b. loss true b (differ (differ a b) (differ a false))) refl (odd (y + 1)) (odd m) in
+      (λ i. trackCount (cell (y + 1) m) (cell (r i) (m + 1 - m)) (cell (y + 1) 2) + bit (loss (odd (q i)) (odd m) (differ (black (cell (y + 1) m)) (black (cell (y + 1) 2)))))
+      ∙ ap (λ (z : Bool). trackCount (cell (y + 1) m) (cell (y + 1) (m + 1 - m)) (cell (y + 1) 2) + bit z) lost
+      ∙ one-column y m h ∙ ap (λ (z : ℕ). z * m) (sym q))
+    (λ q. block-size (cell (y + 1) m) (cell n (m + 1 - m)) (cell (y + 1) 2) d m (span-up (y + 1) n d (omega arith) (omega arith)) (end-span m m (omega arith) (inr refl)) (omega arith) (omega arith) (λ a b. omega arith))
+    (equal? d 1)
+
+edge-at : (p : Panel) (y k : ℕ) → 4 ≤ p .width → 2 ≤ y → y + 1 ≤ p .height → Fits (p .width) (p .height) (cell 1 y) (cell 2 (y + 1)) k → Plans p (cell 1 y) (cell 2 (y + 1)) k (edgeSplit (p .width) (p .height) (cell 1 y) (cell 2 (y + 1)))
+unfolding edgeSplit
+edge-at p y k w a b f =
+    let m = p .width in
+    let n = p .height in
+    let d = n - y in
+    let q : y + d ≡ n = omega arith in
+    let os : OnPanel (turned p) (cell y 1) = record { left = omega arith; right = omega arith; top = omega arith; bottom = omega arith } in
+    let ot : OnPanel (turned p) (cell (y + 1) 2) = record { left = omega arith; right = omega arith; top = omega arith; bottom = omega arith } in
+    let left : y ≤ y = omega arith in
+    let right : y < y + 1 = omega arith in
+    let es = odd-sum y 1 in
+    let et = odd-sum (y + 1) 2 ∙ ap (λ (z : Bool). differ z false) es in
+    let lost = (λ i. splitLoss (odd y) (odd n) (odd m) (odd m) (es i) (et i)) ∙ eqb-true _ _ (four (λ y n m z. eqb (splitLoss y n m m (differ y true) (differ (differ y true) false)) (defect n m (differ y true) (differ (differ y true) false))) refl (odd y) (odd n) (odd m) true) ∙ (λ i. defect (odd n) (odd m) (sym es i) (sym et i)) in
+    plan-turned {p = turned p}
+    (split-plans (turned p) (cell y 1) (cell (y + 1) 2) y m os ot left right (inr refl) d k _ _ q
+      (left-size (turned p) (cell y 1) (cell (y + 1) 2) y m os ot left right (inr refl) a (omega arith) (λ u v. omega arith))
+      (second-rows y m n d w (omega arith) q)
+      (ap (λ (z : ℕ). k + z) (losses-are (turned p) (cell y 1) (cell (y + 1) 2) y m os ot left right (inr refl) d q ∙ lost) ∙ (fits-turned f) .fits))
+
+pub edge-plans : (p : Panel) (s t : Cell) (k : ℕ) → s .x ≡ 1 → t .x ≡ 2 → t .y ≡ s .y + 1 → 4 ≤ p .width → 2 ≤ s .y → t .y ≤ p .height → Fits (p .width) (p .height) s t k → Plans p s t k (edgeSplit (p .width) (p .height) s t)
+edge-plans p s t k e f g w a b =
+    let es : cell 1 (s .y) ≡ s = cell-eq (sym e) refl in
+    let et : cell 2 (s .y + 1) ≡ t = cell-eq (sym f) (sym g) in
+    subst₂ (λ (u v : Cell). Fits (p .width) (p .height) u v k → Plans p u v k (edgeSplit (p .width) (p .height) u v)) es et (edge-at p (s .y) k w a (omega arith))
