@@ -31,7 +31,7 @@ loss-odd w h d =
     odd-sum (w * h + d) 1 ∙ ap (λ (z : Bool). differ z true) (odd-sum (w * h) d ∙ ap (λ (z : Bool). differ z (odd d)) (odd-product w h))
     ∙ same _ _ (two (λ a b. Bool·beq (differ (differ a b) true) (differ a (not b))) refl (odd w && odd h) (odd d))
 
-distance-odd : (a t : Cell) → odd (dist (a .x) (t .x) + dist (a .y) (t .y)) ≡ differ (black a) (black t)
+pub distance-odd : (a t : Cell) → odd (dist (a .x) (t .x) + dist (a .y) (t .y)) ≡ differ (black a) (black t)
 distance-odd a t =
     odd-sum (dist (a .x) (t .x)) (dist (a .y) (t .y)) ∙ (λ i. differ (odd-dist (a .x) (t .x) i) (odd-dist (a .y) (t .y) i))
     ∙ same _ _ (four (λ a b c d. Bool·beq (differ (differ a b) (differ c d)) (differ (differ a c) (differ b d))) refl (odd (a .x)) (odd (t .x)) (odd (a .y)) (odd (t .y)))

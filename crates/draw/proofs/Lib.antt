@@ -6,3 +6,4 @@ pub mod Corners
 pub mod Parity
 pub mod FourCount
 pub mod Split
+pub mod Wrap

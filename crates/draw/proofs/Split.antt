@@ -53,6 +53,14 @@ end-rows n j p r =
     (λ e. record { low = omega arith; high = omega arith; from = λ y h. omega arith; upto = λ y h. omega arith })
     r
 
+-- ---- legs
+
+pub forth-leg : {p : Panel} {a b t : Cell} → OnPanel p a → OnPanel p b → Inside a b t → LegFrom p (forth a b t) a t
+forth-leg oa ob i = record { corner = oa; opposite = ob; target = i; from = refl; to = refl }
+
+pub back-leg : {p : Panel} {a b t : Cell} → OnPanel p a → OnPanel p b → Inside a b t → LegFrom p (back a b t) t a
+back-leg oa ob i = record { corner = oa; opposite = ob; target = i; from = refl; to = refl }
+
 -- ---- two blocks
 
 -- what the two lose, by the parities of the column, the panel's sides and the row, and by the colours of s and t
@@ -70,13 +78,10 @@ module _ (p : Panel) (s t : Cell) (c j : ℕ) (os : OnPanel p s) (ot : OnPanel p
       let b = ot .right in
       let l = r .low in
       let h = r .high in
-      record {
-        corner = record { left = omega arith; right = omega arith; top = l; bottom = h };
-        opposite = record { left = omega arith; right = omega arith; top = omega arith; bottom = omega arith };
-        target = record { left = omega arith; right = omega arith; top = r .from (s .y) (os .top); bottom = r .upto (s .y) (os .bottom) };
-        from = refl;
-        to = refl;
-      }
+      back-leg
+      (record { left = omega arith; right = omega arith; top = l; bottom = h })
+      (record { left = omega arith; right = omega arith; top = omega arith; bottom = omega arith })
+      (record { left = omega arith; right = omega arith; top = r .from (s .y) (os .top); bottom = r .upto (s .y) (os .bottom) })
 
   second : LegFrom p (forth (cell (c + 1) j) (cell (p .width) (p .height + 1 - j)) t) (cell (c + 1) j) t
   second =
@@ -84,13 +89,10 @@ module _ (p : Panel) (s t : Cell) (c j : ℕ) (os : OnPanel p s) (ot : OnPanel p
       let b = ot .right in
       let l = r .low in
       let h = r .high in
-      record {
-        corner = record { left = omega arith; right = omega arith; top = l; bottom = h };
-        opposite = record { left = omega arith; right = omega arith; top = omega arith; bottom = omega arith };
-        target = record { left = omega arith; right = omega arith; top = r .from (t .y) (ot .top); bottom = r .upto (t .y) (ot .bottom) };
-        from = refl;
-        to = refl;
-      }
+      forth-leg
+      (record { left = omega arith; right = omega arith; top = l; bottom = h })
+      (record { left = omega arith; right = omega arith; top = omega arith; bottom = omega arith })
+      (record { left = omega arith; right = omega arith; top = r .from (t .y) (ot .top); bottom = r .upto (t .y) (ot .bottom) })
 
   between : Sep (back (cell c j) (cell 1 (p .height + 1 - j)) s) (forth (cell (c + 1) j) (cell (p .width) (p .height + 1 - j)) t)
   between = let a = os .left in let b = ot .right in on-left c (omega arith) (omega arith) (omega arith) (omega arith)
