@@ -7,3 +7,4 @@ pub mod Parity
 pub mod FourCount
 pub mod Split
 pub mod Wrap
+pub mod Bridge

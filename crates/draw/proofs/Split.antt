@@ -130,7 +130,7 @@ module _ (p : Panel) (s t : Cell) (c j : ℕ) (os : OnPanel p s) (ot : OnPanel p
 
 -- ---- which row
 
-ne-colour : (a b : Cell) → differ (black a) (black b) ≡ true → a .x ≡ b .x → a .y ≡ b .y → ⊥
+pub ne-colour : (a b : Cell) → differ (black a) (black b) ≡ true → a .x ≡ b .x → a .y ≡ b .y → ⊥
 ne-colour a b e f g = true≢false (sym e ∙ (λ i. differ (odd (f i + g i)) (black b)) ∙ never (black b))
   where
     never : (z : Bool) → differ z z ≡ false
@@ -140,7 +140,7 @@ ne-colour a b e f g = true≢false (sym e ∙ (λ i. differ (odd (f i + g i)) (b
 ne-same : (a b : Cell) → sameCell a b ≡ false → a .x ≡ b .x → a .y ≡ b .y → ⊥
 ne-same a b e f g = same-ne a b e (cell-eq f g)
 
-and-false : (a b : Bool) → (a && b) ≡ false → (a ≡ false) ⊎ (b ≡ false)
+pub and-false : (a b : Bool) → (a && b) ≡ false → (a ≡ false) ⊎ (b ≡ false)
 and-false true b e = inr e
 and-false false b e = inl refl
 
