@@ -8,3 +8,4 @@ pub mod FourCount
 pub mod Split
 pub mod Wrap
 pub mod Bridge
+pub mod FourRows
