@@ -1,6 +1,6 @@
 -- The counts of plans for sides of 4 or more. A block of even area loses a cell where the track's ends have one colour, a block of odd area where
 -- they have two; what the whole panel loses (`defect`) is put in the same terms, and is the same for the panel turned, mirrored, and exchanged.
-use Prim.Native.Nat.{ℕ, _+_, _-_, _*_, _%_, _≤_, _<_}
+use Prim.Native.Nat.{ℕ, _+_, _-_, _*_, _≤_, _<_}
 use mathlib.Core.Path.{_≡_, refl, sym, ap, _∙_}
 use mathlib.Core.Logic.{⊎-elim}
 use mathlib.Core.Bool.{Bool, true, false, cond, not, _&&_, _||_, Bool·beq, true≢false}
@@ -10,15 +10,15 @@ use lib.Dec.{eqb}
 use borrow.Author.Tests.{eqb-true, ne-eqb}
 use Rattle.grid.specs.declared.Panel.{Panel}
 use Rattle.grid.specs.declared.Cell.{Cell}
-use Rattle.grid.specs.Panel.{OnPanel, black, dist, turnedCell}
+use Rattle.grid.specs.Panel.{black, dist, turnedCell}
 use Rattle.corner.specs.Corner.{cornerCount, trackCount}
 use Rattle.count.specs.declared.ClassCount.{ClassCount}
-use Rattle.count.specs.Count.{odd, area, f1, f2, f3, c2, c0, found, decided}
+use Rattle.count.specs.Count.{odd, area, f1, f2, f3, c2, c0, decided}
 use Rattle.draw.specs.Leg.{mirrorX, mirrorY}
 use Rattle.draw.specs.Plan.{differ}
 use Rattle.draw.proofs.Cases.{less?, if-test}
-use Rattle.draw.proofs.Size.{blockCount, count-block, block-loss}
-use Rattle.draw.proofs.Parity.{both, two, four, same, implies, apply, bit, mod-bit, odd-sum, odd-product, odd-rest, odd-dist, colour}
+use Rattle.draw.proofs.Size.{count-block, block-loss}
+use Rattle.draw.proofs.Parity.{two, three, four, same, implies, apply, bit, mod-bit, odd-sum, odd-product, odd-rest, odd-dist, colour}
 
 -- ---- a block
 
@@ -74,15 +74,15 @@ black-turned c = ap odd (add-comm (c .y) (c .x))
 pub fits-turned : {m n : ℕ} {s t : Cell} {k : ℕ} → Fits m n s t k → Fits n m (turnedCell s) (turnedCell t) k
 fits-turned {m} {n} {s} {t} {k} h = record {
   fits = (λ i. k + defect (odd n) (odd m) (black-turned s i) (black-turned t i))
-    ∙ ap (λ (z : ℕ). k + z) (eqb-true _ _ (four (λ m n s t. eqb (defect n m s t) (defect m n s t)) refl (odd m) (odd n) (black s) (black t)))
-    ∙ h .fits ∙ mul-comm m n;
+      ∙ ap (λ (z : ℕ). k + z) (eqb-true _ _ (four (λ m n s t. eqb (defect n m s t) (defect m n s t)) refl (odd m) (odd n) (black s) (black t)))
+      ∙ h .fits ∙ mul-comm m n;
 }
 
 -- a number counted from the other end
 odd-flipped : (m a b : ℕ) → a ≤ m → differ (odd (m + 1 - a)) (odd b) ≡ differ (not (odd m)) (differ (odd a) (odd b))
 odd-flipped m a b p =
     ap (λ (z : Bool). differ z (odd b)) (odd-rest (m + 1 - a) a (m + 1) (omega arith) ∙ ap (λ (z : Bool). differ z (odd a)) (odd-sum m 1))
-    ∙ same _ _ (four (λ m a b z. Bool·beq (differ (differ (differ m true) a) b) (differ (not m) (differ a b))) refl (odd m) (odd a) (odd b) true)
+    ∙ same _ _ (three (λ m a b. Bool·beq (differ (differ (differ m true) a) b) (differ (not m) (differ a b))) refl (odd m) (odd a) (odd b))
 
 pub black-mirrored : (m : ℕ) (c : Cell) → c .x ≤ m → black (mirrorX m c) ≡ differ (not (odd m)) (black c)
 black-mirrored m c p = colour (mirrorX m c) ∙ odd-flipped m (c .x) (c .y) p ∙ ap (λ (z : Bool). differ (not (odd m)) z) (sym (colour c))
@@ -90,8 +90,8 @@ black-mirrored m c p = colour (mirrorX m c) ∙ odd-flipped m (c .x) (c .y) p �
 pub fits-mirrored : {m n : ℕ} {s t : Cell} {k : ℕ} → s .x ≤ m → t .x ≤ m → Fits m n s t k → Fits m n (mirrorX m s) (mirrorX m t) k
 fits-mirrored {m} {n} {s} {t} {k} p q h = record {
   fits = (λ i. k + defect (odd m) (odd n) (black-mirrored m s p i) (black-mirrored m t q i))
-    ∙ ap (λ (z : ℕ). k + z) (eqb-true _ _ (four (λ m n s t. eqb (defect m n (differ (not m) s) (differ (not m) t)) (defect m n s t)) refl (odd m) (odd n) (black s) (black t)))
-    ∙ h .fits;
+      ∙ ap (λ (z : ℕ). k + z) (eqb-true _ _ (four (λ m n s t. eqb (defect m n (differ (not m) s) (differ (not m) t)) (defect m n s t)) refl (odd m) (odd n) (black s) (black t)))
+      ∙ h .fits;
 }
 
 -- mirroring in y is mirroring in x between two turns
@@ -137,16 +137,19 @@ module _ (p : Panel) (s t : Cell) (high : 4 ≤ p .height) (wide : p .height ≤
   pub fits-decided : Fits (p .width) (p .height) s t ((decided p s t) .count .0)
   unfolding decided
   fits-decided = if-test P (f1 p s t) _ _ (λ e. absurd (true≢false (sym e ∙ no-f1))) (λ _.
-    if-test P (f2 p s t) _ _ (λ e. absurd (true≢false (sym e ∙ no-f2))) (λ _.
-    if-test P (c2 p s t) _ _ (λ e. record { fits = let d = two-lost (sym c2-is ∙ e) in omega (arith, big) }) (λ f.
-    if-test P (c0 p s t) _ _ (λ e. record { fits = let d = none-lost (sym c0-is ∙ e) in omega arith }) (λ g.
-    record { fits = let d = one-lost (sym c2-is ∙ f) (sym c0-is ∙ g) in omega (arith, big) }))))
+      if-test P (f2 p s t) _ _ (λ e. absurd (true≢false (sym e ∙ no-f2))) (λ _.
+      if-test P (c2 p s t) _ _ (λ e. record { fits = let d = two-lost (sym c2-is ∙ e) in omega (arith, big) }) (λ f.
+      if-test P (c0 p s t) _ _ (λ e. record { fits = let d = none-lost (sym c0-is ∙ e) in omega arith }) (λ g.
+      record { fits = let d = one-lost (sym c2-is ∙ f) (sym c0-is ∙ g) in omega (arith, big) }))))
     where
       P : ClassCount → Type 0
       P r = Fits (p .width) (p .height) s t (r .count .0)
+
       two-lost : ((odd (p .width) && odd (p .height)) && (black s && black t)) ≡ true → defect (odd (p .width)) (odd (p .height)) (black s) (black t) ≡ 2
       two-lost e = eqb-true _ _ (apply (four (λ m n s t. implies ((m && n) && (s && t)) (eqb (defect m n s t) 2)) refl (odd (p .width)) (odd (p .height)) (black s) (black t)) e)
+
       none-lost : cond (odd (p .width) && odd (p .height)) (not (black s) && not (black t)) (differ (black s) (black t)) ≡ true → defect (odd (p .width)) (odd (p .height)) (black s) (black t) ≡ 0
       none-lost e = eqb-true _ _ (apply (four (λ m n s t. implies (cond (m && n) (not s && not t) (differ s t)) (eqb (defect m n s t) 0)) refl (odd (p .width)) (odd (p .height)) (black s) (black t)) e)
+
       one-lost : ((odd (p .width) && odd (p .height)) && (black s && black t)) ≡ false → cond (odd (p .width) && odd (p .height)) (not (black s) && not (black t)) (differ (black s) (black t)) ≡ false → defect (odd (p .width)) (odd (p .height)) (black s) (black t) ≡ 1
       one-lost e f = eqb-true _ _ (apply (apply (four (λ m n s t. implies (not ((m && n) && (s && t))) (implies (not (cond (m && n) (not s && not t) (differ s t))) (eqb (defect m n s t) 1))) refl (odd (p .width)) (odd (p .height)) (black s) (black t)) (ap not e)) (ap not f))

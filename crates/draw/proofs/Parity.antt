@@ -1,8 +1,8 @@
 -- Parity as a Boolean. `odd` takes sums to `differ` and products to `&&`, so every claim on parities is a claim on a few Booleans, which a test
--- over all their values decides (`two`, `four`, `six`).
-use Prim.Native.Nat.{ℕ, _+_, _-_, _*_, _/_, _%_, _≤_, _<_}
+-- over all their values decides (`two` to `six`).
+use Prim.Native.Nat.{ℕ, _+_, _*_, _/_, _%_}
 use mathlib.Core.Path.{_≡_, refl, sym, ap, _∙_}
-use mathlib.Core.Bool.{Bool, true, false, cond, not, _&&_, Bool·beq}
+use mathlib.Core.Bool.{Bool, true, false, cond, _&&_, Bool·beq}
 use native.Mathlib.Omega.{arith}
 use lib.Dec.{eqb}
 use borrow.Author.Tests.{eqb-true, eqb-false, eq-eqb, ne-eqb}
@@ -23,6 +23,9 @@ for-both f e false = and-right (f true) (f false) e
 
 pub two : (f : Bool → Bool → Bool) → both (λ a. both (λ b. f a b)) ≡ true → (a b : Bool) → f a b ≡ true
 two f h a b = for-both (λ b. f a b) (for-both (λ a. both (λ b. f a b)) h a) b
+
+pub three : (f : Bool → Bool → Bool → Bool) → both (λ a. both (λ b. both (λ c. f a b c))) ≡ true → (a b c : Bool) → f a b c ≡ true
+three f h a b c = for-both (λ c. f a b c) (two (λ a b. both (λ c. f a b c)) h a b) c
 
 pub four : (f : Bool → Bool → Bool → Bool → Bool) → both (λ a. both (λ b. both (λ c. both (λ d. f a b c d)))) ≡ true → (a b c d : Bool) → f a b c d ≡ true
 four f h a b c d = two (λ c d. f a b c d) (two (λ a b. both (λ c. both (λ d. f a b c d))) h a b) c d

@@ -3,24 +3,23 @@
 use Prim.Native.Nat.{ℕ, _+_, _-_, _*_, _≤_, _<_, min, max}
 use mathlib.Core.Path.{_≡_, refl, sym, ap, _∙_, subst₂}
 use mathlib.Core.Logic.{_⊎_, inl, inr, ⊎-elim}
-use mathlib.Core.Bool.{Bool, true, false, cond, not, _&&_, Bool·beq, true≢false}
+use mathlib.Core.Bool.{Bool, true, false, not, _&&_, true≢false}
 use native.Mathlib.Omega.{arith}
 use lib.Dec.{eqb}
 use borrow.Author.Tests.{eqb-true, not-true, not-false}
 use Rattle.grid.specs.declared.Panel.{Panel}
 use Rattle.grid.specs.declared.Cell.{Cell}
-use Rattle.grid.specs.Panel.{OnPanel, black, sameCell, dist, turned, turnedCell}
+use Rattle.grid.specs.Panel.{OnPanel, black, sameCell, dist, turned}
 use Rattle.grid.proofs.Facts.{and-left, and-right, cell-eq, same-eq, same-ne, beside-x}
-use Rattle.grid.proofs.Moves.{turn-on}
 use Rattle.corner.specs.Corner.{Inside, trackCount}
 use Rattle.count.specs.Count.{odd}
-use Rattle.draw.specs.Leg.{legs, cell, forth, back}
-use Rattle.draw.specs.Plan.{split, differ, critical, free, crossing, innerColumn, innerSplit, edgeSplit}
+use Rattle.draw.specs.Leg.{cell, forth, back}
+use Rattle.draw.specs.Plan.{split, differ, critical, free, crossing, innerSplit, edgeSplit}
 use Rattle.draw.proofs.Cases.{equal?, if-test, if-less}
 use Rattle.draw.proofs.Size.{count-column}
 use Rattle.draw.proofs.Chain.{LegFrom, Sep, on-left, Each, Chain, Plans}
 use Rattle.draw.proofs.Moved.{plan-turned}
-use Rattle.draw.proofs.Parity.{both, two, four, six, same, implies, apply, bit, odd-sum, odd-rest, colour}
+use Rattle.draw.proofs.Parity.{two, three, four, six, implies, apply, bit, odd-sum, odd-rest}
 use Rattle.draw.proofs.FourCount.{loss, block-size, defect, Fits, fits-turned}
 
 -- ---- lengths
@@ -161,15 +160,15 @@ meets n c s t h near f =
     let d = near .down in
     ⊎-elim
     (λ e.
-      let q = same-eq (cell c 1) s (not-false _ e) in
-      let qx : c ≡ s .x = ap (λ (z : Cell). z .x) q in
-      let qy : 1 ≡ s .y = ap (λ (z : Cell). z .y) q in
-      record { at-s = λ a b. omega arith; at-t = λ a b. omega arith })
+    let q = same-eq (cell c 1) s (not-false _ e) in
+    let qx : c ≡ s .x = ap (λ (z : Cell). z .x) q in
+    let qy : 1 ≡ s .y = ap (λ (z : Cell). z .y) q in
+    record { at-s = λ a b. omega arith; at-t = λ a b. omega arith })
     (λ e.
-      let q = same-eq (cell (c + 1) 1) t (not-false _ e) in
-      let qx : c + 1 ≡ t .x = ap (λ (z : Cell). z .x) q in
-      let qy : 1 ≡ t .y = ap (λ (z : Cell). z .y) q in
-      record { at-s = λ a b. omega arith; at-t = λ a b. omega arith })
+    let q = same-eq (cell (c + 1) 1) t (not-false _ e) in
+    let qx : c + 1 ≡ t .x = ap (λ (z : Cell). z .x) q in
+    let qy : 1 ≡ t .y = ap (λ (z : Cell). z .y) q in
+    record { at-s = λ a b. omega arith; at-t = λ a b. omega arith })
     (and-false _ _ f)
 
 module _ (p : Panel) (s t : Cell) (k c : ℕ) (os : OnPanel p s) (ot : OnPanel p t) (fits : Fits (p .width) (p .height) s t k) (high : 4 ≤ p .height) (two≤ : 2 ≤ c) (wide : c + 2 ≤ p .width) (left : s .x ≤ c) (right : c < t .x) where
@@ -192,23 +191,26 @@ module _ (p : Panel) (s t : Cell) (k c : ℕ) (os : OnPanel p s) (ot : OnPanel p
   inner-at calm =
       if-test P (not (odd (p .height)) && differ (black s) (black t)) _ _
       (λ e.
-        if-test P (differ (black (cell c 1)) (black s)) 1 (p .height)
-        (λ f. over-colours 1 (inl refl) e (sym (ap (λ (z : Bool). differ z (black s)) (odd-sum c 1)) ∙ f))
-        (λ f. over-colours (p .height) (inr refl) e (other e (sym (ap (λ (z : Bool). differ z (black s)) (odd-sum c 1)) ∙ f))))
+      if-test P (differ (black (cell c 1)) (black s)) 1 (p .height)
+      (λ f. over-colours 1 (inl refl) e (sym (ap (λ (z : Bool). differ z (black s)) (odd-sum c 1)) ∙ f))
+      (λ f. over-colours (p .height) (inr refl) e (other e (sym (ap (λ (z : Bool). differ z (black s)) (odd-sum c 1)) ∙ f))))
       (λ e.
-        let h = calm e in
-        if-test P (free c 1 s t) 1 (p .height)
-        (λ f. over-free 1 (inl refl) (one-odd (odd (p .height))) e (h .served) (ne-same (cell c 1) s (not-true _ (and-left _ (not (sameCell (cell (c + 1) 1) t)) f))) (ne-same (cell (c + 1) 1) t (not-true _ (and-right (not (sameCell (cell c 1) s)) _ f))))
-        (λ f. let m = meets (p .height) c s t high (h .near) f in over-free (p .height) (inr refl) (self (odd (p .height))) e (h .served) (m .at-s) (m .at-t)))
+      let h = calm e in
+      if-test P (free c 1 s t) 1 (p .height)
+      (λ f. over-free 1 (inl refl) (one-odd (odd (p .height))) e (h .served) (ne-same (cell c 1) s (not-true _ (and-left _ (not (sameCell (cell (c + 1) 1) t)) f))) (ne-same (cell (c + 1) 1) t (not-true _ (and-right (not (sameCell (cell c 1) s)) _ f))))
+      (λ f. let m = meets (p .height) c s t high (h .near) f in over-free (p .height) (inr refl) (self (odd (p .height))) e (h .served) (m .at-s) (m .at-t)))
     where
       P : ℕ → Type 0
       P j = Plans p s t k (split (p .width) (p .height) s t c j)
+
       one-odd : (b : Bool) → implies b true ≡ true
       one-odd true = refl
       one-odd false = refl
+
       self : (b : Bool) → implies b b ≡ true
       self true = refl
       self false = refl
+
       other : (not (odd (p .height)) && differ (black s) (black t)) ≡ true → differ (differ (odd c) true) (black s) ≡ false → differ (differ (odd c) (odd (p .height))) (black s) ≡ true
       other e f = apply (apply (four (λ x n a b. implies (not n && differ a b) (implies (not (differ (differ x true) a)) (differ (differ x n) a))) refl (odd c) (odd (p .height)) (black s) (black t)) e) (ap not f)
 
@@ -232,11 +234,11 @@ second-rows : (y m n d : ℕ) → 4 ≤ m → 1 ≤ d → y + d ≡ n → trackC
 second-rows y m n d h l e =
     ⊎-elim
     (λ (q : d ≡ 1).
-      let r : n ≡ y + 1 = omega arith in
-      let lost = (λ i. loss true (odd m) (differ (odd-sum (y + 1) m i) (odd-sum (y + 1) 2 i))) ∙ two (λ a b. loss true b (differ (differ a b) (differ a false))) refl (odd (y + 1)) (odd m) in
-      (λ i. trackCount (cell (y + 1) m) (cell (r i) (m + 1 - m)) (cell (y + 1) 2) + bit (loss (odd (q i)) (odd m) (differ (black (cell (y + 1) m)) (black (cell (y + 1) 2)))))
-      ∙ ap (λ (z : Bool). trackCount (cell (y + 1) m) (cell (y + 1) (m + 1 - m)) (cell (y + 1) 2) + bit z) lost
-      ∙ one-column y m h ∙ ap (λ (z : ℕ). z * m) (sym q))
+    let r : n ≡ y + 1 = omega arith in
+    let lost = (λ i. loss true (odd m) (differ (odd-sum (y + 1) m i) (odd-sum (y + 1) 2 i))) ∙ two (λ a b. loss true b (differ (differ a b) (differ a false))) refl (odd (y + 1)) (odd m) in
+    (λ i. trackCount (cell (y + 1) m) (cell (r i) (m + 1 - m)) (cell (y + 1) 2) + bit (loss (odd (q i)) (odd m) (differ (black (cell (y + 1) m)) (black (cell (y + 1) 2)))))
+    ∙ ap (λ (z : Bool). trackCount (cell (y + 1) m) (cell (y + 1) (m + 1 - m)) (cell (y + 1) 2) + bit z) lost
+    ∙ one-column y m h ∙ ap (λ (z : ℕ). z * m) (sym q))
     (λ q. block-size (cell (y + 1) m) (cell n (m + 1 - m)) (cell (y + 1) 2) d m (span-up (y + 1) n d (omega arith) (omega arith)) (end-span m m (omega arith) (inr refl)) (omega arith) (omega arith) (λ a b. omega arith))
     (equal? d 1)
 
@@ -253,12 +255,12 @@ edge-at p y k w a b f =
     let right : y < y + 1 = omega arith in
     let es = odd-sum y 1 in
     let et = odd-sum (y + 1) 2 ∙ ap (λ (z : Bool). differ z false) es in
-    let lost = (λ i. splitLoss (odd y) (odd n) (odd m) (odd m) (es i) (et i)) ∙ eqb-true _ _ (four (λ y n m z. eqb (splitLoss y n m m (differ y true) (differ (differ y true) false)) (defect n m (differ y true) (differ (differ y true) false))) refl (odd y) (odd n) (odd m) true) ∙ (λ i. defect (odd n) (odd m) (sym es i) (sym et i)) in
+    let lost = (λ i. splitLoss (odd y) (odd n) (odd m) (odd m) (es i) (et i)) ∙ eqb-true _ _ (three (λ y n m. eqb (splitLoss y n m m (differ y true) (differ (differ y true) false)) (defect n m (differ y true) (differ (differ y true) false))) refl (odd y) (odd n) (odd m)) ∙ (λ i. defect (odd n) (odd m) (sym es i) (sym et i)) in
     plan-turned {p = turned p}
     (split-plans (turned p) (cell y 1) (cell (y + 1) 2) y m os ot left right (inr refl) d k _ _ q
-      (left-size (turned p) (cell y 1) (cell (y + 1) 2) y m os ot left right (inr refl) a (omega arith) (λ u v. omega arith))
-      (second-rows y m n d w (omega arith) q)
-      (ap (λ (z : ℕ). k + z) (losses-are (turned p) (cell y 1) (cell (y + 1) 2) y m os ot left right (inr refl) d q ∙ lost) ∙ (fits-turned f) .fits))
+    (left-size (turned p) (cell y 1) (cell (y + 1) 2) y m os ot left right (inr refl) a (omega arith) (λ u v. omega arith))
+    (second-rows y m n d w (omega arith) q)
+    (ap (λ (z : ℕ). k + z) (losses-are (turned p) (cell y 1) (cell (y + 1) 2) y m os ot left right (inr refl) d q ∙ lost) ∙ (fits-turned f) .fits))
 
 pub edge-plans : (p : Panel) (s t : Cell) (k : ℕ) → s .x ≡ 1 → t .x ≡ 2 → t .y ≡ s .y + 1 → 4 ≤ p .width → 2 ≤ s .y → t .y ≤ p .height → Fits (p .width) (p .height) s t k → Plans p s t k (edgeSplit (p .width) (p .height) s t)
 edge-plans p s t k e f g w a b =

@@ -1,10 +1,10 @@
 -- The plan of five legs that goes once around t, the right neighbour of s in an odd column. Of the five only the second and the third may lose a cell:
 -- both even sides, or an odd width and an even height; together they lose what the panel does.
-use Prim.Native.Nat.{ℕ, _+_, _-_, _*_, _≤_, _<_}
+use Prim.Native.Nat.{ℕ, _+_, _-_, _*_, _≤_}
 use mathlib.Core.Path.{_≡_, refl, sym, ap, _∙_, subst₂}
 use mathlib.Core.Logic.{⊎-elim}
-use mathlib.Core.List.{List, [], _∷_}
-use mathlib.Core.Bool.{Bool, true, false, cond, not, _&&_, _||_, Bool·beq}
+use mathlib.Core.List.{[], _∷_}
+use mathlib.Core.Bool.{Bool, true, false, not, _&&_, _||_, Bool·beq}
 use native.Mathlib.Omega.{arith}
 use lib.Dec.{eqb}
 use borrow.Author.Tests.{eqb-true}
@@ -12,15 +12,15 @@ use Rattle.grid.specs.declared.Panel.{Panel}
 use Rattle.grid.specs.declared.Cell.{Cell}
 use Rattle.grid.specs.Panel.{OnPanel, black, dist}
 use Rattle.grid.proofs.Facts.{cell-eq, beside-x, beside-y, beside-sym}
-use Rattle.corner.specs.Corner.{cornerCount, trackCount}
+use Rattle.corner.specs.Corner.{trackCount}
 use Rattle.count.specs.Count.{odd}
 use Rattle.draw.specs.declared.Leg.{Leg}
-use Rattle.draw.specs.Leg.{legs, cell, forth, back}
+use Rattle.draw.specs.Leg.{cell, forth, back}
 use Rattle.draw.specs.Plan.{wrap, differ}
 use Rattle.draw.proofs.Cases.{equal?}
 use Rattle.draw.proofs.Size.{count-point, count-row, count-column}
 use Rattle.draw.proofs.Chain.{LegFrom, Sep, on-left, on-right, above, below, Each, Chain, Plans}
-use Rattle.draw.proofs.Parity.{both, two, four, same, implies, apply, bit, odd-sum, odd-rest}
+use Rattle.draw.proofs.Parity.{two, four, same, implies, apply, bit, odd-sum, odd-rest}
 use Rattle.draw.proofs.FourCount.{loss, distance-odd, block-size, defect, Fits}
 use Rattle.draw.proofs.Split.{span-up, span-down, forth-leg, back-leg}
 
@@ -104,17 +104,18 @@ unfolding trackCount
 far-size a b w h e f p q =
     ⊎-elim
     (λ (z : h ≡ 1).
-      let row = count-row (dist (a .x) (b .x) + 1) (dist (a .y) (b .y) + 1) (dist (a .x) (b .x)) (dist (a .y) (b .y)) (f ∙ z) (omega arith) in
-      (λ i. row i + bit (not (odd w) && not (odd (z i)))) ∙ ap (λ (z : Bool). dist (a .x) (b .x) + 1 + bit z) (never (not (odd w))) ∙ (let g : dist (a .x) (b .x) + 1 + 0 ≡ w * 1 = omega arith in g) ∙ ap (λ (z : ℕ). w * z) (sym z))
+    let row = count-row (dist (a .x) (b .x) + 1) (dist (a .y) (b .y) + 1) (dist (a .x) (b .x)) (dist (a .y) (b .y)) (f ∙ z) (omega arith) in
+    (λ i. row i + bit (not (odd w) && not (odd (z i)))) ∙ ap (λ (z : Bool). dist (a .x) (b .x) + 1 + bit z) (never (not (odd w))) ∙ (let g : dist (a .x) (b .x) + 1 + 0 ≡ w * 1 = omega arith in g) ∙ ap (λ (z : ℕ). w * z) (sym z))
     (λ z. ap (λ (z : Bool). trackCount a b b + bit z) lost ∙ block-size a b b w h e f p (omega arith) (λ u v. let d = dist-same (a .x) (b .x) u in omega arith))
     (equal? h 1)
   where
     never : (z : Bool) → (z && false) ≡ false
     never true = refl
     never false = refl
+
     lost : (not (odd w) && not (odd h)) ≡ loss (odd w) (odd h) (differ (black a) (black b))
     lost = sym (ap (λ (z : Bool). loss (odd w) (odd h) z) (sym (distance-odd a b) ∙ odd-sum (dist (a .x) (b .x)) (dist (a .y) (b .y)) ∙ (λ i. differ (odd-rest (dist (a .x) (b .x)) 1 w e i) (odd-rest (dist (a .y) (b .y)) 1 h f i)))
-      ∙ same _ _ (two (λ w h. Bool·beq (loss w h (differ (differ w true) (differ h true))) (not w && not h)) refl (odd w) (odd h)))
+        ∙ same _ _ (two (λ w h. Bool·beq (loss w h (differ (differ w true) (differ h true))) (not w && not h)) refl (odd w) (odd h)))
 
 -- an odd number of columns, up the last of them: all cells
 up-size : (c y : ℕ) → 1 ≤ c → 2 ≤ y → odd c ≡ true → trackCount (cell c y) (cell 1 1) (cell c 1) ≡ c * y
@@ -122,13 +123,13 @@ unfolding trackCount
 up-size c y p q o =
     ⊎-elim
     (λ (z : c ≡ 1).
-      let h = span-down y 1 y (omega arith) (omega arith) in
-      count-column (dist c 1 + 1) (dist y 1 + 1) (dist c c) (dist y 1) (ap (λ (k : ℕ). k + 1) (dist-same c 1 z)) (dist-same c c refl) (omega arith) ∙ h ∙ (let g : y ≡ 1 * y = omega arith in g) ∙ ap (λ (k : ℕ). k * y) (sym z))
+    let h = span-down y 1 y (omega arith) (omega arith) in
+    count-column (dist c 1 + 1) (dist y 1 + 1) (dist c c) (dist y 1) (ap (λ (k : ℕ). k + 1) (dist-same c 1 z)) (dist-same c c refl) (omega arith) ∙ h ∙ (let g : y ≡ 1 * y = omega arith in g) ∙ ap (λ (k : ℕ). k * y) (sym z))
     (λ z.
-      let g = block-size (cell c y) (cell 1 1) (cell c 1) c y (span-down c 1 c (omega arith) (omega arith)) (span-down y 1 y (omega arith) (omega arith)) (omega arith) q (λ u v. omega arith) in
-      let l = (λ i. loss (odd c) (odd y) (differ (odd-sum c y i) (odd-sum c 1 i))) ∙ same _ _ (apply (two (λ c y. implies c (Bool·beq (loss c y (differ (differ c y) (differ c true))) false)) refl (odd c) (odd y)) o) in
-      let k = ap bit l in
-      omega arith)
+    let g = block-size (cell c y) (cell 1 1) (cell c 1) c y (span-down c 1 c (omega arith) (omega arith)) (span-down y 1 y (omega arith) (omega arith)) (omega arith) q (λ u v. omega arith) in
+    let l = (λ i. loss (odd c) (odd y) (differ (odd-sum c y i) (odd-sum c 1 i))) ∙ same _ _ (apply (two (λ c y. implies c (Bool·beq (loss c y (differ (differ c y) (differ c true))) false)) refl (odd c) (odd y)) o) in
+    let k = ap bit l in
+    omega arith)
     (equal? c 1)
 
 -- what the second, third and fourth leg lose, by the parities of the column, the panel's sides and the row
