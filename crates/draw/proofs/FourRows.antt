@@ -208,10 +208,11 @@ critical-plans p s t k os ot high l near inner c f =
     up-le : (x : ℕ) → x ≤ x + x % 2
     up-le x = omega arith
 
--- not in a corner of the column x
+-- neither the first row nor the last
 inner-row : (n y : ℕ) → 1 ≤ y → y ≤ n → (y ≡ 1 → ⊥) → (y ≡ n → ⊥) → (2 ≤ y) × (y + 1 ≤ n)
 inner-row n y a b e f = (omega arith, omega arith)
 
+-- s left of t and no further from it in rows than in columns: the plan has k cells, wherever k fits the panel and the colours
 pub four-rows : (p : Panel) (s t : Cell) (k : ℕ) → 4 ≤ p .width → 4 ≤ p .height → OnPanel p s → OnPanel p t → s .x < t .x → s .y + s .x ≤ t .y + t .x → t .y + s .x ≤ s .y + t .x → NotCorner p s → NotCorner p t → Fits (p .width) (p .height) s t k → Plans p s t k (fourRows (p .width) (p .height) s t)
 unfolding fourRows
 four-rows p s t k wide high os ot l u d ns nt f =
@@ -270,6 +271,7 @@ steep-plans p s t k wide high os ot l e ns nt f =
     let z : t .x + s .y < s .x + t .y = ⊎-elim (λ q. q) (λ q. absurd (omega arith)) (either-less (t .x + s .y) (s .x + t .y) (t .x + t .y) (s .x + s .y) e) in
     four-rows (turned p) (turnedCell s) (turnedCell t) k high wide (turn-on os) (turn-on ot) (omega arith) (omega arith) (omega arith) (not-corner-turned ns) (not-corner-turned nt) (fits-turned f)))
 
+-- m not less than n, s not right of t: the plan has the cells that class and count say
 pub four-wide : (p : Panel) (s t : Cell) → 4 ≤ p .height → p .height ≤ p .width → OnPanel p s → OnPanel p t → s .x ≤ t .x → s ≢ t → NotCorner p s → NotCorner p t → Plans p s t ((decided p s t) .count .0) (cond (steep s t) (movedPlan turnedCell (orderedFour (p .height) (p .width) (turnedCell s) (turnedCell t))) (fourRows (p .width) (p .height) s t))
 four-wide p s t high wide os ot l n ns nt =
     let f = fits-decided p s t high wide in
