@@ -1,0 +1,6 @@
+pub mod Pigeon
+pub mod Ends
+pub mod Colour
+pub mod Strip
+pub mod Rows
+pub mod NoLonger
