@@ -1,3 +1,5 @@
+pub mod Laws
+pub mod Table
 pub mod Pigeon
 pub mod Ends
 pub mod Colour
