@@ -16,3 +16,4 @@ pub mod Bridge
 pub mod FourRows
 pub mod Wide
 pub mod Exists
+pub mod Theorem
