@@ -18,3 +18,4 @@ pub mod Wide
 pub mod Exists
 pub mod Theorem
 pub mod Branch
+pub mod Drawing
