@@ -139,3 +139,17 @@ step-down {p} {q} {r} {p'} e h l =
 pub step-toward : {p q r : ℕ} → Between p q r → r ≢ p → Step p q r (toward p q)
 step-toward {p} {q} {r} (Between.up l h) n = let e : toward p q ≡ p + 1 = toward-up (omega arith) in step-up e (omega arith) h
 step-toward {p} {q} {r} (Between.down l h) n = let e : toward p q + 1 ≡ p = toward-down (omega arith) in step-down e (omega arith) l
+
+pub between-part : {p q r s u : ℕ} → Between p q r → Between p q s → Between r s u → Between p q u
+between-part {p} {q} {r} {s} {u} i j k =
+    by-le p q
+    (λ h. Between.up (omega (arith, low i h, low j h, least k)) (omega (arith, high i h, high j h, most k)))
+    (λ h. let g : q ≤ p = omega arith in Between.down (omega (arith, low (between-sym i) g, low (between-sym j) g, least k)) (omega (arith, high (between-sym i) g, high (between-sym j) g, most k)))
+  where
+    low : {a b c : ℕ} → Between a b c → a ≤ b → a ≤ c
+    low (Between.up l h) g = l
+    low (Between.down l h) g = omega arith
+
+    high : {a b c : ℕ} → Between a b c → a ≤ b → c ≤ b
+    high (Between.up l h) g = h
+    high (Between.down l h) g = omega arith

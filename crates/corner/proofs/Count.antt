@@ -113,20 +113,47 @@ when-zero P a f g = when-eq P a 0 f (λ e. g (omega arith))
 pub choice : (w h dx dy : ℕ) → dx < w → dy < h → 1 ≤ dx + dy → Chosen w h dx dy (rowFirst w h dx dy)
 unfolding rowFirst
 choice w h dx dy x y z =
-    when-zero P dy
+    by-le dy 1
+    (λ c. subst P (cond-no _ _ (le-ltb 1 dy c) refl)
+    (when-zero P dy
     (λ a. row-right h w dy dx y x (omega arith) (λ u. omega arith) (λ u v. omega arith))
     (λ a. when-zero P dx
     (λ b. row-right w h dx dy x y (omega arith) (λ u. omega arith) (λ u v. omega arith))
-    (λ b. by-le dy 1
-    (λ c. subst P (cond-no _ _ (le-ltb 1 dy c) refl)
-    (when-eq P h 2
+    (λ b. when-eq P h 2
     (λ d. by-le dx 1
     (λ e. subst P (sym (le-leb dx 1 e)) (row-right w h dx dy x y (omega arith) (λ u. omega arith) (λ u v. omega arith)))
     (λ e. subst P (sym (lt-leb dx 1 e)) (row-right h w dy dx y x (omega arith) (λ u. omega arith) (λ u v. omega arith))))
     (λ d. by-eq (dx + 1) w
     (λ e. subst P (ap not (sym (eq-eqb _ _ e))) (row-right h w dy dx y x (omega arith) (λ u. omega arith) (λ u v. omega arith)))
-    (λ e. subst P (ap not (sym (ne-eqb _ _ e))) (row-right w h dx dy x y (omega arith) (λ u. omega arith) (λ u v. omega arith))))))
-    (λ c. subst P (cond-yes _ _ (lt-ltb 1 dy c) refl) (row-right w h dx dy x y (omega arith) (λ u. omega arith) (λ u v. omega arith)))))
+    (λ e. subst P (ap not (sym (ne-eqb _ _ e))) (row-right w h dx dy x y (omega arith) (λ u. omega arith) (λ u v. omega arith))))))))
+    (λ c. subst P (cond-yes _ _ (lt-ltb 1 dy c) refl) (row-right w h dx dy x y (omega arith) (λ u. omega arith) (λ u v. omega arith)))
   where
     P : Bool → Type 0
     P = Chosen w h dx dy
+
+-- ---- the choice as the code makes it, from the distances that it has computed
+
+module _ (w h dx dy : ℕ) where
+  pub first-far : {r : ℕ} → r ≡ dy → 1 < r → true ≡ rowFirst w h dx dy
+  unfolding rowFirst
+  first-far e l = cond-yes _ _ (lt-ltb 1 dy (omega arith)) refl
+
+  pub first-level : {r : ℕ} → r ≡ dy → r ≡ 0 → false ≡ rowFirst w h dx dy
+  unfolding rowFirst
+  first-level e z = cond-no _ _ (le-ltb 1 dy (omega arith)) (cond-yes _ _ (eq-eqb dy 0 (omega arith)) refl)
+
+  pub first-same : {r s : ℕ} → r ≡ dy → r ≤ 1 → r ≢ 0 → s ≡ dx → s ≡ 0 → true ≡ rowFirst w h dx dy
+  unfolding rowFirst
+  first-same e l n f z = cond-no _ _ (le-ltb 1 dy (omega arith)) (cond-no _ _ (ne-eqb dy 0 (omega arith)) (cond-yes _ _ (eq-eqb dx 0 (omega arith)) refl))
+
+  pub first-two : {r s : ℕ} (k : ℕ) → r ≡ dy → r ≤ 1 → r ≢ 0 → s ≡ dx → s ≢ 0 → k + 1 ≡ h → k ≡ 1 → leb s 1 ≡ rowFirst w h dx dy
+  unfolding rowFirst
+  first-two k e l n f m g z =
+      cond-no _ _ (le-ltb 1 dy (omega arith)) (cond-no _ _ (ne-eqb dy 0 (omega arith)) (cond-no _ _ (ne-eqb dx 0 (omega arith))
+      (cond-yes _ _ (eq-eqb h 2 (omega arith)) (ap (λ (i : ℕ). leb i 1) f))))
+
+  pub first-more : {r s : ℕ} (k j : ℕ) → r ≡ dy → r ≤ 1 → r ≢ 0 → s ≡ dx → s ≢ 0 → k + 1 ≡ h → k ≢ 1 → j + 1 ≡ w → not (eqb s j) ≡ rowFirst w h dx dy
+  unfolding rowFirst
+  first-more {s = s} k j e l n f m g z q =
+      cond-no _ _ (le-ltb 1 dy (omega arith)) (cond-no _ _ (ne-eqb dy 0 (omega arith)) (cond-no _ _ (ne-eqb dx 0 (omega arith))
+      (cond-no _ _ (ne-eqb h 2 (omega arith)) (ap not (by-eq s j (λ u. eq-eqb s j u ∙ sym (eq-eqb (dx + 1) w (omega arith))) (λ u. ne-eqb s j u ∙ sym (ne-eqb (dx + 1) w (omega arith))))))))

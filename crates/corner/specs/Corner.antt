@@ -27,9 +27,9 @@ trackCount a b t = cornerCount (dist (a .x) (b .x) + 1) (dist (a .y) (b .y) + 1)
 -- whether the first line of a corner track is the row from the corner (else the column), where the target is not the corner
 unfoldable pub rowFirst : ℕ → ℕ → ℕ → ℕ → Bool
 rowFirst w h dx dy =
-    cond (eqb dy 0) false
+    cond (ltb 1 dy) true
+    (cond (eqb dy 0) false
     (cond (eqb dx 0) true
-    (cond (ltb 1 dy) true
     (cond (eqb h 2) (leb dx 1)
     (not (eqb (dx + 1) w)))))
 
