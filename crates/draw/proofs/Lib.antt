@@ -19,3 +19,6 @@ pub mod Exists
 pub mod Theorem
 pub mod Branch
 pub mod Drawing
+pub mod Laid
+pub mod TrackTest
+pub mod Small

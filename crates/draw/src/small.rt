@@ -3,9 +3,16 @@ use crate::Placing;
 use crate::motions::less;
 use grid::Cell;
 ghost use mathlib.Core.Path.{_≡_};
-ghost use mathlib.Core.Bool.{cond};
-ghost use Prim.Native.Nat.{_≤_, _<_, _+_, _-_, _*_};
-ghost use Rattle.draw.specs.Table.{entryAt, rowSize, flip, flipCell, place, rowCell, position, placedCell, twos, mirrors, turns, rowOf, laid, placedFrom, placing};
+ghost use mathlib.Core.Logic.{_≢_};
+ghost use mathlib.Core.List.{_++_};
+ghost use lib.ListN.{length, drop};
+ghost use Rattle.grid.specs.Panel.{OnPanel};
+ghost use Rattle.grid.specs.Bytes.{bytes};
+ghost use Rattle.corner.specs.Line.{line};
+ghost use Rattle.corner.specs.Drawn.{Drawn};
+ghost use Rattle.count.specs.Count.{count};
+ghost use Prim.Native.Nat.{_≤_, _<_, _*_};
+ghost use Rattle.draw.specs.Table.{three, entryAt, rowSize, flip, flipCell, place, rowCell, position, placedCell, twos, mirrors, turns, rowOf, laid, placedFrom, placing};
 
 // A row for each pair of terminals up to turning, mirroring and exchanging: the number of cells,
 // then x and y of each.
@@ -184,4 +191,33 @@ fn y_at(p: Placing, j: usize) -> u8
         return flip_byte(p.down, entry(p.row, 2 * j + 1));
     }
     flip_byte(p.down, entry(p.row, 2 * j + 2))
+}
+
+// Writes the n cells of a row, as it is laid.
+fn write_row(p: Placing, n: usize, buf: &mut [u8])
+    requires { ⌜ p .row < 8 ⌝ }
+    requires { ⌜ n ≡ rowSize (p .row) ⌝ }
+    requires { ⌜ n ≤ 9 ⌝ }
+    requires { ⌜ 2 * n ≤ length (now buf) ⌝ }
+    ensures { λ _. ⌜ now (buf .exit) ≡ bytes (line (placedCell p) n) ++ drop (2 * n) (now (buf .entry)) ⌝ }
+{
+    for i in 0..n {
+        let j = position_of(p.back, n, i);
+        buf[2 * i] = x_at(p, j);
+        buf[2 * i + 1] = y_at(p, j);
+    }
+}
+
+// Draws a longest track of the 3 by 3 panel.
+pub fn draw_small(s: Cell, t: Cell, buf: &mut [u8])
+    requires { ⌜ OnPanel three s ⌝ }
+    requires { ⌜ OnPanel three t ⌝ }
+    requires { ⌜ s ≢ t ⌝ }
+    requires { ⌜ 2 * count three s t ≤ length (now buf) ⌝ }
+    ensures { λ _. ⌜ Drawn (OnPanel three) s t (count three s t) (now (buf .entry)) (now (buf .exit)) ⌝ }
+{
+    let p = placing_of(s, t);
+    let row = p.row;
+    let n = entry(row, 0) as usize;
+    write_row(p, n, buf);
 }

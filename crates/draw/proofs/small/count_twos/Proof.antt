@@ -1,23 +1,20 @@
+use borrow.Author.Tests.{eq-eqb, ne-eqb}
+use mathlib.Core.Path.{refl}
+use Rattle.grid.proofs.Tests.{cond-yes, cond-no}
 use Rattle.draw.proofs.small.count_twos.Statement.{statement}
 use Rattle.draw.proofs.small.count_twos.Tie as tie
-use Rattle.draw.proofs.small.count_twos.Reads as reads
-use Rattle.draw.proofs.small.count_twos.Lts as lts
 
--- src/small.rt:38:13
 returns : tie.Need-returns
-returns c = ?
+returns c = cond-yes _ _ (eq-eqb _ _ (c .before .before .if1 .taken)) (cond-yes _ _ (eq-eqb _ _ (c .if2 .taken)) refl)
 
--- src/small.rt:40:9
 returns-2 : tie.Need-returns-2
-returns-2 c = ?
+returns-2 c = cond-yes _ _ (eq-eqb _ _ (c .before .before .if1 .taken)) (cond-no _ _ (ne-eqb _ _ (c .if2 .left)) refl)
 
--- src/small.rt:43:9
 returns-3 : tie.Need-returns-3
-returns-3 c = ?
+returns-3 c = cond-no _ _ (ne-eqb _ _ (c .before .before .if1 .left)) (cond-yes _ _ (eq-eqb _ _ (c .if3 .taken)) refl)
 
--- src/small.rt:33:1
 returns-4 : tie.Need-returns-4
-returns-4 c = ?
+returns-4 c = cond-no _ _ (ne-eqb _ _ (c .before .before .if1 .left)) (cond-no _ _ (ne-eqb _ _ (c .if3 .left)) refl)
 
 pub count-twos-spec : {M : Type 1} → statement M
 count-twos-spec = tie.close (tie.spec returns returns-2 returns-3 returns-4)

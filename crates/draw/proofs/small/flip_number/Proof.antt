@@ -1,19 +1,14 @@
 use borrow.Author.Needs.{needs}
+use Rattle.grid.proofs.Tests.{cond-yes}
 use Rattle.draw.proofs.small.flip_number.Statement.{statement}
 use Rattle.draw.proofs.small.flip_number.Tie as tie
-use Rattle.draw.proofs.small.flip_number.Reads as reads
-use Rattle.draw.proofs.small.flip_number.Lts as lts
-use Rattle.draw.proofs.motions.less.Reads as less-reads
 
--- src/small.rt:70:9
 less-requires : tie.Need-less-requires
 less-requires c κs = search needs
 
--- src/small.rt:70:9
 returns : tie.Need-returns
-returns c = ?
+returns c = cond-yes _ _ (c .before .if1 .taken) (c .less .ensures)
 
--- src/small.rt:66:1
 returns-2 : tie.Need-returns-2
 returns-2 c = search needs
 

@@ -1,15 +1,14 @@
+use borrow.Author.Tests.{eq-eqb, ne-eqb}
+use mathlib.Core.Path.{refl}
+use Rattle.grid.proofs.Tests.{cond-yes, cond-no}
 use Rattle.draw.proofs.small.is_turned.Statement.{statement}
 use Rattle.draw.proofs.small.is_turned.Tie as tie
-use Rattle.draw.proofs.small.is_turned.Reads as reads
-use Rattle.draw.proofs.small.is_turned.Lts as lts
 
--- src/small.rt:61:9
 returns : tie.Need-returns
-returns c = ?
+returns c = cond-yes _ _ (eq-eqb _ _ (c .before .if1 .taken)) refl
 
--- src/small.rt:57:1
 returns-2 : tie.Need-returns-2
-returns-2 c = ?
+returns-2 c = cond-no _ _ (ne-eqb _ _ (c .before .if1 .left)) refl
 
 pub is-turned-spec : {M : Type 1} → statement M
 is-turned-spec = tie.close (tie.spec returns returns-2)

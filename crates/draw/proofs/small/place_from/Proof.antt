@@ -1,35 +1,28 @@
 use borrow.Author.Needs.{needs}
+use mathlib.Core.Path.{_∙_}
+use Rattle.draw.specs.Table.{laid, mirrored, placedFrom}
+use Rattle.draw.proofs.Laid.{flip-cell-small}
 use Rattle.draw.proofs.small.place_from.Statement.{statement}
 use Rattle.draw.proofs.small.place_from.Tie as tie
-use Rattle.draw.proofs.small.place_from.Reads as reads
-use Rattle.draw.proofs.small.place_from.Lts as lts
-use Rattle.draw.proofs.small.flip_cell.Reads as flip-cell-reads
-use Rattle.draw.proofs.small.is_mirrored.Reads as is-mirrored-reads
-use Rattle.draw.proofs.small.lay.Reads as lay-reads
 
--- src/small.rt:124:9
 is-mirrored-requires : tie.Need-is-mirrored-requires
 is-mirrored-requires c κs = search needs
 
--- src/small.rt:125:9
 is-mirrored-requires-2 : tie.Need-is-mirrored-requires-2
 is-mirrored-requires-2 c κs = search needs
 
--- src/small.rt:126:9
 flip-cell-requires : tie.Need-flip-cell-requires
 flip-cell-requires c κs = search needs
 
--- src/small.rt:127:9
 flip-cell-requires-2 : tie.Need-flip-cell-requires-2
 flip-cell-requires-2 c κs = search needs
 
--- src/small.rt:128:5
 lay-requires : tie.Need-lay-requires
-lay-requires c κs = ?
+lay-requires c κs = flip-cell-small _ _ (c .before .before .before .before .args .b) (c .flip-cell2 .ensures) (c .before .before .before .before .pre .0) (c .before .before .before .before .pre .1)
 
--- src/small.rt:119:1
 returns : tie.Need-returns
-returns c = ?
+unfolding placedFrom
+returns c = c .lay .ensures ∙ (λ i. laid (c .before .before .before .before .is-mirrored .result) (c .before .before .before .is-mirrored2 .result) (c .before .before .flip-cell .ensures i) (c .before .flip-cell2 .ensures i) (c .before .before .before .before .before .args .back)) ∙ (λ i. mirrored (c .before .before .before .before .is-mirrored .ensures i) (c .before .before .before .is-mirrored2 .ensures i) (c .before .before .before .before .before .args .a) (c .before .before .before .before .before .args .b) (c .before .before .before .before .before .args .back))
 
 pub place-from-spec : {M : Type 1} → statement M
 place-from-spec =

@@ -1,22 +1,18 @@
 use borrow.Author.Needs.{needs}
+use mathlib.Core.Path.{refl}
+use Rattle.grid.proofs.Tests.{cond-yes}
 use Rattle.draw.proofs.small.position_of.Statement.{statement}
 use Rattle.draw.proofs.small.position_of.Tie as tie
-use Rattle.draw.proofs.small.position_of.Reads as reads
-use Rattle.draw.proofs.small.position_of.Lts as lts
 
--- src/small.rt:149:21
 add-result : tie.Need-add-result
 add-result c = search needs
 
--- src/small.rt:149:16
 sub-result : tie.Need-sub-result
 sub-result c = search needs
 
--- src/small.rt:149:9
 returns : tie.Need-returns
-returns c = ?
+returns c = cond-yes _ _ (c .if1 .taken) refl
 
--- src/small.rt:144:1
 returns-2 : tie.Need-returns-2
 returns-2 c = search needs
 
