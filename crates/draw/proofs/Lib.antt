@@ -9,4 +9,5 @@ pub mod CornerLeg
 pub mod Wide
 pub mod Exists
 pub mod ThreeCount
+pub mod ThreeLegs
 pub mod ThreeRows
