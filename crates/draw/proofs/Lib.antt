@@ -9,3 +9,8 @@ pub mod Split
 pub mod Wrap
 pub mod Bridge
 pub mod FourRows
+pub mod Decided
+pub mod Rows
+pub mod CornerLeg
+pub mod Wide
+pub mod Exists

@@ -1,0 +1,5 @@
+pub mod Between
+pub mod Count
+pub mod Line
+pub mod Peel
+pub mod Track
