@@ -5,4 +5,8 @@ pub mod Ends
 pub mod Colour
 pub mod Strip
 pub mod Rows
+<<<<<<< HEAD
 pub mod NoLonger
+=======
+pub mod AtMost
+>>>>>>> main
