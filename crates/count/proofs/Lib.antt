@@ -5,8 +5,4 @@ pub mod Ends
 pub mod Colour
 pub mod Strip
 pub mod Rows
-<<<<<<< HEAD
-pub mod NoLonger
-=======
 pub mod AtMost
->>>>>>> main

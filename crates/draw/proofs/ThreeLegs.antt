@@ -14,7 +14,8 @@ use Rattle.draw.specs.declared.Plan.the-variants.{Two, Five}
 use Rattle.draw.specs.Leg.{cell, forth, back, legCount}
 use Rattle.draw.specs.Plan.{split, round, ess, middle}
 use Rattle.draw.proofs.Cases.{equal?, less?, if-equal}
-use Rattle.draw.proofs.Size.{count-column, count-block, block-loss}
+use Rattle.corner.proofs.Count.{count-thin}
+use Rattle.draw.proofs.Size.{count-block, block-loss}
 use Rattle.draw.proofs.Chain.{LegFrom, Sep, on-left, above, below, sep-sym, Each, Chain, Plans}
 use Rattle.draw.proofs.Rows.{size-row}
 use Rattle.draw.proofs.ThreeCount.{loss}
@@ -119,7 +120,7 @@ three-count : (w dx dy : ℕ) → dx < w → dy < 3 → 0 < dx + dy → cornerCo
 three-count w dx dy p q r = ⊎-elim column block (equal? w 1)
   where
     column : w ≡ 1 → cornerCount w 3 dx dy + (w + dx + dy + 1) % 2 ≡ 3 * w
-    column e = let h = count-column w 3 dx dy e (omega arith) q in omega arith
+    column e = let h = count-thin w 3 dx dy e (omega arith) q in omega arith
 
     block : (w ≡ 1 → ⊥) → cornerCount w 3 dx dy + (w + dx + dy + 1) % 2 ≡ 3 * w
     block e = sum (count-block w 3 dx dy (omega arith) (omega arith) r) (block-loss w 3 (dx + dy) (omega arith))
