@@ -21,7 +21,8 @@ use Rattle.draw.proofs.Chain.{Plans, exchanged}
 use Rattle.draw.proofs.Moved.{mirror-move, mirror-y-move, plan-turned, plan-mirrored, plan-flipped}
 use Rattle.draw.proofs.Corners.{NotCorner}
 use Rattle.draw.proofs.Parity.{mod-bit, odd-bit, odd-sum, odd-rest, bit}
-use Rattle.draw.proofs.FourCount.{Fits, fits-exchanged, fits-turned, fits-mirrored, fits-flipped, black-turned, black-flipped, fits-decided}
+use Rattle.draw.proofs.Decided.{not-f3}
+use Rattle.draw.proofs.Defect.{Fits, fits-exchanged, fits-turned, fits-mirrored, fits-flipped, black-turned, black-flipped, fits-decided}
 use Rattle.draw.proofs.Split.{Near, and-false, inner-plans, edge-plans}
 use Rattle.draw.proofs.Wrap.{wrap-plans}
 use Rattle.draw.proofs.Bridge.{bridge-plans}
@@ -274,7 +275,7 @@ steep-plans p s t k wide high os ot l e ns nt f =
 -- m not less than n, s not right of t: the plan has the cells that class and count say
 pub four-wide : (p : Panel) (s t : Cell) → 4 ≤ p .height → p .height ≤ p .width → OnPanel p s → OnPanel p t → s .x ≤ t .x → (s .x ≡ t .x → s .y ≡ t .y → ⊥) → NotCorner p s → NotCorner p t → Plans p s t ((decided p s t) .count .0) (cond (steep s t) (movedPlan turnedCell (orderedFour (p .height) (p .width) (turnedCell s) (turnedCell t))) (fourRows (p .width) (p .height) s t))
 four-wide p s t high wide os ot l n ns nt =
-    let f = fits-decided p s t high wide in
+    let f = fits-decided p s t (omega arith) (omega arith) (not-f3 p s t (λ (e : p .height ≡ 3). omega arith)) in
     if-test (λ (q : Plan). Plans p s t ((decided p s t) .count .0) q) (steep s t) _ _
     (λ e. steep-plans p s t _ (omega arith) high os ot l e ns nt f)
     (λ e.

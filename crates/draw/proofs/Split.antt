@@ -20,7 +20,7 @@ use Rattle.corner.proofs.Count.{count-thin}
 use Rattle.draw.proofs.Chain.{LegFrom, Sep, on-left, Each, Chain, Plans}
 use Rattle.draw.proofs.Moved.{plan-turned}
 use Rattle.draw.proofs.Parity.{two, three, four, six, implies, apply, bit, odd-sum, odd-rest}
-use Rattle.draw.proofs.FourCount.{loss, block-size, defect, Fits, fits-turned}
+use Rattle.draw.proofs.Defect.{loss, block-size, defect, Fits, fits-turned}
 
 -- ---- lengths
 

@@ -21,7 +21,7 @@ use Rattle.draw.proofs.Cases.{equal?}
 use Rattle.corner.proofs.Count.{count-here, count-flat, count-thin}
 use Rattle.draw.proofs.Chain.{LegFrom, Sep, on-left, on-right, above, below, Each, Chain, Plans}
 use Rattle.draw.proofs.Parity.{two, four, same, implies, apply, bit, odd-sum, odd-rest}
-use Rattle.draw.proofs.FourCount.{loss, distance-odd, block-size, defect, Fits}
+use Rattle.draw.proofs.Defect.{loss, distance-odd, block-size, defect, Fits}
 use Rattle.draw.proofs.Split.{span-up, span-down, forth-leg, back-leg}
 
 -- ---- the chain

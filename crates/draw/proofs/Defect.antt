@@ -1,4 +1,4 @@
--- The counts of plans for sides of 4 or more. A block of even area loses a cell where the track's ends have one colour, a block of odd area where
+-- The counts of plans in blocks. A block of even area loses a cell where the track's ends have one colour, a block of odd area where
 -- they have two; what the whole panel loses (`defect`) is put in the same terms, and is the same for the panel turned, mirrored, and exchanged.
 use Prim.Native.Nat.{ℕ, _+_, _-_, _*_, _≤_, _<_, _%_}
 use mathlib.Core.Path.{_≡_, refl, sym, ap, _∙_}
@@ -16,7 +16,7 @@ use Rattle.count.specs.Count.{odd, area, f1, f2, f3, decided}
 use Rattle.draw.specs.Leg.{mirrorX, mirrorY}
 use Rattle.draw.specs.Plan.{differ}
 use Rattle.draw.proofs.Cases.{less?}
-use Rattle.draw.proofs.Decided.{decided-odd, decided-even, not-f1, not-f2, not-f3}
+use Rattle.draw.proofs.Decided.{decided-odd, decided-even, not-f1, not-f2}
 use Rattle.draw.proofs.Size.{count-block, block-loss}
 use Rattle.draw.proofs.Parity.{two, three, four, same, bit, mod-bit, odd-sum, odd-product, odd-rest, odd-dist, colour}
 
@@ -108,17 +108,14 @@ same-colours : (a b : ℕ) → bit (not (differ (odd a) (odd b))) ≡ (a + b + 1
 same-colours a b =
     sym (mod-bit (a + b + 1) ∙ ap bit (odd-sum (a + b) 1 ∙ ap (λ (z : Bool). differ z true) (odd-sum a b) ∙ same _ _ (two (λ a b. Bool·beq (differ (differ a b) true) (not (differ a b))) refl (odd a) (odd b))))
 
-pub fits-decided : (p : Panel) (s t : Cell) → 4 ≤ p .height → p .height ≤ p .width → Fits (p .width) (p .height) s t ((decided p s t) .count .0)
-fits-decided p s t high wide = go (odd (area p)) refl
+pub fits-decided : (p : Panel) (s t : Cell) → 3 ≤ p .width → 3 ≤ p .height → f3 p s t ≡ false → Fits (p .width) (p .height) s t ((decided p s t) .count .0)
+fits-decided p s t wide high no3 = go (odd (area p)) refl
   where
     no1 : f1 p s t ≡ false
     no1 = not-f1 p s t (λ e. omega arith)
 
     no2 : f2 p s t ≡ false
     no2 = not-f2 p s t (λ e. omega arith)
-
-    no3 : f3 p s t ≡ false
-    no3 = not-f3 p s t (λ e. omega arith)
 
     big : 4 ≤ area p
     big = area-some (p .width) (p .height) (omega arith) (omega arith)
