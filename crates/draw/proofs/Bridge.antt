@@ -16,7 +16,7 @@ use Rattle.draw.specs.Leg.{cell, forth, back}
 use Rattle.draw.specs.Plan.{bridge, differ}
 use Rattle.draw.proofs.Chain.{LegFrom, Sep, on-left, above, below, Each, Chain, Plans}
 use Rattle.draw.proofs.Parity.{bit, odd-sum, odd-rest}
-use Rattle.draw.proofs.FourCount.{loss, block-size, defect, Fits}
+use Rattle.draw.proofs.Defect.{loss, block-size, defect, Fits}
 use Rattle.draw.proofs.Split.{span-up, span-down, forth-leg, back-leg, ne-colour}
 
 -- a track between two colours loses nothing in an even number of columns

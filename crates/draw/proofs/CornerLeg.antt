@@ -1,27 +1,25 @@
--- A terminal in a corner of the panel: one leg over the whole panel. It loses a cell by the parity of the distance, as the count does, since F3
--- never holds with a terminal in a corner.
-use Prim.Native.Nat.{ℕ, _+_, _-_, _*_, _/_, _%_, _≤_, _<_, min, max}
+-- A terminal in a corner of the panel: one leg over the whole panel. It leaves out what a longest track does, since a corner of a panel with odd
+-- sides is white, and F3 never holds with a terminal in a corner.
+use Prim.Native.Nat.{ℕ, _+_, _-_, _%_, _≤_, _<_, min, max}
 use mathlib.Core.Path.{_≡_, refl, sym, ap, _∙_, subst}
 use mathlib.Core.Logic.{_⊎_, inl, inr, ⊎-elim}
 use mathlib.Core.Bool.{Bool, true, false, not, cond, _&&_, _||_}
 use native.Mathlib.Omega.{arith}
-use native.Mathlib.Nat.{mul-assoc, mul-comm, mul-le-mul-right}
 use lib.Dec.{eqb, ltb, leb}
 use borrow.Author.Tests.{eq-eqb, ne-eqb, eqb-true, eqb-false, leb-true, not-true}
 use Rattle.grid.specs.declared.Panel.{Panel}
 use Rattle.grid.specs.declared.Cell.{Cell}
 use Rattle.grid.specs.Panel.{OnPanel, dist, black}
 use Rattle.grid.proofs.Facts.{and-left, and-right}
-use Rattle.corner.specs.Corner.{Inside, cornerCount, trackCount}
-use Rattle.count.specs.Count.{area, odd, f1, f2, f3, decided}
+use Rattle.corner.specs.Corner.{Inside, trackCount}
+use Rattle.count.specs.Count.{odd, f3, decided}
 use Rattle.draw.specs.Leg.{cell, forth, back}
-use Rattle.draw.specs.Plan.{corner}
+use Rattle.draw.specs.Plan.{corner, differ}
 use Rattle.draw.specs.declared.Plan.the-variants.{One}
-use Rattle.draw.proofs.Cases.{equal?}
-use Rattle.draw.proofs.Size.{blockCount, count-block}
+use Rattle.draw.proofs.Parity.{four, implies, apply, bit, colour}
+use Rattle.draw.proofs.Defect.{loss, block-size, defect, Fits, fits-exchanged, fits-decided}
 use Rattle.draw.proofs.Chain.{LegFrom, Plans}
 use Rattle.draw.proofs.Corners.{NotCorner}
-use Rattle.draw.proofs.Decided.{decided-odd, decided-even, not-f1, not-f2}
 use Rattle.draw.proofs.Rows.{one-leg}
 
 -- ---- corners of the panel
@@ -102,50 +100,6 @@ no-f3 p s t n = go (f3 p s t) refl
     go true e = absurd (n (f3-facts p s t e))
     go false e = e
 
--- ---- parities
-
-even-times : (a b : ℕ) → a % 2 ≡ 0 → (a * b) % 2 ≡ 0
-even-times a b e =
-    let h : a * b ≡ 2 * (a / 2 * b) = ap (λ (k : ℕ). k * b) (halves e) ∙ mul-assoc 2 (a / 2) b in
-    omega arith
-  where
-    halves : a % 2 ≡ 0 → a ≡ 2 * (a / 2)
-    halves q = omega arith
-
--- an odd area has odd sides
-odd-sides : (a b : ℕ) → (a * b) % 2 ≡ 1 → (a % 2 ≡ 1) × (b % 2 ≡ 1)
-odd-sides a b e = (go a b e, go b a (ap (λ (k : ℕ). k % 2) (mul-comm b a) ∙ e))
-  where
-    go : (c d : ℕ) → (c * d) % 2 ≡ 1 → c % 2 ≡ 1
-    go c d q = ⊎-elim (λ (z : c % 2 ≡ 0). absurd (let w = even-times c d z in omega arith)) (λ (z : c % 2 ≡ 0 → ⊥). omega arith) (equal? (c % 2) 0)
-
-dist-parity : (a b : ℕ) → dist a b % 2 ≡ (a + b) % 2
-unfolding dist
-dist-parity a b = omega arith
-
-sum-parity : (d e x y : ℕ) → d % 2 ≡ x % 2 → e % 2 ≡ y % 2 → (d + e) % 2 ≡ (x + y) % 2
-sum-parity d e x y p q = omega arith
-
--- the parity of a way is that of its ends
-way-parity : (a c : Cell) → (dist (a .x) (c .x) + dist (a .y) (c .y)) % 2 ≡ (a .x + a .y + (c .x + c .y)) % 2
-way-parity a c = sum-parity _ _ _ _ (dist-parity (a .x) (c .x)) (dist-parity (a .y) (c .y)) ∙ ap (λ (k : ℕ). k % 2) (regroup (a .x) (c .x) (a .y) (c .y))
-  where
-    regroup : (q r f g : ℕ) → q + r + (f + g) ≡ q + f + (r + g)
-    regroup q r f g = omega arith
-
-odd-flip : (n d : ℕ) → n % 2 ≡ 1 → (n + d) % 2 + d % 2 ≡ 1
-odd-flip n d o = omega arith
-
-even-keep : (n d : ℕ) → n % 2 ≡ 0 → (n + d) % 2 ≡ d % 2
-even-keep n d o = omega arith
-
-next-flip : (d : ℕ) → d % 2 + (d + 1) % 2 ≡ 1
-next-flip d = omega arith
-
-dist-some : (a b : ℕ) → (a ≡ b → ⊥) → 0 < dist a b
-unfolding dist
-dist-some a b n = omega arith
-
 -- ---- the leg
 
 span : (m a : ℕ) → 1 ≤ m → (a ≡ 1) ⊎ (a ≡ m) → dist a (m + 1 - a) + 1 ≡ m
@@ -161,58 +115,51 @@ spans-high : (m a c : ℕ) → c ≤ m → (a ≡ 1) ⊎ (a ≡ m) → c ≤ max
 spans-high m a c h (inl e) = omega arith
 spans-high m a c h (inr e) = omega arith
 
-module _ (p : Panel) (a c : Cell) (k : Corner p a) (oa : OnPanel p a) (oc : OnPanel p c) (d : a .x ≡ c .x → a .y ≡ c .y → ⊥) where
-  over-on : OnPanel p (cell (p .width + 1 - a .x) (p .height + 1 - a .y))
-  over-on = record { left = omega (arith, oa .right); right = omega (arith, oa .left); top = omega (arith, oa .bottom); bottom = omega (arith, oa .top) }
+-- the corner opposite to a
+abbrev over : Panel → Cell → Cell
+over p a = cell (p .width + 1 - a .x) (p .height + 1 - a .y)
 
-  over-inside : Inside a (cell (p .width + 1 - a .x) (p .height + 1 - a .y)) c
-  over-inside = record {
-    left = spans-low (p .width) (a .x) (c .x) (oc .left) (k .side);
-    right = spans-high (p .width) (a .x) (c .x) (oc .right) (k .side);
-    top = spans-low (p .height) (a .y) (c .y) (oc .top) (k .level);
-    bottom = spans-high (p .height) (a .y) (c .y) (oc .bottom) (k .level);
-  }
+over-on : (p : Panel) (a : Cell) → OnPanel p a → OnPanel p (over p a)
+over-on p a o = record { left = omega (arith, o .right); right = omega (arith, o .left); top = omega (arith, o .bottom); bottom = omega (arith, o .top) }
 
-  some-way : 0 < dist (a .x) (c .x) + dist (a .y) (c .y)
-  some-way =
-      ⊎-elim
-      (λ (e : a .x ≡ c .x). let z = dist-some (a .y) (c .y) (d e) in omega arith)
-      (λ (e : a .x ≡ c .x → ⊥). let z = dist-some (a .x) (c .x) e in omega arith)
-      (equal? (a .x) (c .x))
+over-inside : (p : Panel) (a c : Cell) → Corner p a → OnPanel p c → Inside a (over p a) c
+over-inside p a c k o = record {
+  left = spans-low (p .width) (a .x) (c .x) (o .left) (k .side);
+  right = spans-high (p .width) (a .x) (c .x) (o .right) (k .side);
+  top = spans-low (p .height) (a .y) (c .y) (o .top) (k .level);
+  bottom = spans-high (p .height) (a .y) (c .y) (o .bottom) (k .level);
+}
 
-  over-size : 2 ≤ p .width → 2 ≤ p .height → trackCount a (cell (p .width + 1 - a .x) (p .height + 1 - a .y)) c ≡ blockCount (p .width) (p .height) (dist (a .x) (c .x) + dist (a .y) (c .y))
-  unfolding trackCount
-  over-size w h =
-      (λ i. cornerCount (span (p .width) (a .x) (omega arith) (k .side) i) (span (p .height) (a .y) (omega arith) (k .level) i) (dist (a .x) (c .x)) (dist (a .y) (c .y)))
-      ∙ count-block (p .width) (p .height) (dist (a .x) (c .x)) (dist (a .y) (c .y)) w h some-way
+-- a number that is 1 or m is odd where m is
+end-odd : (m a : ℕ) → (a ≡ 1) ⊎ (a ≡ m) → odd m ≡ true → odd a ≡ true
+end-odd m a (inl e) o = ap odd e
+end-odd m a (inr e) o = ap odd e ∙ o
 
-  -- a corner of a panel with an odd number of cells is white
-  corner-white : p .width % 2 ≡ 1 → p .height % 2 ≡ 1 → (a .x + a .y) % 2 ≡ 0
-  corner-white e f = ⊎-elim (λ (q : a .x ≡ 1). level q (omega arith)) (λ (q : a .x ≡ p .width). level q (omega arith)) (k .side)
-    where
-      level : {z : ℕ} → a .x ≡ z → z % 2 ≡ 1 → (a .x + a .y) % 2 ≡ 0
-      level q o = ⊎-elim (λ (r : a .y ≡ 1). omega arith) (λ (r : a .y ≡ p .height). omega arith) (k .level)
+-- a corner of a panel with odd sides is white
+corner-white : (p : Panel) (a : Cell) → Corner p a → implies (odd (p .width) && odd (p .height)) (not (black a)) ≡ true
+corner-white p a k = go (odd (p .width)) (odd (p .height)) refl refl
+  where
+    go : (w h : Bool) → odd (p .width) ≡ w → odd (p .height) ≡ h → implies (w && h) (not (black a)) ≡ true
+    go true true e f = ap not (colour a ∙ (λ i. differ (end-odd (p .width) (a .x) (k .side) e i) (end-odd (p .height) (a .y) (k .level) f i)))
+    go true false e f = refl
+    go false h e f = refl
 
-  block-odd : 1 ≤ area p → area p % 2 ≡ 1 → (a .x + a .y) % 2 ≡ 0 → blockCount (p .width) (p .height) (dist (a .x) (c .x) + dist (a .y) (c .y)) + ((a .x + a .y) % 2 + (c .x + c .y) % 2) ≡ area p
-  unfolding blockCount
-  block-odd g o w =
-      sums (p .width * p .height) _ _ _ _ _ g (odd-flip (p .width * p .height) (dist (a .x) (c .x) + dist (a .y) (c .y)) o) (way-parity a c) (even-keep (a .x + a .y) (c .x + c .y) w) w
-    where
-      sums : (n f e r x y : ℕ) → 1 ≤ n → f + e ≡ 1 → e ≡ r → r ≡ y → x ≡ 0 → n - 1 + f + (x + y) ≡ n
-      sums n f e r x y g h i j k = omega arith
-
-  block-even : 1 ≤ area p → area p % 2 ≡ 0 → blockCount (p .width) (p .height) (dist (a .x) (c .x) + dist (a .y) (c .y)) + (a .x + a .y + (c .x + c .y) + 1) % 2 ≡ area p
-  unfolding blockCount
-  block-even g o =
-      sums (p .width * p .height) _ _ _ _ g (even-keep (p .width * p .height) (dist (a .x) (c .x) + dist (a .y) (c .y)) o) (way-parity a c) (next-flip (a .x + a .y + (c .x + c .y)))
-    where
-      sums : (n f e r y : ℕ) → 1 ≤ n → f ≡ e → e ≡ r → r + y ≡ 1 → n - 1 + f + y ≡ n
-      sums n f e r y g h i j = omega arith
-
--- ---- either terminal in a corner
+-- so the leg leaves out what the longest track does
+same-loss : (m n a c : Bool) → implies (m && n) (not a) ≡ true → bit (loss m n (differ a c)) ≡ defect m n a c
+same-loss m n a c e = eqb-true _ _ (apply (four (λ m n a c. implies (implies (m && n) (not a)) (eqb (bit (loss m n (differ a c))) (defect m n a c))) refl m n a c) e)
 
 same-sum : {a b k : ℕ} (c : ℕ) → a + c ≡ k → b + c ≡ k → a ≡ b
 same-sum c e f = omega arith
+
+module _ (p : Panel) (m : 3 ≤ p .width) (n : 3 ≤ p .height) where
+  over-size : (a c : Cell) (k : ℕ) → Corner p a → (a .x ≡ c .x → a .y ≡ c .y → ⊥) → Fits (p .width) (p .height) a c k → trackCount a (over p a) c ≡ k
+  over-size a c k r d f =
+      same-sum _
+      (ap (λ (z : ℕ). trackCount a (over p a) c + z) (sym (same-loss (odd (p .width)) (odd (p .height)) (black a) (black c) (corner-white p a r)))
+      ∙ block-size a (over p a) c (p .width) (p .height) (span (p .width) (a .x) (omega arith) (r .side)) (span (p .height) (a .y) (omega arith) (r .level)) (omega arith) (omega arith) d)
+      (f .fits)
+
+-- ---- either terminal in a corner
 
 -- F3 holds with no terminal in a corner
 f3-from : (p : Panel) (s t : Cell) → OnPanel p t → Corner p s → f3 p s t ≡ false
@@ -230,52 +177,14 @@ f3-to p s t os k = no-f3 p s t λ f. ⊎-elim (λ (q : t .x ≡ 1). omega (arith
     level f q (inr r) = let d = f .light in let e = f .even in let h = f .rows in omega arith
 
 module _ (p : Panel) (s t : Cell) (m : 3 ≤ p .width) (n : 3 ≤ p .height) (os : OnPanel p s) (ot : OnPanel p t) (d : s .x ≡ t .x → s .y ≡ t .y → ⊥) where
-  some-cells : 3 ≤ area p
-  some-cells = let h : 3 * p .height ≤ p .width * p .height = mul-le-mul-right (p .height) m in omega arith
-
-  no1 : f1 p s t ≡ false
-  no1 = not-f1 p s t (λ (q : p .height ≡ 1). omega arith)
-
-  no2 : f2 p s t ≡ false
-  no2 = not-f2 p s t (λ (q : p .height ≡ 2). omega arith)
-
-  from-count : Corner p s → blockCount (p .width) (p .height) (dist (s .x) (t .x) + dist (s .y) (t .y)) ≡ (decided p s t) .count .0
-  from-count k =
-      let g = some-cells in
-      ⊎-elim
-      (λ (o : area p % 2 ≡ 1).
-      let w = odd-sides (p .width) (p .height) o in
-      same-sum _ (block-odd p s t k os ot d (omega arith) o (corner-white p s t k os ot d (w .0) (w .1))) (decided-odd p s t no1 no2 o (f3-from p s t ot k) (omega arith)))
-      (λ (o : area p % 2 ≡ 1 → ⊥).
-      let e : area p % 2 ≡ 0 = omega arith in
-      same-sum _ (block-even p s t k os ot d (omega arith) e) (decided-even p s t no1 no2 e (f3-from p s t ot k) (omega arith)))
-      (equal? (area p % 2) 1)
-
-  pub from-corner : Corner p s → Plans p s t ((decided p s t) .count .0) (One (forth s (cell (p .width + 1 - s .x) (p .height + 1 - s .y)) t))
+  pub from-corner : Corner p s → Plans p s t ((decided p s t) .count .0) (One (forth s (over p s) t))
   from-corner k =
       one-leg
-      (record { corner = os; opposite = over-on p s t k os ot d; target = over-inside p s t k os ot d; from = refl; to = refl })
-      (over-size p s t k os ot d (omega arith) (omega arith) ∙ from-count k)
+      (record { corner = os; opposite = over-on p s os; target = over-inside p s t k ot; from = refl; to = refl })
+      (over-size p m n s t _ k d (fits-decided p s t m n (f3-from p s t ot k)))
 
-  to-count : Corner p t → blockCount (p .width) (p .height) (dist (t .x) (s .x) + dist (t .y) (s .y)) ≡ (decided p s t) .count .0
-  to-count k =
-      let g = some-cells in
-      let b : t .x ≡ s .x → t .y ≡ s .y → ⊥ = λ x y. d (sym x) (sym y) in
-      ⊎-elim
-      (λ (o : area p % 2 ≡ 1).
-      let w = odd-sides (p .width) (p .height) o in
-      same-sum ((s .x + s .y) % 2 + (t .x + t .y) % 2) (let z = block-odd p t s k ot os b (omega arith) o (corner-white p t s k ot os b (w .0) (w .1)) in omega arith) (decided-odd p s t no1 no2 o (f3-to p s t os k) (omega arith)))
-      (λ (o : area p % 2 ≡ 1 → ⊥).
-      let e : area p % 2 ≡ 0 = omega arith in
-      same-sum ((s .x + s .y + (t .x + t .y) + 1) % 2) (ap (λ (j : ℕ). blockCount (p .width) (p .height) (dist (t .x) (s .x) + dist (t .y) (s .y)) + (j + 1) % 2) (swap (s .x + s .y) (t .x + t .y)) ∙ block-even p t s k ot os b (omega arith) e) (decided-even p s t no1 no2 e (f3-to p s t os k) (omega arith)))
-      (equal? (area p % 2) 1)
-    where
-      swap : (a b : ℕ) → a + b ≡ b + a
-      swap a b = omega arith
-
-  pub to-corner : Corner p t → Plans p s t ((decided p s t) .count .0) (One (back t (cell (p .width + 1 - t .x) (p .height + 1 - t .y)) s))
+  pub to-corner : Corner p t → Plans p s t ((decided p s t) .count .0) (One (back t (over p t) s))
   to-corner k =
-      let b : t .x ≡ s .x → t .y ≡ s .y → ⊥ = λ x y. d (sym x) (sym y) in
       one-leg
-      (record { corner = ot; opposite = over-on p t s k ot os b; target = over-inside p t s k ot os b; from = refl; to = refl })
-      (over-size p t s k ot os b (omega arith) (omega arith) ∙ to-count k)
+      (record { corner = ot; opposite = over-on p t ot; target = over-inside p t s k os; from = refl; to = refl })
+      (over-size p m n t s _ k (λ x y. d (sym x) (sym y)) (fits-exchanged (fits-decided p s t m n (f3-to p s t os k))))

@@ -10,21 +10,10 @@ use Rattle.grid.specs.declared.Panel.{Panel}
 use Rattle.grid.specs.declared.Cell.{Cell}
 use Rattle.grid.specs.Panel.{black}
 use Rattle.count.specs.declared.ClassCount.{ClassCount}
+use Rattle.draw.proofs.Parity.{bit, mod-bit}
 use Rattle.count.specs.Count.{area, odd, endCell, f1, f2, f3, c2, c0, found, decided}
 
 -- ---- parities
-
-pub bit : Bool → ℕ
-bit true = 1
-bit false = 0
-
-pub bit-odd : (k : ℕ) → bit (odd k) ≡ k % 2
-unfolding bit
-bit-odd k = go (odd k) refl
-  where
-    go : (b : Bool) → odd k ≡ b → bit b ≡ k % 2
-    go true e = let h = eqb-true (k % 2) 1 e in sym h
-    go false e = let h : k % 2 ≡ 1 → ⊥ = eqb-false (k % 2) 1 e in omega arith
 
 pub odd-yes : (k : ℕ) → k % 2 ≡ 1 → odd k ≡ true
 odd-yes k e = eq-eqb (k % 2) 1 e
@@ -56,14 +45,14 @@ left : Bool → Bool → Bool → Bool → ℕ → ℕ
 left o b w f a = cond ((o && (b && w)) || f) (a - 2) (cond (cond o (not b && not w) (cond b (not w) w)) a (a - 1))
 
 left-odd : (b w : Bool) (a : ℕ) → 2 ≤ a → left true b w false a + (bit b + bit w) ≡ a
-unfolding left bit
+unfolding left
 left-odd true true a h = omega arith
 left-odd true false a h = omega arith
 left-odd false true a h = omega arith
 left-odd false false a h = omega arith
 
 left-even : (b w : Bool) (a : ℕ) → 1 ≤ a → left false b w false a + (bit b + bit w + 1) % 2 ≡ a
-unfolding left bit
+unfolding left
 left-even true true a h = omega arith
 left-even true false a h = omega arith
 left-even false true a h = omega arith
@@ -89,15 +78,15 @@ module _ (p : Panel) (s t : Cell) (no1 : f1 p s t ≡ false) (no2 : f2 p s t ≡
 
   pub decided-odd : area p % 2 ≡ 1 → f3 p s t ≡ false → 2 ≤ area p → (decided p s t) .count .0 + ((s .x + s .y) % 2 + (t .x + t .y) % 2) ≡ area p
   decided-odd o n h =
-      (λ i. (decided-left ∙ (λ j. left (odd-yes (area p) o j) (black s) (black t) (n j) (area p))) i + (sym (bit-odd (s .x + s .y)) i + sym (bit-odd (t .x + t .y)) i))
+      (λ i. (decided-left ∙ (λ j. left (odd-yes (area p) o j) (black s) (black t) (n j) (area p))) i + (mod-bit (s .x + s .y) i + mod-bit (t .x + t .y) i))
       ∙ left-odd (black s) (black t) (area p) h
 
   pub decided-even : area p % 2 ≡ 0 → f3 p s t ≡ false → 1 ≤ area p → (decided p s t) .count .0 + (s .x + s .y + (t .x + t .y) + 1) % 2 ≡ area p
   decided-even o n h =
       let q : (decided p s t) .count .0 ≡ left false (black s) (black t) false (area p) = decided-left ∙ (λ j. left (odd-no (area p) o j) (black s) (black t) (n j) (area p)) in
       let e = left-even (black s) (black t) (area p) h in
-      let a = bit-odd (s .x + s .y) in
-      let b = bit-odd (t .x + t .y) in
+      let a = sym (mod-bit (s .x + s .y)) in
+      let b = sym (mod-bit (t .x + t .y)) in
       ap (λ (k : ℕ). k + (s .x + s .y + (t .x + t .y) + 1) % 2) q ∙ sums (left false (black s) (black t) false (area p)) (bit (black s)) (bit (black t)) (s .x + s .y) (t .x + t .y) (area p) a b e
     where
       sums : (l a b x y k : ℕ) → a ≡ x % 2 → b ≡ y % 2 → l + (a + b + 1) % 2 ≡ k → l + (x + y + 1) % 2 ≡ k

@@ -2,7 +2,7 @@
 -- specs/Plan.antt; a leaf is one of the plans of Split, Wrap and Bridge, and a turn, a mirror or an exchange carries a plan and its count along.
 use Prim.Native.Nat.{ℕ, _+_, _-_, _%_, _≤_, _<_}
 use mathlib.Core.Path.{_≡_, refl, sym, ap, _∙_, subst₂}
-use mathlib.Core.Logic.{_≢_, _⊎_, inl, inr, ⊎-elim}
+use mathlib.Core.Logic.{_⊎_, inl, inr, ⊎-elim}
 use mathlib.Core.Bool.{Bool, true, false, cond, not, _&&_, _||_, true≢false}
 use native.Mathlib.Omega.{arith}
 use lib.Dec.{leb, ltb, eqb}
@@ -21,7 +21,8 @@ use Rattle.draw.proofs.Chain.{Plans, exchanged}
 use Rattle.draw.proofs.Moved.{mirror-move, mirror-y-move, plan-turned, plan-mirrored, plan-flipped}
 use Rattle.draw.proofs.Corners.{NotCorner}
 use Rattle.draw.proofs.Parity.{mod-bit, odd-bit, odd-sum, odd-rest, bit}
-use Rattle.draw.proofs.FourCount.{Fits, fits-exchanged, fits-turned, fits-mirrored, fits-flipped, black-turned, black-flipped, fits-decided}
+use Rattle.draw.proofs.Decided.{not-f3}
+use Rattle.draw.proofs.Defect.{Fits, fits-exchanged, fits-turned, fits-mirrored, fits-flipped, black-turned, black-flipped, fits-decided}
 use Rattle.draw.proofs.Split.{Near, and-false, inner-plans, edge-plans}
 use Rattle.draw.proofs.Wrap.{wrap-plans}
 use Rattle.draw.proofs.Bridge.{bridge-plans}
@@ -272,13 +273,13 @@ steep-plans p s t k wide high os ot l e ns nt f =
     four-rows (turned p) (turnedCell s) (turnedCell t) k high wide (turn-on os) (turn-on ot) (omega arith) (omega arith) (omega arith) (not-corner-turned ns) (not-corner-turned nt) (fits-turned f)))
 
 -- m not less than n, s not right of t: the plan has the cells that class and count say
-pub four-wide : (p : Panel) (s t : Cell) → 4 ≤ p .height → p .height ≤ p .width → OnPanel p s → OnPanel p t → s .x ≤ t .x → s ≢ t → NotCorner p s → NotCorner p t → Plans p s t ((decided p s t) .count .0) (cond (steep s t) (movedPlan turnedCell (orderedFour (p .height) (p .width) (turnedCell s) (turnedCell t))) (fourRows (p .width) (p .height) s t))
+pub four-wide : (p : Panel) (s t : Cell) → 4 ≤ p .height → p .height ≤ p .width → OnPanel p s → OnPanel p t → s .x ≤ t .x → (s .x ≡ t .x → s .y ≡ t .y → ⊥) → NotCorner p s → NotCorner p t → Plans p s t ((decided p s t) .count .0) (cond (steep s t) (movedPlan turnedCell (orderedFour (p .height) (p .width) (turnedCell s) (turnedCell t))) (fourRows (p .width) (p .height) s t))
 four-wide p s t high wide os ot l n ns nt =
-    let f = fits-decided p s t high wide in
+    let f = fits-decided p s t (omega arith) (omega arith) (not-f3 p s t (λ (e : p .height ≡ 3). omega arith)) in
     if-test (λ (q : Plan). Plans p s t ((decided p s t) .count .0) q) (steep s t) _ _
     (λ e. steep-plans p s t _ (omega arith) high os ot l e ns nt f)
     (λ e.
     let g = neither-less (t .x + s .y) (s .x + t .y) (t .x + t .y) (s .x + s .y) e in
     let u = g .0 in
     let d = g .1 in
-    four-rows p s t _ (omega arith) high os ot (⊎-elim (λ z. z) (λ z. absurd (n (cell-eq (omega arith) (omega arith)))) (less? (s .x) (t .x))) (omega arith) (omega arith) ns nt f)
+    four-rows p s t _ (omega arith) high os ot (⊎-elim (λ z. z) (λ z. absurd (n (omega arith) (omega arith))) (less? (s .x) (t .x))) (omega arith) (omega arith) ns nt f)

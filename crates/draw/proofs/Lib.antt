@@ -5,11 +5,12 @@ pub mod Chain
 pub mod Moved
 pub mod Corners
 pub mod Decided
+pub mod Defect
 pub mod Rows
 pub mod CornerLeg
 pub mod ThreeCount
+pub mod ThreeLegs
 pub mod ThreeRows
-pub mod FourCount
 pub mod Split
 pub mod Wrap
 pub mod Bridge

@@ -16,7 +16,7 @@ use Rattle.draw.specs.declared.Leg.{Leg}
 use Rattle.draw.specs.declared.Plan.{Plan}
 use Rattle.draw.specs.declared.Plan.the-variants.{One, Two, Three, Five}
 use Rattle.draw.specs.Leg.{start, stop, legs, legCount, total, movedLeg, movedPlan, mirrorX, mirrorY}
-use Rattle.draw.proofs.Size.{count-turned}
+use Rattle.corner.proofs.Count.{count-turned}
 use Rattle.draw.proofs.Chain.{LegFrom, Sep, on-left, on-right, above, below, Each, Chain, Plans, inside-on}
 
 pub record LegMove (p q : Panel) (f : Cell → Cell) : Type 0 where
@@ -125,7 +125,7 @@ turn-move p = record {
   inside = λ a b c oa ob i. record { left = i .top; right = i .bottom; top = i .left; bottom = i .right };
   besides = λ a b oa ob h. turning p .keeps a b oa ob h;
   seps = λ g h a b c d s. turn-sep g h s;
-  counts = λ a b t oa ob i. count-turned (dist (a .x) (b .x) + 1) (dist (a .y) (b .y) + 1) (dist (a .x) (t .x)) (dist (a .y) (t .y)) (inside-near _ _ _ (i .left) (i .right)) (inside-near _ _ _ (i .top) (i .bottom));
+  counts = λ a b t oa ob i. sym (count-turned (dist (a .x) (b .x) + 1) (dist (a .y) (b .y) + 1) (dist (a .x) (t .x)) (dist (a .y) (t .y)) (inside-near _ _ _ (i .left) (i .right)) (inside-near _ _ _ (i .top) (i .bottom)));
 }
 
 -- ---- mirroring

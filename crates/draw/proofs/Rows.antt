@@ -19,7 +19,8 @@ use Rattle.draw.specs.declared.Plan.the-variants.{One, Two, Three, Five}
 use Rattle.draw.specs.Leg.{cell, forth, back, total, legs}
 use Rattle.draw.specs.Plan.{split, twoRows}
 use Rattle.draw.proofs.Cases.{equal?, less?, if-equal, if-less}
-use Rattle.draw.proofs.Size.{blockCount, count-row, count-column, count-block, block-loss}
+use Rattle.corner.proofs.Count.{count-flat, count-thin}
+use Rattle.draw.proofs.Size.{blockCount, count-block}
 use Rattle.draw.proofs.Chain.{LegFrom, Sep, on-left, on-right, above, below, Each, Chain, Plans}
 use Rattle.draw.proofs.Decided.{decided-one, decided-two, decided-odd, decided-even, not-f1, not-f2, not-f3}
 
@@ -39,7 +40,7 @@ dist-none a b h = omega arith
 
 pub size-row : (a b t : Cell) → a .y ≡ b .y → a .y ≡ t .y → trackCount a b t ≡ dist (a .x) (t .x) + 1
 unfolding trackCount
-size-row a b t e f = count-row _ _ _ _ (ap (λ (k : ℕ). k + 1) (dist-none _ _ e)) (dist-none _ _ f)
+size-row a b t e f = count-flat _ _ _ _ (ap (λ (k : ℕ). k + 1) (dist-none _ _ e))
 
 -- a plan of one leg
 pub one-leg : {p : Panel} {s t : Cell} {k : ℕ} {g : Leg} → LegFrom p g s t → trackCount (g .a) (g .b) (g .t) ≡ k → Plans p s t k (One g)
@@ -121,7 +122,7 @@ two-count : (w h dx dy : ℕ) → h ≡ 2 → dx < w → dy ≤ 1 → 0 < dx + d
 unfolding blockCount
 two-count w h dx dy e p q r =
     ⊎-elim
-    (λ (z : w ≡ 1). count-column w h dx dy z (omega arith) (omega arith) ∙ (omega arith))
+    (λ (z : w ≡ 1). count-thin w h dx dy z (omega arith) (omega arith) ∙ (omega arith))
     (λ (z : w ≡ 1 → ⊥). count-block w h dx dy (omega arith) (omega arith) r ∙ twice (w * h) w (dx + dy) (ap (λ (k : ℕ). w * k) e ∙ (omega arith)))
     (equal? w 1)
   where

@@ -16,11 +16,11 @@ use Rattle.count.specs.Count.{odd}
 use Rattle.draw.specs.Leg.{cell, forth, back}
 use Rattle.draw.specs.Plan.{split, differ, critical, free, crossing, innerSplit, edgeSplit}
 use Rattle.draw.proofs.Cases.{equal?, if-test, if-less}
-use Rattle.draw.proofs.Size.{count-column}
+use Rattle.corner.proofs.Count.{count-thin}
 use Rattle.draw.proofs.Chain.{LegFrom, Sep, on-left, Each, Chain, Plans}
 use Rattle.draw.proofs.Moved.{plan-turned}
 use Rattle.draw.proofs.Parity.{two, three, four, six, implies, apply, bit, odd-sum, odd-rest}
-use Rattle.draw.proofs.FourCount.{loss, block-size, defect, Fits, fits-turned}
+use Rattle.draw.proofs.Defect.{loss, block-size, defect, Fits, fits-turned}
 
 -- ---- lengths
 
@@ -228,7 +228,7 @@ inner-plans p s t k os ot f high wide room l r calm =
 one-column : (x m : ℕ) → 4 ≤ m → trackCount (cell (x + 1) m) (cell (x + 1) (m + 1 - m)) (cell (x + 1) 2) + 1 ≡ 1 * m
 unfolding trackCount dist
 one-column x m h =
-    ap (λ (z : ℕ). z + 1) (count-column (dist (x + 1) (x + 1) + 1) (dist m (m + 1 - m) + 1) (dist (x + 1) (x + 1)) (dist m 2) (omega arith) (omega arith) (omega arith)) ∙ (omega arith)
+    ap (λ (z : ℕ). z + 1) (count-thin (dist (x + 1) (x + 1) + 1) (dist m (m + 1 - m) + 1) (dist (x + 1) (x + 1)) (dist m 2) (omega arith) (omega arith) (omega arith)) ∙ (omega arith)
 
 second-rows : (y m n d : ℕ) → 4 ≤ m → 1 ≤ d → y + d ≡ n → trackCount (cell (y + 1) m) (cell n (m + 1 - m)) (cell (y + 1) 2) + bit (loss (odd d) (odd m) (differ (black (cell (y + 1) m)) (black (cell (y + 1) 2)))) ≡ d * m
 second-rows y m n d h l e =

@@ -10,7 +10,7 @@ use Rattle.grid.specs.Panel.{OnPanel}
 use Rattle.grid.specs.Track.{Track}
 use Rattle.count.specs.Count.{count}
 use Rattle.count.specs.Longest.{NoLonger}
-use Rattle.count.proofs.NoLonger.{no-longer}
+use Rattle.count.proofs.AtMost.{no-longer}
 use Rattle.draw.proofs.Wide.{plan-good}
 use Rattle.draw.proofs.Exists.{plan-track}
 

@@ -36,7 +36,7 @@ wide-good p s t h w os ot l d =
     if-test P (corner (p .width) (p .height) s) _ _ (λ e. from-corner p s t (omega arith) (omega arith) os ot d (is-corner p s e)) λ ns.
     if-test P (corner (p .width) (p .height) t) _ _ (λ e. to-corner p s t (omega arith) (omega arith) os ot d (is-corner p t e)) λ nt.
     if-equal P (p .height) 3 _ _ (λ e. three-rows p s t e (omega arith) os ot l d (no-corner p s ns) (no-corner p t nt)) λ n3.
-    four-wide p s t (omega arith) w os ot l (λ q. d (ap (λ (c : Cell). c .x) q) (ap (λ (c : Cell). c .y) q)) (no-corner p s ns) (no-corner p t nt)
+    four-wide p s t (omega arith) w os ot l d (no-corner p s ns) (no-corner p t nt)
 
 -- the terminals exchanged where s is right of t
 ordered-good : (p : Panel) (s t : Cell) → 1 ≤ p .height → p .height ≤ p .width → OnPanel p s → OnPanel p t → (s .x ≡ t .x → s .y ≡ t .y → ⊥)

@@ -18,10 +18,10 @@ use Rattle.draw.specs.declared.Leg.{Leg}
 use Rattle.draw.specs.Leg.{cell, forth, back}
 use Rattle.draw.specs.Plan.{wrap, differ}
 use Rattle.draw.proofs.Cases.{equal?}
-use Rattle.draw.proofs.Size.{count-point, count-row, count-column}
+use Rattle.corner.proofs.Count.{count-here, count-flat, count-thin}
 use Rattle.draw.proofs.Chain.{LegFrom, Sep, on-left, on-right, above, below, Each, Chain, Plans}
 use Rattle.draw.proofs.Parity.{two, four, same, implies, apply, bit, odd-sum, odd-rest}
-use Rattle.draw.proofs.FourCount.{loss, distance-odd, block-size, defect, Fits}
+use Rattle.draw.proofs.Defect.{loss, distance-odd, block-size, defect, Fits}
 use Rattle.draw.proofs.Split.{span-up, span-down, forth-leg, back-leg}
 
 -- ---- the chain
@@ -104,7 +104,7 @@ unfolding trackCount
 far-size a b w h e f p q =
     ⊎-elim
     (λ (z : h ≡ 1).
-    let row = count-row (dist (a .x) (b .x) + 1) (dist (a .y) (b .y) + 1) (dist (a .x) (b .x)) (dist (a .y) (b .y)) (f ∙ z) (omega arith) in
+    let row = count-flat (dist (a .x) (b .x) + 1) (dist (a .y) (b .y) + 1) (dist (a .x) (b .x)) (dist (a .y) (b .y)) (f ∙ z) in
     (λ i. row i + bit (not (odd w) && not (odd (z i)))) ∙ ap (λ (z : Bool). dist (a .x) (b .x) + 1 + bit z) (never (not (odd w))) ∙ (let g : dist (a .x) (b .x) + 1 + 0 ≡ w * 1 = omega arith in g) ∙ ap (λ (z : ℕ). w * z) (sym z))
     (λ z. ap (λ (z : Bool). trackCount a b b + bit z) lost ∙ block-size a b b w h e f p (omega arith) (λ u v. let d = dist-same (a .x) (b .x) u in omega arith))
     (equal? h 1)
@@ -124,7 +124,7 @@ up-size c y p q o =
     ⊎-elim
     (λ (z : c ≡ 1).
     let h = span-down y 1 y (omega arith) (omega arith) in
-    count-column (dist c 1 + 1) (dist y 1 + 1) (dist c c) (dist y 1) (ap (λ (k : ℕ). k + 1) (dist-same c 1 z)) (dist-same c c refl) (omega arith) ∙ h ∙ (let g : y ≡ 1 * y = omega arith in g) ∙ ap (λ (k : ℕ). k * y) (sym z))
+    count-thin (dist c 1 + 1) (dist y 1 + 1) (dist c c) (dist y 1) (ap (λ (k : ℕ). k + 1) (dist-same c 1 z)) (dist-same c c refl) (omega arith) ∙ h ∙ (let g : y ≡ 1 * y = omega arith in g) ∙ ap (λ (k : ℕ). k * y) (sym z))
     (λ z.
     let g = block-size (cell c y) (cell 1 1) (cell c 1) c y (span-down c 1 c (omega arith) (omega arith)) (span-down y 1 y (omega arith) (omega arith)) (omega arith) q (λ u v. omega arith) in
     let l = (λ i. loss (odd c) (odd y) (differ (odd-sum c y i) (odd-sum c 1 i))) ∙ same _ _ (apply (two (λ c y. implies c (Bool·beq (loss c y (differ (differ c y) (differ c true))) false)) refl (odd c) (odd y)) o) in
@@ -173,7 +173,7 @@ module _ (p : Panel) (c y : ℕ) (left : 1 ≤ c) (right : c + 3 ≤ p .width) (
 
   size5 : trackCount (cell (c + 1) y) (cell (c + 1) y) (cell (c + 1) y) ≡ 1
   unfolding trackCount
-  size5 = count-point _ _ (dist (c + 1) (c + 1)) (dist y y) (λ i. dist-same (c + 1) (c + 1) refl i + dist-same y y refl i)
+  size5 = count-here _ _ (dist (c + 1) (c + 1)) (dist y y) (λ i. dist-same (c + 1) (c + 1) refl i + dist-same y y refl i)
 
   wrap-at : (k : ℕ) → odd c ≡ true → (odd (p .height) || not (odd y)) ≡ true → Fits (p .width) (p .height) (cell c y) (cell (c + 1) y) k → Plans p (cell c y) (cell (c + 1) y) k (wrap (p .width) (p .height) (cell c y) (cell (c + 1) y))
   unfolding wrap

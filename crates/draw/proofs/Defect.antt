@@ -1,24 +1,24 @@
--- The counts of plans for sides of 4 or more. A block of even area loses a cell where the track's ends have one colour, a block of odd area where
+-- The counts of plans in blocks. A block of even area loses a cell where the track's ends have one colour, a block of odd area where
 -- they have two; what the whole panel loses (`defect`) is put in the same terms, and is the same for the panel turned, mirrored, and exchanged.
-use Prim.Native.Nat.{ℕ, _+_, _-_, _*_, _≤_, _<_}
+use Prim.Native.Nat.{ℕ, _+_, _-_, _*_, _≤_, _<_, _%_}
 use mathlib.Core.Path.{_≡_, refl, sym, ap, _∙_}
 use mathlib.Core.Logic.{⊎-elim}
-use mathlib.Core.Bool.{Bool, true, false, cond, not, _&&_, _||_, Bool·beq, true≢false}
+use mathlib.Core.Bool.{Bool, true, false, cond, not, _&&_, Bool·beq}
 use native.Mathlib.Omega.{arith}
 use native.Mathlib.Nat.{add-comm, mul-comm, mul-le-mul}
 use lib.Dec.{eqb}
-use borrow.Author.Tests.{eqb-true, ne-eqb}
+use borrow.Author.Tests.{eqb-true}
 use Rattle.grid.specs.declared.Panel.{Panel}
 use Rattle.grid.specs.declared.Cell.{Cell}
 use Rattle.grid.specs.Panel.{black, dist, turnedCell}
 use Rattle.corner.specs.Corner.{cornerCount, trackCount}
-use Rattle.count.specs.declared.ClassCount.{ClassCount}
-use Rattle.count.specs.Count.{odd, area, f1, f2, f3, c2, c0, decided}
+use Rattle.count.specs.Count.{odd, area, f1, f2, f3, decided}
 use Rattle.draw.specs.Leg.{mirrorX, mirrorY}
 use Rattle.draw.specs.Plan.{differ}
-use Rattle.draw.proofs.Cases.{less?, if-test}
+use Rattle.draw.proofs.Cases.{less?}
+use Rattle.draw.proofs.Decided.{decided-odd, decided-even, not-f1, not-f2}
 use Rattle.draw.proofs.Size.{count-block, block-loss}
-use Rattle.draw.proofs.Parity.{two, three, four, same, implies, apply, bit, mod-bit, odd-sum, odd-product, odd-rest, odd-dist, colour}
+use Rattle.draw.proofs.Parity.{two, three, four, same, bit, mod-bit, odd-sum, odd-product, odd-rest, odd-dist, colour}
 
 -- ---- a block
 
@@ -41,8 +41,8 @@ dist-pos : (a b c d : ℕ) → (a ≡ b → c ≡ d → ⊥) → 0 < dist a b + 
 unfolding dist
 dist-pos a b c d h = ⊎-elim (λ z. z) (λ z. absurd (h (omega arith) (omega arith))) (less? 0 (dist a b + dist c d))
 
-area-pos : (w h : ℕ) → 2 ≤ w → 2 ≤ h → 1 ≤ w * h
-area-pos w h p q = let z : 2 * 2 ≤ w * h = mul-le-mul p q in omega arith
+area-some : (w h : ℕ) → 2 ≤ w → 2 ≤ h → 4 ≤ w * h
+area-some w h p q = mul-le-mul p q
 
 -- a corner track in a block, its target not its corner
 pub block-size : (a b t : Cell) (w h : ℕ) → dist (a .x) (b .x) + 1 ≡ w → dist (a .y) (b .y) + 1 ≡ h → 2 ≤ w → 2 ≤ h → (a .x ≡ t .x → a .y ≡ t .y → ⊥) → trackCount a b t + bit (loss (odd w) (odd h) (differ (black a) (black t))) ≡ w * h
@@ -52,7 +52,7 @@ block-size a b t w h e f p q r =
     let dy = dist (a .y) (t .y) in
     let count = (λ i. cornerCount (e i) (f i) dx dy) ∙ count-block w h dx dy p q (dist-pos (a .x) (t .x) (a .y) (t .y) r) in
     let lost = mod-bit (w * h + (dx + dy) + 1) ∙ ap bit (loss-odd w h (dx + dy) ∙ ap (λ (z : Bool). loss (odd w) (odd h) z) (distance-odd a t)) in
-    (λ i. count i + sym lost i) ∙ block-loss w h (dx + dy) (area-pos w h p q)
+    (λ i. count i + sym lost i) ∙ block-loss w h (dx + dy) (let z = area-some w h p q in omega arith)
 
 -- ---- the panel
 
@@ -103,53 +103,31 @@ black-flipped n c p = sym (black-turned (mirrorY n c)) ∙ black-mirrored n (tur
 
 -- ---- document 01's count
 
-module _ (p : Panel) (s t : Cell) (high : 4 ≤ p .height) (wide : p .height ≤ p .width) where
-  rows : (k : ℕ) (b : Bool) → k < 4 → (eqb (p .height) k && b) ≡ false
-  rows k b l = ap (λ (z : Bool). z && b) (ne-eqb (p .height) k (λ (e : p .height ≡ k). omega arith))
+-- where the colours are equal
+same-colours : (a b : ℕ) → bit (not (differ (odd a) (odd b))) ≡ (a + b + 1) % 2
+same-colours a b =
+    sym (mod-bit (a + b + 1) ∙ ap bit (odd-sum (a + b) 1 ∙ ap (λ (z : Bool). differ z true) (odd-sum a b) ∙ same _ _ (two (λ a b. Bool·beq (differ (differ a b) true) (not (differ a b))) refl (odd a) (odd b))))
 
-  no-f1 : f1 p s t ≡ false
-  unfolding f1
-  no-f1 = rows 1 _ (omega arith)
+pub fits-decided : (p : Panel) (s t : Cell) → 3 ≤ p .width → 3 ≤ p .height → f3 p s t ≡ false → Fits (p .width) (p .height) s t ((decided p s t) .count .0)
+fits-decided p s t wide high no3 = go (odd (area p)) refl
+  where
+    no1 : f1 p s t ≡ false
+    no1 = not-f1 p s t (λ e. omega arith)
 
-  no-f2 : f2 p s t ≡ false
-  unfolding f2
-  no-f2 = rows 2 _ (omega arith)
+    no2 : f2 p s t ≡ false
+    no2 = not-f2 p s t (λ e. omega arith)
 
-  no-f3 : f3 p s t ≡ false
-  unfolding f3
-  no-f3 = rows 3 _ (omega arith)
+    big : 4 ≤ area p
+    big = area-some (p .width) (p .height) (omega arith) (omega arith)
 
-  or-false : (a : Bool) → (a || false) ≡ a
-  or-false true = refl
-  or-false false = refl
+    by-area : (k : ℕ) (b : Bool) → odd (area p) ≡ b → k + defect (odd (p .width)) (odd (p .height)) (black s) (black t) ≡ k + cond b (bit (black s) + bit (black t)) (bit (not (differ (black s) (black t))))
+    by-area k b e = ap (λ (z : Bool). k + cond z (bit (black s) + bit (black t)) (bit (not (differ (black s) (black t))))) (sym (odd-product (p .width) (p .height)) ∙ e)
 
-  c2-is : c2 p s t ≡ ((odd (p .width) && odd (p .height)) && (black s && black t))
-  unfolding c2
-  c2-is = (λ i. (odd-product (p .width) (p .height) i && (black s && black t)) || no-f3 i) ∙ or-false _
-
-  c0-is : c0 p s t ≡ cond (odd (p .width) && odd (p .height)) (not (black s) && not (black t)) (differ (black s) (black t))
-  unfolding c0
-  c0-is = ap (λ (z : Bool). cond z (not (black s) && not (black t)) (differ (black s) (black t))) (odd-product (p .width) (p .height))
-
-  big : 16 ≤ area p
-  big = let z : 4 * 4 ≤ p .width * p .height = mul-le-mul (let h : 4 ≤ p .width = omega arith in h) high in z
-
-  pub fits-decided : Fits (p .width) (p .height) s t ((decided p s t) .count .0)
-  unfolding decided
-  fits-decided = if-test P (f1 p s t) _ _ (λ e. absurd (true≢false (sym e ∙ no-f1))) (λ _.
-      if-test P (f2 p s t) _ _ (λ e. absurd (true≢false (sym e ∙ no-f2))) (λ _.
-      if-test P (c2 p s t) _ _ (λ e. record { fits = let d = two-lost (sym c2-is ∙ e) in omega (arith, big) }) (λ f.
-      if-test P (c0 p s t) _ _ (λ e. record { fits = let d = none-lost (sym c0-is ∙ e) in omega arith }) (λ g.
-      record { fits = let d = one-lost (sym c2-is ∙ f) (sym c0-is ∙ g) in omega (arith, big) }))))
-    where
-      P : ClassCount → Type 0
-      P r = Fits (p .width) (p .height) s t (r .count .0)
-
-      two-lost : ((odd (p .width) && odd (p .height)) && (black s && black t)) ≡ true → defect (odd (p .width)) (odd (p .height)) (black s) (black t) ≡ 2
-      two-lost e = eqb-true _ _ (apply (four (λ m n s t. implies ((m && n) && (s && t)) (eqb (defect m n s t) 2)) refl (odd (p .width)) (odd (p .height)) (black s) (black t)) e)
-
-      none-lost : cond (odd (p .width) && odd (p .height)) (not (black s) && not (black t)) (differ (black s) (black t)) ≡ true → defect (odd (p .width)) (odd (p .height)) (black s) (black t) ≡ 0
-      none-lost e = eqb-true _ _ (apply (four (λ m n s t. implies (cond (m && n) (not s && not t) (differ s t)) (eqb (defect m n s t) 0)) refl (odd (p .width)) (odd (p .height)) (black s) (black t)) e)
-
-      one-lost : ((odd (p .width) && odd (p .height)) && (black s && black t)) ≡ false → cond (odd (p .width) && odd (p .height)) (not (black s) && not (black t)) (differ (black s) (black t)) ≡ false → defect (odd (p .width)) (odd (p .height)) (black s) (black t) ≡ 1
-      one-lost e f = eqb-true _ _ (apply (apply (four (λ m n s t. implies (not ((m && n) && (s && t))) (implies (not (cond (m && n) (not s && not t) (differ s t))) (eqb (defect m n s t) 1))) refl (odd (p .width)) (odd (p .height)) (black s) (black t)) (ap not e)) (ap not f))
+    go : (b : Bool) → odd (area p) ≡ b → Fits (p .width) (p .height) s t ((decided p s t) .count .0)
+    go true e = record {
+      fits = by-area _ true e ∙ (λ i. (decided p s t) .count .0 + (sym (mod-bit (s .x + s .y)) i + sym (mod-bit (t .x + t .y)) i))
+          ∙ decided-odd p s t no1 no2 (mod-bit (area p) ∙ ap bit e) no3 (omega (arith, big));
+    }
+    go false e = record {
+      fits = by-area _ false e ∙ ap (λ (z : ℕ). (decided p s t) .count .0 + z) (same-colours (s .x + s .y) (t .x + t .y)) ∙ decided-even p s t no1 no2 (mod-bit (area p) ∙ ap bit e) no3 (omega (arith, big));
+    }
