@@ -22,4 +22,4 @@ pub mod Branch
 pub mod Drawing
 pub mod Laid
 pub mod TrackTest
-pub mod Small
+pub mod ThreeByThree
