@@ -106,10 +106,13 @@ module _ (l k : List Leg) {old : List ℕ} (room : Room (l ++ k) old) where
       where
         front-part : take (2 * r) mid ≡ bytes (w .cells)
         front-part = ap (take (2 * r)) (w .content) ∙ take-at (bytes (w .cells)) (drop (2 * r) old) (2 * r) bytes-size
+
         tail : drop (2 * r) mid ≡ drop (2 * r) old
         tail = ap (drop (2 * r)) (w .content) ∙ drop-at (bytes (w .cells)) (drop (2 * r) old) (2 * r) bytes-size
+
         twice : 2 * r + 2 * q ≡ 2 * (r + q)
         twice = omega arith
+
         behind : drop (2 * r + 2 * q) mid ≡ drop (2 * (r + q)) old
         behind = sym (drop-drop (2 * q) (2 * r) mid) ∙ ap (drop (2 * q)) tail ∙ drop-drop (2 * q) (2 * r) old ∙ ap (λ (n : ℕ). drop n old) twice
 

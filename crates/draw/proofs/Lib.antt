@@ -23,3 +23,4 @@ pub mod Drawing
 pub mod Laid
 pub mod TrackTest
 pub mod ThreeByThree
+pub mod Answer

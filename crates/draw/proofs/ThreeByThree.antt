@@ -159,6 +159,7 @@ line-back f (suc n) =
   where
     head : n ≡ suc n - (0 + 1)
     head = omega arith
+
     tail : (j : ℕ) → n - (j + 1) ≡ suc n - (suc j + 1)
     tail j = omega arith
 
@@ -171,6 +172,7 @@ ordered k h true =
   where
     one : rowSize k - 1 ≡ rowSize k - (0 + 1)
     one = omega arith
+
     all : 0 ≡ rowSize k - (rowSize k - 1 + 1)
     all = omega (arith, row-some k h)
 
@@ -190,3 +192,21 @@ small-drawn {s} {t} {p} {n} {old} f e w =
       track = subst (λ (k : ℕ). Track three s t (line (placedCell p) k)) (sym e) (placed-track s t p f);
       written = w ∙ ap (λ (k : ℕ). bytes (line (placedCell p) n) ++ drop (2 * k) old) q;
     }
+
+-- ---- as the code has it
+
+pub found-as : {s t : Cell} {p : Placing} → p ≡ placing s t → On s → On t → s ≢ t → Found s t p
+found-as {s} {t} e os ot ne = subst (λ (p : Placing). Found s t p) (sym e) (found s t os ot ne)
+
+pub row-fits : {s t : Cell} {p : Placing} {n : ℕ} (room : ℕ) → Found s t p → n ≡ rowSize (p .row) → 2 * count three s t ≤ room → (n ≤ 9) × (2 * n ≤ room)
+row-fits {p = p} room f e h = (omega (arith, row-most (p .row) (f .row)), omega (arith, f .size))
+
+-- a panel of three columns and three rows
+pub is-three : {p : Panel} → p .width ≡ 3 → p .height ≡ 3 → p ≡ three
+is-three w h = λ i. record { width = w i; height = h i }
+
+pub asked-of-three : {p : Panel} (s t : Cell) (room : ℕ) → p ≡ three → OnPanel p s → OnPanel p t → s ≢ t → 2 * count p s t ≤ room → OnPanel three s × (OnPanel three t × ((s ≢ t) × (2 * count three s t ≤ room)))
+asked-of-three s t room e os ot ne h = (subst (λ (q : Panel). OnPanel q s) e os, (subst (λ (q : Panel). OnPanel q t) e ot, (ne, subst (λ (q : Panel). 2 * count q s t ≤ room) e h)))
+
+pub drawn-on : {p : Panel} {s t : Cell} {old new : List ℕ} → p ≡ three → Drawn (OnPanel three) s t (count three s t) old new → Drawn (OnPanel p) s t (count p s t) old new
+drawn-on {s = s} {t = t} {old = old} {new = new} e d = subst (λ (q : Panel). Drawn (OnPanel q) s t (count q s t) old new) (sym e) d

@@ -2,7 +2,8 @@
 // buffer from twice the cells so far onward.
 use crate::Leg;
 use crate::Plan;
-use corner::{corner_track, corner_track_back};
+use corner::corner_track;
+use corner::corner_track_back;
 ghost use mathlib.Core.List.{[], _∷_};
 ghost use Rattle.draw.specs.Leg.{legs};
 ghost use Rattle.draw.specs.Drawing.{Room, Written};

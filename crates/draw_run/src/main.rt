@@ -1,7 +1,8 @@
 // Draws every order on panels up to 6 by 6, off-panel terminals included, into a filled buffer, and
 // checks each answer and each byte by a plain check of its own; then the order of document 01 that
 // needs 32,768 bytes, with that many and with one fewer.
-use grid::{Cell, Panel};
+use grid::Cell;
+use grid::Panel;
 use libc::STDOUT_FILENO;
 
 // What the buffers are filled with.

@@ -1,32 +1,23 @@
 use borrow.Author.Needs.{needs}
+use Rattle.draw.proofs.ThreeByThree.{is-three, asked-of-three, drawn-on}
 use Rattle.draw.proofs.draw_longest.Statement.{statement}
 use Rattle.draw.proofs.draw_longest.Tie as tie
-use Rattle.draw.proofs.draw_longest.Reads as reads
-use Rattle.draw.proofs.draw_longest.Lts as lts
-use Rattle.draw.proofs.draw_planned.Reads as draw-planned-reads
-use Rattle.draw.proofs.small.draw_small.Reads as draw-small-reads
 
--- src/lib.rt:86:13
 draw-small-requires : tie.Need-draw-small-requires
-draw-small-requires c κs = ?
+draw-small-requires c κs = asked-of-three _ _ _ (is-three (c .before .before .before .if1 .taken) (c .before .if2 .taken)) (c .before .before .before .before .before .before .pre .1 .0) (c .before .before .before .before .before .before .pre .1 .1 .0) (c .before .before .before .before .before .before .pre .1 .1 .1 .0) (c .before .before .before .before .before .before .pre .1 .1 .1 .1)
 
--- src/lib.rt:87:13
 same-length : tie.Need-same-length
 same-length c = search needs
 
--- src/lib.rt:87:13
 returns : tie.Need-returns
-returns c = ?
+returns c = drawn-on (is-three (c .before .before .before .before .before .before .if1 .taken) (c .before .before .before .before .if2 .taken)) (c .before .before .draw-small .ensures)
 
--- src/lib.rt:90:5
 draw-planned-requires : tie.Need-draw-planned-requires
 draw-planned-requires c κs = search needs
 
--- src/lib.rt:76:1
 same-length-2 : tie.Need-same-length-2
 same-length-2 c = search needs
 
--- src/lib.rt:76:1
 returns-2 : tie.Need-returns-2
 returns-2 c = search needs
 

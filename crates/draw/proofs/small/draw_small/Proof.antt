@@ -1,35 +1,26 @@
 use borrow.Author.Needs.{needs}
+use lib.ListN.{length}
+use Rattle.draw.proofs.ThreeByThree.{found-as, row-fits, small-drawn}
 use Rattle.draw.proofs.small.draw_small.Statement.{statement}
 use Rattle.draw.proofs.small.draw_small.Tie as tie
-use Rattle.draw.proofs.small.draw_small.Reads as reads
-use Rattle.draw.proofs.small.draw_small.Lts as lts
-use Rattle.draw.proofs.small.entry.Reads as entry-reads
-use Rattle.draw.proofs.small.placing_of.Reads as placing-of-reads
-use Rattle.draw.proofs.small.write_row.Reads as write-row-reads
 
--- src/small.rt:219:9
 placing-of-requires : tie.Need-placing-of-requires
 placing-of-requires c κs = search needs
 
--- src/small.rt:221:13
 entry-requires : tie.Need-entry-requires
-entry-requires c κs = ?
+entry-requires c κs = ((found-as (c .placing-of .ensures) (c .before .before .pre .0) (c .before .before .pre .1 .0) (c .before .before .pre .1 .1 .0)) .row, search needs)
 
--- src/small.rt:221:13
 cast-n : tie.Need-cast-n
 cast-n c = search needs
 
--- src/small.rt:222:5
 write-row-requires : tie.Need-write-row-requires
-write-row-requires c κs = ?
+write-row-requires c κs = let f = (found-as (c .before .before .placing-of .ensures) (c .before .before .before .before .pre .0) (c .before .before .before .before .pre .1 .0) (c .before .before .before .before .pre .1 .1 .0)) in let r = row-fits (length (c .before .before .before .before .args .buf .now)) f (c .before .entry .ensures) (c .before .before .before .before .pre .1 .1 .1) in (f .row, (c .before .entry .ensures, (r .0, r .1)))
 
--- src/small.rt:212:1
 same-length : tie.Need-same-length
 same-length c = search needs
 
--- src/small.rt:212:1
 returns : tie.Need-returns
-returns c = ?
+returns c = small-drawn (found-as (c .before .before .before .before .before .placing-of .ensures) (c .before .before .before .before .before .before .before .pre .0) (c .before .before .before .before .before .before .before .pre .1 .0) (c .before .before .before .before .before .before .before .pre .1 .1 .0)) (c .before .before .before .before .entry .ensures) (c .before .before .write-row .ensures)
 
 pub draw-small-spec : {M : Type 1} → statement M
 draw-small-spec =
