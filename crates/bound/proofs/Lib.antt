@@ -1,0 +1,3 @@
+pub mod Tests
+pub mod Sizes
+pub mod Order

@@ -1,0 +1,31 @@
+-- A refused order is the check's refusal; a passed one is a good order, so class and count are asked of good input.
+use mathlib.Core.Path.{sym, ap, _∙_}
+use Rattle.grid.proofs.Tests.{answer-good, answer-refused}
+use Rattle.bound.specs.declared.Bounded.the-variants.{Found}
+use Rattle.bound.proofs.Order.{good-order}
+use borrow.Author.Needs.{needs}
+use Rattle.bound.proofs.bound.Statement.{statement}
+use Rattle.bound.proofs.bound.Tie as tie
+
+check-order-requires : tie.Need-check-order-requires
+check-order-requires c κs = search needs
+
+enum-known-c : tie.Need-enum-known-c
+enum-known-c c = search needs
+
+returns : tie.Need-returns
+returns c = answer-refused _ _ (sym (c .before .before .before .check-order .ensures) ∙ c .before .c .given .1)
+
+enum-told : tie.Need-enum-told
+enum-told c = search needs
+
+class-count-requires : tie.Need-class-count-requires
+class-count-requires c κs = let g = good-order _ _ _ (sym (c .before .before .check-order .ensures) ∙ c .enum-told .given .1) in (g .panel, (g .entry, g .exit))
+
+returns-2 : tie.Need-returns-2
+returns-2 c = answer-good _ _ (sym (c .before .before .before .check-order .ensures) ∙ c .before .enum-told .given .1) (ap Found (c .class-count .ensures))
+
+pub bound-spec : {M : Type 1} → statement M
+bound-spec =
+    tie.close
+    (tie.spec check-order-requires enum-known-c returns enum-told class-count-requires returns-2)

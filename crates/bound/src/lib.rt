@@ -1,0 +1,263 @@
+// Bound: the class and the count of an order. Each test of document 01's "Class and count" is a
+// function of its own, equated with the test of that name in the crate `count`.
+use count::ClassCount;
+use grid::Cell;
+use grid::Cells;
+use grid::Check;
+use grid::Panel;
+use grid::Refusal;
+ghost use mathlib.Core.Path.{_≡_};
+ghost use mathlib.Core.Bool.{not, _&&_, _||_};
+ghost use Prim.Native.Nat.{_≤_, _+_, _-_, _*_, max};
+ghost use lib.Dec.{leb, eqb};
+ghost use Rattle.grid.specs.Panel.{OnPanel, maxSide, black, turned, turnedCell};
+ghost use Rattle.grid.proofs.Facts.{Good};
+ghost use Rattle.count.specs.Count.{area, odd, endCell, f1, f2, f3, c2, c0, decided, named, classCount};
+ghost use Rattle.bound.specs.Bound.{boundOf};
+
+// What Bound answers.
+pub enum Bounded {
+    Refused(Refusal),
+    Found(ClassCount),
+}
+
+// Whether a cell is black; the sum of any two coordinates may not fit, its parity does.
+pub fn is_black(c: Cell) -> bool
+    ensures { λ r. ⌜ r ≡ black c ⌝ }
+{
+    (c.x % 2 + c.y % 2) % 2 == 1
+}
+
+pub fn turn_panel(p: Panel) -> Panel
+    ensures { λ r. ⌜ r ≡ turned p ⌝ }
+{
+    Panel {
+        width: p.height,
+        height: p.width,
+    }
+}
+
+pub fn turn_cell(c: Cell) -> Cell
+    ensures { λ r. ⌜ r ≡ turnedCell c ⌝ }
+{
+    Cell { x: c.y, y: c.x }
+}
+
+pub fn area_of(p: Panel) -> u32
+    requires { ⌜ Good p ⌝ }
+    ensures { λ r. ⌜ r ≡ area p ⌝ }
+{
+    p.width * p.height
+}
+
+fn is_odd(k: u32) -> bool
+    ensures { λ r. ⌜ r ≡ odd k ⌝ }
+{
+    k % 2 == 1
+}
+
+fn is_end(p: Panel, c: Cell) -> bool
+    ensures { λ r. ⌜ r ≡ endCell p c ⌝ }
+{
+    if c.x == 1 {
+        return true;
+    }
+    c.x == p.width
+}
+
+fn is_f1(p: Panel, s: Cell, t: Cell) -> bool
+    ensures { λ r. ⌜ r ≡ f1 p s t ⌝ }
+{
+    if p.height != 1 {
+        return false;
+    }
+    if is_end(p, s) {
+        return !is_end(p, t);
+    }
+    true
+}
+
+fn is_f2(p: Panel, s: Cell, t: Cell) -> bool
+    requires { ⌜ s .x ≤ maxSide ⌝ }
+    ensures { λ r. ⌜ r ≡ f2 p s t ⌝ }
+{
+    if p.height != 2 {
+        return false;
+    }
+    if s.x == t.x {
+        return true;
+    }
+    if s.x + 1 == t.x {
+        return s.y != t.y;
+    }
+    false
+}
+
+fn black_to_white(s: Cell, t: Cell) -> bool
+    ensures { λ r. ⌜ r ≡ (black s && not (black t)) ⌝ }
+{
+    if is_black(s) {
+        return !is_black(t);
+    }
+    false
+}
+
+// The x differ by 2 or more, or by 1 with both in row 2.
+fn f3_apart(s: Cell, t: Cell) -> bool
+    requires { ⌜ s .x ≤ maxSide ⌝ }
+    ensures { λ r. ⌜ r ≡ (leb (s .x + 2) (t .x) || (eqb (s .x + 1) (t .x) && (eqb (s .y) 2 && eqb (t .y) 2))) ⌝ }
+{
+    if s.x + 2 <= t.x {
+        return true;
+    }
+    if s.x + 1 != t.x {
+        return false;
+    }
+    if s.y != 2 {
+        return false;
+    }
+    t.y == 2
+}
+
+fn is_f3(p: Panel, s: Cell, t: Cell) -> bool
+    requires { ⌜ s .x ≤ maxSide ⌝ }
+    ensures { λ r. ⌜ r ≡ f3 p s t ⌝ }
+{
+    if p.height != 3 {
+        return false;
+    }
+    if is_odd(p.width) {
+        return false;
+    }
+    if !black_to_white(s, t) {
+        return false;
+    }
+    f3_apart(s, t)
+}
+
+// mn is odd and both terminals are black.
+fn odd_and_black(p: Panel, s: Cell, t: Cell) -> bool
+    requires { ⌜ Good p ⌝ }
+    ensures { λ r. ⌜ r ≡ (odd (area p) && (black s && black t)) ⌝ }
+{
+    if !is_odd(area_of(p)) {
+        return false;
+    }
+    if is_black(s) {
+        return is_black(t);
+    }
+    false
+}
+
+fn is_c2(p: Panel, s: Cell, t: Cell) -> bool
+    requires { ⌜ Good p ⌝ }
+    requires { ⌜ s .x ≤ maxSide ⌝ }
+    ensures { λ r. ⌜ r ≡ c2 p s t ⌝ }
+{
+    if odd_and_black(p, s, t) {
+        return true;
+    }
+    is_f3(p, s, t)
+}
+
+fn is_c0(p: Panel, s: Cell, t: Cell) -> bool
+    requires { ⌜ Good p ⌝ }
+    ensures { λ r. ⌜ r ≡ c0 p s t ⌝ }
+{
+    if is_odd(area_of(p)) {
+        if is_black(s) {
+            return false;
+        }
+        return !is_black(t);
+    }
+    if is_black(s) {
+        return !is_black(t);
+    }
+    is_black(t)
+}
+
+// The cells on one side of the terminals in two rows, or on the other, whichever is more.
+fn f2_count(p: Panel, s: Cell, t: Cell) -> u32
+    requires { ⌜ Good p ⌝ }
+    requires { ⌜ OnPanel p s ⌝ }
+    requires { ⌜ OnPanel p t ⌝ }
+    ensures { λ r. ⌜ r ≡ max (s .x + t .x) (2 * p .width - (s .x + t .x) + 2) ⌝ }
+{
+    let sum = s.x + t.x;
+    let rest = 2 * p.width - sum + 2;
+    if sum < rest { rest } else { sum }
+}
+
+fn decide(p: Panel, s: Cell, t: Cell) -> ClassCount
+    requires { ⌜ Good p ⌝ }
+    requires { ⌜ OnPanel p s ⌝ }
+    requires { ⌜ OnPanel p t ⌝ }
+    requires { ⌜ s .x ≤ t .x ⌝ }
+    ensures { λ r. ⌜ r ≡ decided p s t ⌝ }
+{
+    if is_f1(p, s, t) {
+        return ClassCount {
+            class: 1,
+            count: Cells(t.x - s.x + 1),
+        };
+    }
+    if is_f2(p, s, t) {
+        return ClassCount {
+            class: 2,
+            count: Cells(f2_count(p, s, t)),
+        };
+    }
+    if is_c2(p, s, t) {
+        return ClassCount {
+            class: 5,
+            count: Cells(area_of(p) - 2),
+        };
+    }
+    if is_c0(p, s, t) {
+        return ClassCount {
+            class: 3,
+            count: Cells(area_of(p)),
+        };
+    }
+    ClassCount {
+        class: 4,
+        count: Cells(area_of(p) - 1),
+    }
+}
+
+fn name_terminals(p: Panel, s: Cell, t: Cell) -> ClassCount
+    requires { ⌜ Good p ⌝ }
+    requires { ⌜ OnPanel p s ⌝ }
+    requires { ⌜ OnPanel p t ⌝ }
+    ensures { λ r. ⌜ r ≡ named p s t ⌝ }
+{
+    if t.x < s.x {
+        return decide(p, t, s);
+    }
+    decide(p, s, t)
+}
+
+// Class and count of two cells on a good panel.
+pub fn class_count(p: Panel, s: Cell, t: Cell) -> ClassCount
+    requires { ⌜ Good p ⌝ }
+    requires { ⌜ OnPanel p s ⌝ }
+    requires { ⌜ OnPanel p t ⌝ }
+    ensures { λ r. ⌜ r ≡ classCount p s t ⌝ }
+{
+    if p.width < p.height {
+        return name_terminals(turn_panel(p), turn_cell(s), turn_cell(t));
+    }
+    name_terminals(p, s, t)
+}
+
+// The call.
+pub fn bound(p: Panel, entry: Cell, exit: Cell) -> Bounded
+    ensures { λ r. ⌜ r ≡ boundOf p entry exit ⌝ }
+{
+    let c = grid::check_order(p, entry, exit);
+    if let Check::Refused(r) = c {
+        return Bounded::Refused(r);
+    }
+    let found = class_count(p, entry, exit);
+    Bounded::Found(found)
+}

@@ -1,0 +1,428 @@
+-- Laws of class and count: the terminals in either order, the panel turned, and 2 ≤ count ≤ mn.
+-- Each test of the definition has its law first; the laws of `decided`, `named` and `classCount` put them together.
+use Prim.Native.Nat.{ℕ, suc, zero, _+_, _-_, _*_, _%_, _≤_, _<_, max}
+use mathlib.Core.Path.{_≡_, refl, sym, ap, _∙_, subst, subst₂}
+use mathlib.Core.Logic.{_≢_, _⊎_, inl, inr, ⊎-elim}
+use mathlib.Core.Bool.{Bool, true, false, cond, not, _&&_, _||_, and-true, and-false, true≢false}
+use native.Mathlib.Omega.{arith}
+use native.Mathlib.Nat.{add-comm, suc-mul, mul-one, mul-comm, mul-le-mul, mul-le-mul-left}
+use lib.Dec.{leb, ltb, eqb}
+use borrow.Author.Tests.{ltb-true, ltb-false, lt-ltb, le-ltb, lt-leb, leb-true, leb-false, eqb-true, eqb-false, eq-eqb, ne-eqb, not-true, not-false}
+use Rattle.grid.specs.declared.Panel.{Panel}
+use Rattle.grid.specs.declared.Cell.{Cell}
+use Rattle.grid.specs.Panel.{OnPanel, black, turned, turnedCell}
+use Rattle.grid.proofs.Facts.{and-left, and-right, cell-eq}
+use Rattle.grid.proofs.Moves.{turn-on}
+use Rattle.grid.proofs.Tests.{and-no, cond-yes, cond-no}
+use Rattle.count.specs.declared.ClassCount.{ClassCount}
+use Rattle.count.specs.Count.{area, odd, endCell, f1, f2, f3, c2, c0, found, decided, named, classCount, class, count}
+
+-- ---- Boolean laws
+
+or-cases : (a b : Bool) → (a || b) ≡ true → (a ≡ true) ⊎ (b ≡ true)
+or-cases true b e = inl refl
+or-cases false true e = inr refl
+or-cases false false e = inr e
+
+and-swap : (a b : Bool) → (a && b) ≡ (b && a)
+and-swap true true = refl
+and-swap true false = refl
+and-swap false true = refl
+and-swap false false = refl
+
+-- what holds of both branches holds of the choice
+choice {ℓ} : {A : Type ℓ} (P : A → Type 0) (b : Bool) (x y : A) → (b ≡ true → P x) → (b ≡ false → P y) → P (cond b x y)
+choice P true x y f g = f refl
+choice P false x y f g = g refl
+
+-- ---- areas
+
+pub sum-le-product : (w h : ℕ) → 1 ≤ w → 1 ≤ h → w + h ≤ w * h + 1
+sum-le-product zero h p q = omega arith
+sum-le-product (suc k) h p q = omega (arith, suc-mul k h, mul-le-mul-left k q, mul-one k)
+
+-- a panel with a cell (x, y) has at least x + y - 1 cells
+pub area-of-cell : (p : Panel) (c : Cell) → OnPanel p c → c .x + c .y ≤ area p + 1
+area-of-cell p c o = omega (arith, sum-le-product (p .width) (p .height) (omega arith) (omega arith))
+
+f3-height : (p : Panel) (s t : Cell) → f3 p s t ≡ true → p .height ≡ 3
+unfolding f3
+f3-height p s t e = eqb-true _ _ (and-left (eqb (p .height) 3) _ e)
+
+c2-cases : (p : Panel) (s t : Cell) → c2 p s t ≡ true → ((odd (area p) ≡ true) × (black s ≡ true) × (black t ≡ true)) ⊎ (p .height ≡ 3)
+unfolding c2
+c2-cases p s t e = ⊎-elim (λ h. inl (three h)) (λ h. inr (f3-height p s t h)) (or-cases _ _ e)
+  where
+    three : (odd (area p) && (black s && black t)) ≡ true → (odd (area p) ≡ true) × (black s ≡ true) × (black t ≡ true)
+    three h =
+        let r = and-right (odd (area p)) (black s && black t) h in
+        (and-left (odd (area p)) (black s && black t) h, and-left (black s) (black t) r, and-right (black s) (black t) r)
+
+f2-cases : (p : Panel) (s t : Cell) → f2 p s t ≡ true → (p .height ≡ 2) × ((s .x ≡ t .x) ⊎ ((s .x + 1 ≡ t .x) × (s .y ≢ t .y)))
+unfolding f2
+f2-cases p s t e = (
+  eqb-true _ _ (and-left high (column || (next && other)) e),
+  ⊎-elim (λ h. inl (eqb-true _ _ h))
+      (λ h. inr (eqb-true _ _ (and-left next other h), eqb-false _ _ (not-true _ (and-right next other h))))
+      (or-cases column (next && other) (and-right high (column || (next && other)) e)),
+)
+  where
+    high : Bool
+    high = eqb (p .height) 2
+
+    column : Bool
+    column = eqb (s .x) (t .x)
+
+    next : Bool
+    next = eqb (s .x + 1) (t .x)
+
+    other : Bool
+    other = not (eqb (s .y) (t .y))
+
+black-sum : (c : Cell) → black c ≡ true → (c .x + c .y) % 2 ≡ 1
+black-sum c e = eqb-true _ _ e
+
+-- numbers of different parity
+parity-differ : (a b : ℕ) → (a + b) % 2 ≡ 1 → eqb (a % 2) 1 ≡ not (eqb (b % 2) 1)
+parity-differ a b h = go (eqb (b % 2) 1) refl
+  where
+    go : (r : Bool) → eqb (b % 2) 1 ≡ r → eqb (a % 2) 1 ≡ not r
+    go true e = let k = eqb-true (b % 2) 1 e in ne-eqb (a % 2) 1 (omega arith)
+    go false e = let k = eqb-false (b % 2) 1 e in eq-eqb (a % 2) 1 (omega arith)
+
+-- class 5 leaves two cells out, and there are two
+pub c2-area : (p : Panel) (s t : Cell) → OnPanel p s → c2 p s t ≡ true → 2 ≤ area p
+c2-area p s t o e =
+    ⊎-elim (λ h. omega (arith, area-of-cell p s o, black-sum s (h .1)))
+    (λ h. omega (arith, sum-le-product (p .width) (p .height) (omega arith) (omega arith), h))
+    (c2-cases p s t e)
+
+-- ---- the terminals in either order
+
+f1-swap : (p : Panel) (s t : Cell) → f1 p s t ≡ f1 p t s
+unfolding f1
+f1-swap p s t = λ i. eqb (p .height) 1 && not (and-swap (endCell p s) (endCell p t) i)
+
+-- in one column F2* depends on the height alone
+f2-column : (p : Panel) (s t : Cell) → s .x ≡ t .x → f2 p s t ≡ eqb (p .height) 2
+unfolding f2
+f2-column p s t e = always (eqb (p .height) 2) _ (eq-eqb _ _ e)
+  where
+    always : (h : Bool) {a : Bool} (b : Bool) → a ≡ true → (h && (a || b)) ≡ h
+    always h b q = rw q (and-true h)
+
+-- F3 wants the other terminal to the right
+f3-right : (p : Panel) (s t : Cell) → t .x ≤ s .x → f3 p s t ≡ false
+unfolding f3
+f3-right p s t h = none (eqb (p .height) 3) (not (odd (p .width))) (black s) (not (black t)) (eqb (s .y) 2 && eqb (t .y) 2) (lt-leb (s .x + 2) (t .x) (omega arith)) (ne-eqb (s .x + 1) (t .x) (omega arith))
+  where
+    none : (h e b w : Bool) {f n : Bool} (r : Bool) → f ≡ false → n ≡ false → (h && (e && (b && (w && (f || (n && r)))))) ≡ false
+    none h e b w r p q = simp (p, q, and-false)
+
+c0-swap : (p : Panel) (s t : Cell) → c0 p s t ≡ c0 p t s
+unfolding c0
+c0-swap p s t = swap (odd (area p)) (black s) (black t)
+  where
+    swap : (o a b : Bool) → cond o (not a && not b) (cond a (not b) b) ≡ cond o (not b && not a) (cond b (not a) a)
+    swap o true true = refl
+    swap true true false = refl
+    swap false true false = refl
+    swap true false true = refl
+    swap false false true = refl
+    swap o false false = refl
+
+c2-column : (p : Panel) (s t : Cell) → s .x ≡ t .x → c2 p s t ≡ c2 p t s
+unfolding c2
+c2-column p s t e = λ i. (odd (area p) && and-swap (black s) (black t) i) || (f3-right p s t (omega arith) ∙ sym (f3-right p t s (omega arith))) i
+
+decided-column : (p : Panel) (s t : Cell) → s .x ≡ t .x → decided p s t ≡ decided p t s
+unfolding decided
+decided-column p s t e =
+    let a : t .x - s .x ≡ s .x - t .x = omega arith in
+    let b : s .x + t .x ≡ t .x + s .x = omega arith in
+    λ i.
+    cond (f1-swap p s t i) (found 1 (a i + 1))
+    (cond ((f2-column p s t e ∙ sym (f2-column p t s (sym e))) i) (found 2 (max (b i) (2 * p .width - b i + 2)))
+    (cond (c2-column p s t e i) (found 5 (area p - 2))
+    (cond (c0-swap p s t i) (found 3 (area p))
+    (found 4 (area p - 1)))))
+
+named-swap : (p : Panel) (s t : Cell) → named p s t ≡ named p t s
+unfolding named
+named-swap p s t = swap (ltb (t .x) (s .x)) refl (ltb (s .x) (t .x)) refl
+  where
+    swap : (a : Bool) → ltb (t .x) (s .x) ≡ a → (b : Bool) → ltb (s .x) (t .x) ≡ b → cond a (decided p t s) (decided p s t) ≡ cond b (decided p s t) (decided p t s)
+    swap true d true e = let h = ltb-true (t .x) (s .x) d in let k = ltb-true (s .x) (t .x) e in absurd (omega arith)
+    swap true d false e = refl
+    swap false d true e = refl
+    swap false d false e = let h = ltb-false (t .x) (s .x) d in let k = ltb-false (s .x) (t .x) e in decided-column p s t (omega arith)
+
+-- the same class and count for the terminals in either order
+pub either-order : (p : Panel) (s t : Cell) → classCount p s t ≡ classCount p t s
+unfolding classCount
+either-order p s t = λ i. cond (ltb (p .width) (p .height)) (named-swap (turned p) (turnedCell s) (turnedCell t) i) (named-swap p s t i)
+
+-- ---- the panel turned
+
+-- a panel that is not tall is not turned, a tall one is
+pub wide-class : (p : Panel) (s t : Cell) → p .height ≤ p .width → classCount p s t ≡ named p s t
+unfolding classCount
+wide-class p s t h = sym (cond-no _ _ (le-ltb _ _ h) refl)
+
+pub tall-class : (p : Panel) (s t : Cell) → p .width < p .height → classCount p s t ≡ named (turned p) (turnedCell s) (turnedCell t)
+unfolding classCount
+tall-class p s t h = sym (cond-yes _ _ (lt-ltb _ _ h) refl)
+
+-- a panel that is no square: the same class and count
+pub turned-class : (p : Panel) (s t : Cell) → p .width ≢ p .height → classCount (turned p) (turnedCell s) (turnedCell t) ≡ classCount p s t
+turned-class p s t n = go (ltb (p .width) (p .height)) refl
+  where
+    go : (a : Bool) → ltb (p .width) (p .height) ≡ a → classCount (turned p) (turnedCell s) (turnedCell t) ≡ classCount p s t
+    go true e =
+        let h = ltb-true (p .width) (p .height) e in
+        wide-class (turned p) (turnedCell s) (turnedCell t) (omega arith) ∙ sym (tall-class p s t h)
+    go false e =
+        let h = ltb-false (p .width) (p .height) e in
+        tall-class (turned p) (turnedCell s) (turnedCell t) (omega arith) ∙ sym (wide-class p s t h)
+
+-- by the area and the two colours alone
+plain : ℕ → Bool → Bool → ℕ
+plain a b d = cond (odd a && (b && d)) (a - 2) (cond (cond (odd a) (not b && not d) (cond b (not d) d)) a (a - 1))
+
+plain-swap : (a : ℕ) (b d : Bool) → plain a b d ≡ plain a d b
+unfolding plain
+plain-swap a b d = swap (odd a) b d
+  where
+    swap : (o b d : Bool) → cond (o && (b && d)) (a - 2) (cond (cond o (not b && not d) (cond b (not d) d)) a (a - 1)) ≡ cond (o && (d && b)) (a - 2) (cond (cond o (not d && not b) (cond d (not b) b)) a (a - 1))
+    swap o true true = refl
+    swap true true false = refl
+    swap false true false = refl
+    swap true false true = refl
+    swap false false true = refl
+    swap o false false = refl
+
+-- two different cells of a panel that is not tall, the left one first
+record Ordered (p : Panel) (s t : Cell) : Type 0 where
+  wide : p .height ≤ p .width
+  on-s : OnPanel p s
+  on-t : OnPanel p t
+  differ : s ≢ t
+  left : s .x ≤ t .x
+
+-- what holds of either naming holds of the named terminals
+by-name : (P : ClassCount → Type 0) (p : Panel) (s t : Cell) → p .height ≤ p .width → OnPanel p s → OnPanel p t → s ≢ t
+    → (Ordered p s t → P (decided p s t)) → (Ordered p t s → P (decided p t s)) → P (named p s t)
+unfolding named
+by-name P p s t h a b n f g =
+    choice P (ltb (t .x) (s .x)) _ _
+    (λ e. let k = ltb-true (t .x) (s .x) e in g (record { wide = h; on-s = b; on-t = a; differ = λ r. n (sym r); left = omega arith }))
+    (λ e. f (record { wide = h; on-s = a; on-t = b; differ = n; left = ltb-false (t .x) (s .x) e }))
+
+record Square (p : Panel) (s t : Cell) : Type 0 where
+  order : Ordered p s t
+  same : p .width ≡ p .height
+
+square-high : {p : Panel} {s t : Cell} → Square p s t → 2 ≤ p .height
+square-high {p} {s} {t} q = go (leb 2 (p .height)) refl
+  where
+    go : (b : Bool) → leb 2 (p .height) ≡ b → 2 ≤ p .height
+    go true e = leb-true _ _ e
+    go false e = let h = leb-false 2 (p .height) e in absurd (q .order .differ (cell-eq (omega arith) (omega arith)))
+
+square-f1 : {p : Panel} {s t : Cell} → Square p s t → f1 p s t ≡ false
+unfolding f1
+square-f1 {p} {s} {t} q = sym (and-no _ (ne-eqb (p .height) 1 (omega (arith, square-high q))))
+
+square-f3 : {p : Panel} {s t : Cell} → Square p s t → f3 p s t ≡ false
+unfolding f3
+square-f3 {p} {s} {t} q = go (eqb (p .height) 3) refl _
+  where
+    go : (b : Bool) → eqb (p .height) 3 ≡ b → (r : Bool) → (b && (not (odd (p .width)) && r)) ≡ false
+    go true e r = let h = eqb-true (p .height) 3 e in sym (and-no r (ap not (eq-eqb (p .width % 2) 1 (omega (arith, q .same)))))
+    go false e r = refl
+
+-- where no line of two rows fits, or of one
+square-rest : {p : Panel} {s t : Cell} → Square p s t → (cond (c2 p s t) (found 5 (area p - 2)) (cond (c0 p s t) (found 3 (area p)) (found 4 (area p - 1)))) .count .0 ≡ plain (area p) (black s) (black t)
+unfolding plain c2 c0
+square-rest {p} {s} {t} q = counts (odd (area p) && (black s && black t)) (f3 p s t) (c0 p s t) (square-f3 q)
+  where
+    counts : (a : Bool) (f : Bool) (b : Bool) → f ≡ false → (cond (a || f) (found 5 (area p - 2)) (cond b (found 3 (area p)) (found 4 (area p - 1)))) .count .0 ≡ cond a (area p - 2) (cond b (area p) (area p - 1))
+    counts true f b e = refl
+    counts false f true e = rw e
+    counts false f false e = rw e
+
+-- two by two: F2* gives what the colours give
+plain-differ : (b : Bool) → plain 4 b (not b) ≡ 4
+unfolding plain
+plain-differ true = refl
+plain-differ false = refl
+
+plain-agree : (b : Bool) → plain 4 b b ≡ 3
+unfolding plain
+plain-agree true = refl
+plain-agree false = refl
+
+square-two : {p : Panel} {s t : Cell} → Square p s t → f2 p s t ≡ true → max (s .x + t .x) (2 * p .width - (s .x + t .x) + 2) ≡ plain (area p) (black s) (black t)
+square-two {p} {s} {t} q e = ⊎-elim column (λ h. diagonal (h .0) (h .1)) (f2-cases p s t e .1)
+  where
+    high : p .height ≡ 2
+    high = f2-cases p s t e .0
+
+    wide : p .width ≡ 2
+    wide = q .same ∙ high
+
+    four : area p ≡ 4
+    four = λ i. wide i * high i
+
+    column : s .x ≡ t .x → max (s .x + t .x) (2 * p .width - (s .x + t .x) + 2) ≡ plain (area p) (black s) (black t)
+    column h =
+        let n : s .y ≢ t .y = λ r. q .order .differ (cell-eq h r) in
+        let m : max (s .x + t .x) (2 * p .width - (s .x + t .x) + 2) ≡ 4 = omega (arith, wide) in
+        let d : black t ≡ not (black s) = parity-differ (t .x + t .y) (s .x + s .y) (omega (arith, wide, high)) in
+        m ∙ sym ((λ i. plain (four i) (black s) (d i)) ∙ plain-differ (black s))
+
+    diagonal : s .x + 1 ≡ t .x → s .y ≢ t .y → max (s .x + t .x) (2 * p .width - (s .x + t .x) + 2) ≡ plain (area p) (black s) (black t)
+    diagonal h n =
+        let m : max (s .x + t .x) (2 * p .width - (s .x + t .x) + 2) ≡ 3 = omega (arith, wide) in
+        let a : (t .x + t .y) % 2 ≡ (s .x + s .y) % 2 = omega (arith, wide, high) in
+        let d : black t ≡ black s = ap (λ (k : ℕ). eqb k 1) a in
+        m ∙ sym ((λ i. plain (four i) (black s) (d i)) ∙ plain-agree (black s))
+
+square-decided : {p : Panel} {s t : Cell} → Square p s t → (decided p s t) .count .0 ≡ plain (area p) (black s) (black t)
+unfolding decided
+square-decided {p} {s} {t} q =
+    rw (square-f1 q)
+    (choice (λ (r : ClassCount). r .count .0 ≡ plain (area p) (black s) (black t)) (f2 p s t) _ _ (square-two q) (λ e. square-rest q))
+
+square-count : (p : Panel) (s t : Cell) → p .width ≡ p .height → OnPanel p s → OnPanel p t → s ≢ t → count p s t ≡ plain (area p) (black s) (black t)
+square-count p s t e a b n =
+    ap (λ (r : ClassCount). r .count .0) (wide-class p s t (omega arith))
+    ∙ by-name (λ (r : ClassCount). r .count .0 ≡ plain (area p) (black s) (black t)) p s t (omega arith) a b n
+    (λ q. square-decided (record { order = q; same = e }))
+    (λ q. square-decided (record { order = q; same = e }) ∙ plain-swap (area p) (black t) (black s))
+
+-- the same count for the panel turned
+pub turned-count : (p : Panel) (s t : Cell) → OnPanel p s → OnPanel p t → s ≢ t → count (turned p) (turnedCell s) (turnedCell t) ≡ count p s t
+turned-count p s t a b n = go (eqb (p .width) (p .height)) refl
+  where
+    colour : (c : Cell) → black (turnedCell c) ≡ black c
+    colour c = ap (λ (k : ℕ). eqb (k % 2) 1) (add-comm (c .y) (c .x))
+
+    go : (r : Bool) → eqb (p .width) (p .height) ≡ r → count (turned p) (turnedCell s) (turnedCell t) ≡ count p s t
+    go true e =
+        let q = eqb-true (p .width) (p .height) e in
+        square-count (turned p) (turnedCell s) (turnedCell t) (sym q) (turn-on a) (turn-on b) (λ r. n (ap turnedCell r))
+        ∙ (λ i. plain (mul-comm (p .height) (p .width) i) (colour s i) (colour t i))
+        ∙ sym (square-count p s t q a b n)
+    go false e = ap (λ (r : ClassCount). r .count .0) (turned-class p s t (eqb-false _ _ e))
+
+-- ---- 2 ≤ count ≤ mn
+
+abbrev Within : ℕ → ClassCount → Type 0
+Within a r = (2 ≤ r .count .0) × (r .count .0 ≤ a)
+
+module _ {p : Panel} {s t : Cell} (q : Ordered p s t) where
+  -- one row: mn is m, and the terminals are in different columns
+  row-area : p .height ≡ 1 → area p ≡ p .width
+  row-area h = ap (λ (k : ℕ). p .width * k) h ∙ mul-one (p .width)
+
+  row-apart : p .height ≡ 1 → s .x < t .x
+  row-apart h = let n : s .x ≢ t .x = λ r. q .differ (cell-eq r (omega arith)) in omega arith
+
+  row-or-more : (p .height ≡ 1) ⊎ (2 ≤ p .height)
+  row-or-more = go (leb 2 (p .height)) refl
+    where
+      go : (b : Bool) → leb 2 (p .height) ≡ b → (p .height ≡ 1) ⊎ (2 ≤ p .height)
+      go true e = inr (leb-true _ _ e)
+      go false e = let h = leb-false 2 (p .height) e in inl (omega arith)
+
+  more-area : 2 ≤ p .height → 4 ≤ area p
+  more-area h = let w : 2 ≤ p .width = omega arith in mul-le-mul w h
+
+  -- where F1 does not fit, the terminals of one row are its ends
+  row-ends : f1 p s t ≡ false → p .height ≡ 1 → (s .x ≡ 1) × (t .x ≡ p .width)
+  unfolding f1
+  row-ends e h =
+      ⊎-elim
+      (λ a. ⊎-elim (λ b. absurd (bad (eqb-true _ _ a) (eqb-true _ _ b))) (λ b. (eqb-true _ _ a, eqb-true _ _ b))
+      (or-cases (eqb (t .x) 1) (eqb (t .x) (p .width)) (and-right (endCell p s) (endCell p t) ends)))
+      (λ a. absurd (last (eqb-true _ _ a)))
+      (or-cases (eqb (s .x) 1) (eqb (s .x) (p .width)) (and-left (endCell p s) (endCell p t) ends))
+    where
+      ends : (endCell p s && endCell p t) ≡ true
+      ends = not-false _ (subst (λ (b : Bool). (b && not (endCell p s && endCell p t)) ≡ false) (eq-eqb (p .height) 1 h) e)
+
+      bad : s .x ≡ 1 → t .x ≡ 1 → ⊥
+      bad a b = omega (arith, row-apart h)
+
+      last : s .x ≡ p .width → ⊥
+      last a = omega (arith, row-apart h)
+
+  within-1 : f1 p s t ≡ true → Within (area p) (found 1 (t .x - s .x + 1))
+  unfolding f1
+  within-1 e =
+      let h = eqb-true (p .height) 1 (and-left (eqb (p .height) 1) (not (endCell p s && endCell p t)) e) in
+      omega (arith, row-area h, row-apart h)
+
+  within-2 : f2 p s t ≡ true → Within (area p) (found 2 (max (s .x + t .x) (2 * p .width - (s .x + t .x) + 2)))
+  within-2 e =
+      let a : area p ≡ p .width * 2 = ap (λ (k : ℕ). p .width * k) (f2-cases p s t e .0) in
+      omega arith
+
+  within-5 : f1 p s t ≡ false → c2 p s t ≡ true → Within (area p) (found 5 (area p - 2))
+  within-5 e h = ⊎-elim row (λ k. omega (arith, more-area k)) row-or-more
+    where
+      row : p .height ≡ 1 → Within (area p) (found 5 (area p - 2))
+      row k = absurd (⊎-elim (λ c. omega (arith, row-ends e k, row-area k, eqb-true (area p % 2) 1 (c .0), black-sum s (c .1))) (λ c. omega arith) (c2-cases p s t h))
+
+  within-3 : Within (area p) (found 3 (area p))
+  within-3 = ⊎-elim (λ k. omega (arith, row-area k, row-apart k)) (λ k. omega (arith, more-area k)) row-or-more
+
+  -- the two cells of one row have different colours
+  two-cells : p .height ≡ 1 → s .x ≡ 1 → t .x ≡ p .width → p .width ≡ 2 → c0 p s t ≡ true
+  unfolding c0
+  two-cells h a b w =
+      let o : odd (area p) ≡ false = ap odd (row-area h ∙ w) in
+      let u : black s ≡ false = ne-eqb ((s .x + s .y) % 2) 1 (omega arith) in
+      let v : black t ≡ true = eq-eqb ((t .x + t .y) % 2) 1 (omega arith) in
+      λ i. cond (o i) (not (black s) && not (black t)) (cond (u i) (not (black t)) (v i))
+
+  within-4 : f1 p s t ≡ false → c0 p s t ≡ false → Within (area p) (found 4 (area p - 1))
+  within-4 e h = ⊎-elim row (λ k. omega (arith, more-area k)) row-or-more
+    where
+      three : p .height ≡ 1 → 3 ≤ p .width
+      three k = go (leb 3 (p .width)) refl
+        where
+          go : (b : Bool) → leb 3 (p .width) ≡ b → 3 ≤ p .width
+          go true r = leb-true _ _ r
+          go false r =
+              let m = leb-false 3 (p .width) r in
+              let d = row-apart k in
+              let z : _≡_ {A = Bool} true false = sym (two-cells k (row-ends e k .0) (row-ends e k .1) (omega arith)) ∙ h in
+              absurd (true≢false z)
+
+      row : p .height ≡ 1 → Within (area p) (found 4 (area p - 1))
+      row k = let w = three k in omega (arith, row-area k)
+
+  within : Within (area p) (decided p s t)
+  unfolding decided
+  within =
+      choice (Within (area p)) (f1 p s t) _ _ within-1
+      (λ e. choice (Within (area p)) (f2 p s t) _ _ within-2
+      (λ _. choice (Within (area p)) (c2 p s t) _ _ (within-5 e)
+      (λ _. choice (Within (area p)) (c0 p s t) _ _ (λ _. within-3) (within-4 e))))
+
+pub bounds : (p : Panel) (s t : Cell) → OnPanel p s → OnPanel p t → s ≢ t → (2 ≤ count p s t) × (count p s t ≤ area p)
+bounds p s t a b n = go (ltb (p .width) (p .height)) refl
+  where
+    wide : (p : Panel) (s t : Cell) → p .height ≤ p .width → OnPanel p s → OnPanel p t → s ≢ t → Within (area p) (named p s t)
+    wide p s t h a b n = by-name (Within (area p)) p s t h a b n within within
+
+    go : (r : Bool) → ltb (p .width) (p .height) ≡ r → Within (area p) (classCount p s t)
+    go true e =
+        let h = ltb-true (p .width) (p .height) e in
+        subst₂ Within (mul-comm (p .height) (p .width)) (sym (tall-class p s t h))
+        (wide (turned p) (turnedCell s) (turnedCell t) (omega arith) (turn-on a) (turn-on b) (λ r. n (ap turnedCell r)))
+    go false e =
+        let h = ltb-false (p .width) (p .height) e in
+        subst (Within (area p)) (sym (wide-class p s t h)) (wide p s t h a b n)
