@@ -13,7 +13,7 @@ ghost use lib.Dec.{leb, eqb};
 ghost use Rattle.grid.specs.Panel.{OnPanel, maxSide, black, turned, turnedCell};
 ghost use Rattle.grid.proofs.Facts.{Good};
 ghost use Rattle.count.specs.Count.{area, odd, endCell, f1, f2, f3, c2, c0, decided, named, classCount};
-ghost use Rattle.bound.specs.Bound.{boundOf};
+ghost use Rattle.bound.specs.Bound.{boundOf, numberOf, classOf, countOf};
 
 // What Bound answers.
 pub enum Bounded {
@@ -260,4 +260,34 @@ pub fn bound(p: Panel, entry: Cell, exit: Cell) -> Bounded
     }
     let found = class_count(p, entry, exit);
     Bounded::Found(found)
+}
+
+// Document 01's number of the refusal, 0 where there is none.
+pub fn number_of(b: Bounded) -> u32
+    ensures { λ r. ⌜ r ≡ numberOf b ⌝ }
+{
+    match b {
+        Bounded::Refused(r) => grid::number_of(r),
+        Bounded::Found(_) => 0,
+    }
+}
+
+// The class, 0 where refused.
+pub fn class_of(b: Bounded) -> u32
+    ensures { λ r. ⌜ r ≡ classOf b ⌝ }
+{
+    match b {
+        Bounded::Refused(_) => 0,
+        Bounded::Found(f) => f.class,
+    }
+}
+
+// The count, 0 where refused.
+pub fn count_of(b: Bounded) -> Cells
+    ensures { λ r. ⌜ r .0 ≡ countOf b ⌝ }
+{
+    match b {
+        Bounded::Refused(_) => Cells(0),
+        Bounded::Found(f) => f.count,
+    }
 }

@@ -1,2 +1,8 @@
 pub mod Laws
 pub mod Table
+pub mod Pigeon
+pub mod Ends
+pub mod Colour
+pub mod Strip
+pub mod Rows
+pub mod NoLonger

@@ -8,6 +8,7 @@ use native.Mathlib.Nat.{add-suc, suc-add, add-zero, zero-add}
 use Rattle.grid.specs.declared.Panel.{Panel}
 use Rattle.grid.specs.declared.Cell.{Cell}
 use Rattle.grid.specs.declared.Cells.{Cells}
+use Rattle.grid.specs.Panel.{OnPanel}
 use Rattle.exit.specs.declared.Search.{Search}
 use Rattle.exit.specs.Exit.{rowFrom, rowsFrom, reading, any, SearchIn}
 
@@ -78,6 +79,35 @@ module _ (f : Cell → Bool) where
       ∙ ap (λ (z : ℕ). any f (rowsFrom p z 1)) (back-at y a)
       ∙ ap (any f) (append-nil (rowFrom y 1 (p .width)))
       ∙ h
+
+-- a test that no cell passes fails at each cell of the panel
+or-none : (a b : Bool) → (a || b) ≡ false → (a ≡ false) × (b ≡ false)
+or-none true b e = (e, absurd (clash e))
+  where
+    clash : _≡_ {A = Bool} true false → ⊥
+    clash z = let y : _≡_ {A = ℕ} 0 1 = cc in omega arith
+or-none false b e = (refl, e)
+
+pub any-none : (f : Cell → Bool) (p : Panel) (c : Cell) → OnPanel p c → any f (reading p) ≡ false → f c ≡ false
+any-none f p c o e =
+    or-none (f c) (any f (rowFrom (c .y) (suc (c .x)) (p .width - c .x)))
+    (ap (λ (z : ℕ). any f (rowFrom (c .y) z (suc (p .width - c .x)))) (sym (back-at (c .x) (o .left)))
+    ∙ or-none (any f (rowFrom (c .y) 1 (c .x - 1))) (any f (rowFrom (c .y) (1 + (c .x - 1)) (suc (p .width - c .x))))
+    (sym (any-append f (rowFrom (c .y) 1 (c .x - 1)) (rowFrom (c .y) (1 + (c .x - 1)) (suc (p .width - c .x))))
+    ∙ ap (any f) (sym (row-parts (c .y) 1 (c .x - 1) (suc (p .width - c .x))))
+    ∙ ap (λ (k : ℕ). any f (rowFrom (c .y) 1 k)) (sym (split-at (c .x) (p .width) (o .left) (o .right)))
+    ∙ row) .1) .0
+  where
+    row : any f (rowFrom (c .y) 1 (p .width)) ≡ false
+    row =
+        or-none (any f (rowFrom (c .y) 1 (p .width))) (any f (rowsFrom p (suc (c .y)) (p .height - c .y)))
+        (sym (any-append f (rowFrom (c .y) 1 (p .width)) (rowsFrom p (suc (c .y)) (p .height - c .y)))
+        ∙ ap (λ (z : ℕ). any f (rowsFrom p z (suc (p .height - c .y)))) (sym (back-at (c .y) (o .top)))
+        ∙ or-none (any f (rowsFrom p 1 (c .y - 1))) (any f (rowsFrom p (1 + (c .y - 1)) (suc (p .height - c .y))))
+        (sym (any-append f (rowsFrom p 1 (c .y - 1)) (rowsFrom p (1 + (c .y - 1)) (suc (p .height - c .y))))
+        ∙ ap (any f) (sym (rows-parts p 1 (c .y - 1) (suc (p .height - c .y))))
+        ∙ ap (λ (k : ℕ). any f (rowsFrom p 1 k)) (sym (split-at (c .y) (p .height) (o .top) (o .bottom)))
+        ∙ e) .1) .0
 
 -- all m numbers passed
 pub all-passed : (x m : ℕ) → 1 ≤ x → x ≤ m + 1 → m < x → x - 1 ≡ m

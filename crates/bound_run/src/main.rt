@@ -1,0 +1,109 @@
+// Answers Bound for a list of orders: the table of document 01, then orders that are refused and
+// numbers at the ends of their range. A line gives the order (panel, entry, exit) and, behind the
+// colon, the refusal's number (0: none), the class and the count.
+use grid::Cell;
+use grid::Panel;
+use libc::STDOUT_FILENO;
+
+// The largest number of 32 bits.
+const MAX: u32 = 4294967295;
+
+fn print(k: u32) {
+    io::print_decimal(STDOUT_FILENO, k as u64);
+}
+
+fn space() {
+    io::write_all(STDOUT_FILENO, b" ");
+}
+
+fn pair(a: u32, b: u32) {
+    print(a);
+    space();
+    print(b);
+}
+
+fn answer(m: u32, n: u32, sx: u32, sy: u32, tx: u32, ty: u32) {
+    let panel = Panel {
+        width: m,
+        height: n,
+    };
+    let b = bound::bound(panel, Cell { x: sx, y: sy }, Cell { x: tx, y: ty });
+    pair(m, n);
+    space();
+    pair(sx, sy);
+    space();
+    pair(tx, ty);
+    io::write_all(STDOUT_FILENO, b": ");
+    print(bound::number_of(b));
+    space();
+    pair(bound::class_of(b), bound::count_of(b).0);
+    io::write_all(STDOUT_FILENO, b"\n");
+}
+
+// Document 01's table of orders.
+fn table() {
+    answer(5, 1, 5, 1, 1, 1);
+    answer(5, 1, 2, 1, 4, 1);
+    answer(6, 2, 2, 1, 2, 2);
+    answer(6, 2, 3, 1, 4, 2);
+    answer(6, 2, 3, 1, 4, 1);
+    answer(4, 3, 2, 1, 3, 1);
+    answer(4, 3, 2, 2, 3, 2);
+    answer(4, 3, 1, 2, 2, 2);
+    answer(3, 4, 2, 1, 2, 4);
+    answer(3, 3, 2, 2, 1, 2);
+    answer(3, 3, 1, 2, 3, 2);
+    answer(128, 128, 1, 1, 128, 128);
+}
+
+// The square of document 01, and terminals in the other order.
+fn squares() {
+    answer(2, 2, 1, 1, 2, 1);
+    answer(2, 2, 1, 1, 1, 2);
+    answer(4, 3, 2, 2, 1, 2);
+    answer(3, 4, 2, 4, 2, 1);
+}
+
+// Each refusal by itself.
+fn refused() {
+    answer(129, 1, 1, 1, 2, 1);
+    answer(1, 129, 1, 1, 1, 2);
+    answer(0, 5, 1, 1, 1, 2);
+    answer(5, 0, 1, 1, 2, 1);
+    answer(5, 5, 0, 1, 2, 1);
+    answer(5, 5, 1, 6, 2, 1);
+    answer(5, 5, 1, 1, 6, 1);
+    answer(5, 5, 1, 1, 2, 0);
+    answer(5, 5, 3, 4, 3, 4);
+    answer(1, 1, 1, 1, 2, 1);
+    answer(1, 1, 1, 1, 1, 1);
+}
+
+// The largest number in each place.
+fn largest() {
+    answer(MAX, 1, 1, 1, 2, 1);
+    answer(2, MAX, 1, 1, 2, 1);
+    answer(2, 1, MAX, 1, 2, 1);
+    answer(2, 1, 1, MAX, 2, 1);
+    answer(2, 1, 1, 1, MAX, 1);
+    answer(2, 1, 1, 1, 2, MAX);
+    answer(MAX, MAX, MAX, MAX, MAX, MAX);
+}
+
+// Several faults at once: the first in order is named.
+fn several() {
+    answer(0, 0, 0, 0, 0, 0);
+    answer(129, 5, 200, 1, 0, 1);
+    answer(5, 5, 6, 6, 6, 6);
+    answer(5, 5, 6, 1, 1, 6);
+    answer(5, 5, 1, 1, 6, 6);
+    answer(128, 128, 129, 128, 129, 128);
+}
+
+fn main() {
+    table();
+    squares();
+    refused();
+    largest();
+    several();
+}
