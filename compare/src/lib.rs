@@ -2,7 +2,7 @@
 //! linear-time paper (document 000) alone, and a safe wrapper around the archive's three calls.
 //! The tests compare one with the other; the benchmark times them side by side.
 
-//pub mod archive;
+pub mod archive;
 pub mod bound;
 pub mod judge;
 pub mod order;
