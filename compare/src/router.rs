@@ -5,7 +5,7 @@
 //! A track is held as an undirected graph: each cell knows the at most two cells it is linked with.
 //! A strip is then merged by exchanging two edges, and no list is ever moved.
 
-use crate::bound::{class_count};
+use crate::bound::class_count;
 use crate::order::{Cell, Order, Refusal};
 
 /// No link: places are numbered from 1.

@@ -117,8 +117,8 @@ fn bench_bound(name: &str, jobs: &[Job]) {
     let t = times(
         jobs.len(),
         &mut [
-            &mut || jobs.iter().for_each(|j| drop(black_box(archive::bound(black_box(&j.order))))),
-            &mut || jobs.iter().for_each(|j| drop(black_box(bound(black_box(&j.order))))),
+            &mut || jobs.iter().for_each(|j| _ = black_box(archive::bound(black_box(&j.order)))),
+            &mut || jobs.iter().for_each(|j| _ = black_box(bound(black_box(&j.order)))),
         ],
     );
     println!("| {name} | {} | {} | {} |", time(t[0]), time(t[1]), ratio(t[0], t[1]));
