@@ -1,18 +1,19 @@
 -- What the calls answer fits into its place of the packed number: a class is at most 5, and a count at most mn.
-use Prim.Native.Nat.{ℕ, _≤_, _<_, _^_}
+use Prim.Native.Nat.{ℕ, _*_, _≤_, _<_, _^_}
 use native.Mathlib.Omega.{arith}
 use native.Mathlib.Nat.{mul-le-mul}
 use mathlib.Core.Path.{_≡_, refl, subst⁻¹, _∙_}
 use mathlib.Core.Bool.{Bool, true, false, cond}
 use mathlib.Core.List.{List}
-use lib.Dec.{ltb}
+use lib.Dec.{ltb, leb}
 use lib.ListN.{length}
 use Rattle.grid.specs.declared.Panel.{Panel}
 use Rattle.grid.specs.declared.Cell.{Cell}
 use Rattle.grid.specs.declared.Check.{Check}
 use Rattle.grid.specs.declared.Check.the-variants.{Good, Refused}
 use Rattle.grid.specs.Bytes.{cellsIn}
-use Rattle.grid.specs.Check.{checkOrder, answer}
+use Rattle.grid.specs.declared.Refusal.the-variants.{ShortBuffer}
+use Rattle.grid.specs.Check.{checkOrder, expect, answer}
 use Rattle.grid.proofs.Facts as facts
 use Rattle.count.specs.declared.ClassCount.{ClassCount}
 use Rattle.count.specs.Count.{area, f1, f2, c2, c0, decided, named, classCount, class, count}
@@ -21,11 +22,14 @@ use Rattle.bound.specs.declared.Bounded.{Bounded}
 use Rattle.bound.specs.declared.Bounded.the-variants as bounded
 use Rattle.bound.specs.Bound.{boundOf, numberOf, classOf, countOf}
 use Rattle.bound.proofs.Order.{good-order}
+use Rattle.draw.specs.declared.DrawAnswer.{DrawAnswer}
+use Rattle.draw.specs.declared.DrawAnswer.the-variants as drawn
+use Rattle.draw.specs.Draw as draw
 use Rattle.judge.specs.declared.Judged.{Judged}
 use Rattle.judge.specs.declared.Judged.the-variants as judged
 use Rattle.judge.specs.Judge.{sizesCheck, cellsCheck, judgeCheck, judgeOf, judgedNumber, judgedCount}
 use Rattle.judge.proofs.Checks.{after-passed, after-rest, sized, passed}
-use Rattle.host.specs.Host.{packed, packedBound, packedJudge}
+use Rattle.host.specs.Host.{packed, packedBound, packedDraw, packedJudge}
 
 area-small : {p : Panel} → facts.Good p → area p ≤ 16384
 area-small g = mul-le-mul (g .widest) (g .highest)
@@ -71,6 +75,25 @@ module _ (p : Panel) (s t : Cell) {b : Bounded} (told : b ≡ boundOf p s t) {re
 
   pub bound-packed : {r : ℕ} → r ≡ packed refusal class count → r ≡ packedBound (boundOf p s t)
   bound-packed e = e ∙ (λ i. packed (e₁ i) (e₂ i) (e₃ i)) ∙ (λ i. packedBound (told i))
+
+-- ---- Draw
+
+abbrev small-draw : DrawAnswer → Type 0
+small-draw a = draw.countOf a < 2 ^ 24
+
+draw-small : (p : Panel) (s t : Cell) (size : ℕ) (c : Check) → draw.drawCheck p s t size ≡ c → small-draw (answer c drawn.Refused (drawn.Drawn (record { 0 = count p s t })))
+draw-small p s t size Good e =
+    let g = good-order p s t (after-passed (checkOrder p s t) (expect (leb (2 * count p s t) size) ShortBuffer Good) e) in
+    omega (arith, bounds p s t (g .entry) (g .exit) (g .differ) .1, area-small (g .panel))
+draw-small p s t size (Refused r) e = omega arith
+
+-- a is what Draw gave
+module _ (p : Panel) (s t : Cell) (size : ℕ) {a : DrawAnswer} (told : a ≡ draw.drawOf p s t size) {refusal count : ℕ} (e₁ : refusal ≡ draw.numberOf a) (e₂ : count ≡ draw.countOf a) where
+  pub draw-fits : count < 2 ^ 24
+  draw-fits = let h = subst⁻¹ small-draw told (draw-small p s t size (draw.drawCheck p s t size) refl) in omega arith
+
+  pub draw-packed : {r : ℕ} → r ≡ packed refusal 0 count → r ≡ packedDraw (draw.drawOf p s t size)
+  draw-packed e = e ∙ (λ i. packed (e₁ i) 0 (e₂ i)) ∙ (λ i. packedDraw (told i))
 
 -- ---- Judge
 

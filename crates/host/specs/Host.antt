@@ -1,11 +1,11 @@
 -- What the C host gets: a call's answer as one number, which can be taken apart again (proofs/Packing.antt).
 use Prim.Native.Nat.{ℕ, _+_, _*_, _/_, _%_, _^_}
-use mathlib.Core.List.{List}
-use lib.ListN.{length}
 use Rattle.grid.specs.declared.Panel.{Panel}
 use Rattle.grid.specs.declared.Cell.{Cell}
 use Rattle.bound.specs.declared.Bounded.{Bounded}
 use Rattle.bound.specs.Bound.{numberOf, classOf, countOf}
+use Rattle.draw.specs.declared.DrawAnswer.{DrawAnswer}
+use Rattle.draw.specs.Draw as draw
 use Rattle.judge.specs.declared.Judged.{Judged}
 use Rattle.judge.specs.Judge.{judgedNumber, judgedCount}
 
@@ -33,6 +33,9 @@ cell x y = record { x = x; y = y }
 -- the answers of the calls, packed; only Bound has a class
 abbrev pub packedBound : Bounded → ℕ
 packedBound b = packed (numberOf b) (classOf b) (countOf b)
+
+abbrev pub packedDraw : DrawAnswer → ℕ
+packedDraw a = packed (draw.numberOf a) 0 (draw.countOf a)
 
 abbrev pub packedJudge : Judged → ℕ
 packedJudge j = packed (judgedNumber j) 0 (judgedCount j)

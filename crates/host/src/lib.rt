@@ -1,6 +1,5 @@
 // The calls of the order desk's C host: each takes numbers and byte slices, and gives refusal, class
 // and count packed in one number. host/foil.h declares them.
-use bound::Bounded;
 use grid::Cell;
 use grid::Cells;
 use grid::Panel;
@@ -9,8 +8,9 @@ ghost use mathlib.Core.Path.{_≡_};
 ghost use Prim.Native.Nat.{_<_, _^_};
 ghost use lib.ListN.{length};
 ghost use Rattle.bound.specs.Bound.{boundOf};
+ghost use Rattle.draw.specs.Draw.{drawOf, Leaves};
 ghost use Rattle.judge.specs.Judge.{judgeOf, scratchAfter, judgedNumber, judgedCount};
-ghost use Rattle.host.specs.Host.{packed, panel, cell, packedBound, packedJudge};
+ghost use Rattle.host.specs.Host.{packed, panel, cell, packedBound, packedDraw, packedJudge};
 
 const REFUSAL_UNIT: u64 = 4294967296;
 
@@ -55,6 +55,30 @@ pub extern "C" fn foil_bound(m: u32, n: u32, sx: u32, sy: u32, tx: u32, ty: u32)
     let exit = Cell { x: tx, y: ty };
     let b = bound::bound(p, entry, exit);
     pack(bound::number_of(b), bound::class_of(b), bound::count_of(b))
+}
+
+// Draw: refusal · 2^32 + count.
+#[no_mangle]
+pub extern "C" fn foil_draw(
+    m: u32,
+    n: u32,
+    sx: u32,
+    sy: u32,
+    tx: u32,
+    ty: u32,
+    buffer: &mut [u8],
+) -> u64
+    ensures told { λ r. ⌜ r ≡ packedDraw (drawOf (panel m n) (cell sx sy) (cell tx ty) (length (now (buffer .entry)))) ⌝ }
+    ensures left { λ _. ⌜ Leaves (panel m n) (cell sx sy) (cell tx ty) (now (buffer .entry)) (now (buffer .exit)) (drawOf (panel m n) (cell sx sy) (cell tx ty) (length (now (buffer .entry)))) ⌝ }
+{
+    let p = Panel {
+        width: m,
+        height: n,
+    };
+    let entry = Cell { x: sx, y: sy };
+    let exit = Cell { x: tx, y: ty };
+    let a = draw::draw(p, entry, exit, buffer);
+    pack(draw::number_of(a), 0, draw::count_of(a))
 }
 
 // Judge: refusal · 2^32 + count.
