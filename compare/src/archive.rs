@@ -72,12 +72,3 @@ pub fn judge(order: &Order, list: &[u8], scratch: &mut [u8]) -> Answer {
         c::foil_judge(width, height, entry.0, entry.1, exit.0, exit.1, at, len, marks, room)
     })
 }
-
-// TEMPORARY
-#[no_mangle]
-pub unsafe extern "C" fn foil_draw(m: u32, n: u32, sx: u32, sy: u32, tx: u32, ty: u32, b: *mut u8, len: usize) -> u64 {
-    match crate::draw(&Order::new(m, n, (sx, sy), (tx, ty)), std::slice::from_raw_parts_mut(b, len)) {
-        Ok(k) => k as u64,
-        Err(r) => (r as u64) << 32,
-    }
-}
