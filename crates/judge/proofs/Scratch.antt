@@ -1,6 +1,6 @@
 -- Scratch with its first a bytes cleared: what stands at its front, and that clearing the marks of clean scratch brings it back.
 use Prim.Native.Nat.{ℕ}
-use mathlib.Core.Path.{_≡_, refl, sym, ap, _∙_}
+use mathlib.Core.Path.{_≡_, sym, ap, _∙_}
 use mathlib.Core.List.{List, _++_}
 use lib.ListN.{take, drop, replicate, length-replicate, take-append-drop}
 use lib.Seq.{take-at}

@@ -1,11 +1,11 @@
 -- Judge accepts a list exactly if it is a track between two different cells of a good panel, given scratch enough, and the count that it
 -- gives is that of the list. The tests are the parts of a track (Tracks.antt); that there are at most mn cells then follows (`at-most`).
-use Prim.Native.Nat.{ℕ, _*_, _/_, _%_, _≤_}
+use Prim.Native.Nat.{ℕ, _*_, _%_, _≤_}
 use native.Mathlib.Omega.{arith}
 use mathlib.Core.Path.{_≡_, refl, sym, ap, subst, _∙_}
 use mathlib.Core.Bool.{true}
 use mathlib.Core.Logic.{_≢_, _↔_}
-use mathlib.Core.List.{List, [], _∷_}
+use mathlib.Core.List.{List}
 use lib.ListN.{length, take}
 use lib.Seq.{length-take-le}
 use Rattle.grid.specs.declared.Panel.{Panel}
@@ -13,10 +13,10 @@ use Rattle.grid.specs.declared.Cell.{Cell}
 use Rattle.grid.specs.declared.Cells.{Cells}
 use Rattle.grid.specs.declared.Check.{Check}
 use Rattle.grid.specs.declared.Check.the-variants as check
-use Rattle.grid.specs.Panel.{goodPanel, OnPanel}
+use Rattle.grid.specs.Panel.{goodPanel}
 use Rattle.grid.specs.Track.{Walk, All, Track}
 use Rattle.grid.specs.Bytes.{cellsIn, front}
-use Rattle.grid.specs.Check.{after, answer}
+use Rattle.grid.specs.Check.{answer}
 use Rattle.grid.proofs.Tests.{after-good, answer-good}
 use Rattle.judge.specs.declared.Judged.{Judged}
 use Rattle.judge.specs.declared.Judged.the-variants.{Refused, Accepted}

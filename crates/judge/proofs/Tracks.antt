@@ -1,7 +1,7 @@
 -- The tests of a list of cells, each as the fact that it tests: every cell on the panel, no cell twice, a walk from s to t. Together they
 -- say that the list is a track. Each law goes along the list.
-use mathlib.Core.Path.{_≡_, refl, sym, ap, subst, _∙_}
-use mathlib.Core.Bool.{Bool, true, false, not, _&&_, _||_, false≢true}
+use mathlib.Core.Path.{_≡_, refl, sym, ap, subst}
+use mathlib.Core.Bool.{Bool, true, false, not, _||_, false≢true}
 use mathlib.Core.Logic.{_≢_}
 use mathlib.Core.List.{List, [], _∷_}
 use Rattle.grid.specs.declared.Panel.{Panel}

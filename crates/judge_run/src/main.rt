@@ -5,7 +5,6 @@ use grid::Cell;
 use grid::Panel;
 use judge::Judged;
 use libc::STDOUT_FILENO;
-ghost use Prim.Native.Nat.{_≤_};
 ghost use lib.ListN.{length};
 
 fn print(n: u64, end: &[u8]) {
@@ -177,8 +176,16 @@ fn snake(list: &mut [u8]) {
 }
 
 // The first bytes of the snake, its last cell changed to (x, y), on the panel of 128 by 128 from
-// (1,1) to the exit.
-fn try_snake(list: &mut [u8], bytes: usize, x: u8, y: u8, exit: Cell, scratch: &mut [u8]) {
+// (1,1) to the exit, with the first bytes of scratch.
+fn try_snake(
+    list: &mut [u8],
+    bytes: usize,
+    x: u8,
+    y: u8,
+    exit: Cell,
+    scratch: &mut [u8],
+    room: usize,
+) {
     let p = Panel {
         width: 128,
         height: 128,
@@ -187,17 +194,19 @@ fn try_snake(list: &mut [u8], bytes: usize, x: u8, y: u8, exit: Cell, scratch: &
     snake(list);
     if 2 <= bytes {
         if bytes <= list.len() {
-            list[bytes - 2] = x;
-            list[bytes - 1] = y;
-            try_order(p, entry, exit, &list[..bytes], scratch);
+            if room <= scratch.len() {
+                list[bytes - 2] = x;
+                list[bytes - 1] = y;
+                try_order(p, entry, exit, &list[..bytes], &mut scratch[..room]);
+            }
         }
     }
 }
 
-fn try_large(bytes: usize, x: u8, y: u8, exit: Cell) {
-    let mut list = [0u8; 32770];
-    let mut scratch = [0u8; 16400];
-    try_snake(&mut list, bytes, x, y, exit, &mut scratch);
+fn try_large(bytes: usize, x: u8, y: u8, exit: Cell, room: usize) {
+    let mut list = io::large_buffer();
+    let mut scratch = io::large_buffer();
+    try_snake(&mut list, bytes, x, y, exit, &mut scratch, room);
 }
 
 // All cells of the largest panel, with the right exit and another, and with scratch too short; then
@@ -205,14 +214,12 @@ fn try_large(bytes: usize, x: u8, y: u8, exit: Cell) {
 // cell again at the end.
 fn large() {
     io::write_all(STDOUT_FILENO, b"128 by 128:\n");
-    try_large(32768, 1, 128, Cell { x: 1, y: 128 });
-    try_large(32768, 1, 128, Cell { x: 2, y: 128 });
-    let mut list = [0u8; 32768];
-    let mut short = [0u8; 16383];
-    try_snake(&mut list, 32768, 1, 128, Cell { x: 1, y: 128 }, &mut short);
-    try_large(32770, 1, 127, Cell { x: 1, y: 127 });
-    try_large(32770, 1, 129, Cell { x: 1, y: 128 });
-    try_large(514, 1, 1, Cell { x: 1, y: 2 });
+    try_large(32768, 1, 128, Cell { x: 1, y: 128 }, 16400);
+    try_large(32768, 1, 128, Cell { x: 2, y: 128 }, 16400);
+    try_large(32768, 1, 128, Cell { x: 1, y: 128 }, 16383);
+    try_large(32770, 1, 127, Cell { x: 1, y: 127 }, 16400);
+    try_large(32770, 1, 129, Cell { x: 1, y: 128 }, 16400);
+    try_large(514, 1, 1, Cell { x: 1, y: 2 }, 16400);
 }
 
 fn main() {

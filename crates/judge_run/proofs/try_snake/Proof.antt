@@ -1,4 +1,4 @@
--- The two stores and the part that is lent lie within the list, whose length they keep.
+-- The two stores and the parts that are lent lie within list and scratch, whose lengths they keep.
 use native.Mathlib.Omega.{arith}
 use lib.ListN.{length-set, length-take}
 use borrow.Author.Needs.{needs}
@@ -22,6 +22,12 @@ slice-reshare-prefix-try-order c = search needs
 
 slice-aggregate-try-order : tie.Need-slice-aggregate-try-order
 slice-aggregate-try-order c = simp (length-take, length-set) (omega arith)
+
+slice-relend-prefix-try-order : tie.Need-slice-relend-prefix-try-order
+slice-relend-prefix-try-order c = search needs
+
+slice-aggregate-try-order-2 : tie.Need-slice-aggregate-try-order-2
+slice-aggregate-try-order-2 c = simp length-take (omega arith)
 
 try-order-requires : tie.Need-try-order-requires
 try-order-requires c κs = search needs
@@ -47,6 +53,12 @@ same-length-4 c = search needs
 returns-3 : tie.Need-returns-3
 returns-3 c = search needs
 
+same-length-5 : tie.Need-same-length-5
+same-length-5 c = search needs
+
+returns-4 : tie.Need-returns-4
+returns-4 c = search needs
+
 pub try-snake-spec : {M : Type 1} → statement M
 try-snake-spec =
     tie.close
@@ -57,6 +69,8 @@ try-snake-spec =
     slice-write-list-2
     slice-reshare-prefix-try-order
     slice-aggregate-try-order
+    slice-relend-prefix-try-order
+    slice-aggregate-try-order-2
     try-order-requires
     same-length
     same-length-2
@@ -64,4 +78,6 @@ try-snake-spec =
     same-length-3
     returns-2
     same-length-4
-    returns-3)
+    returns-3
+    same-length-5
+    returns-4)
