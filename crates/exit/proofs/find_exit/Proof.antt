@@ -1,0 +1,56 @@
+-- `exit::find_exit` meets its contract: the check's refusal, else the first cell that fits, else 12.
+use borrow.Author.Needs.{needs}
+use mathlib.Core.Path.{refl, sym, _∙_}
+use Rattle.grid.proofs.Tests.{expect-yes, expect-no, after-good, after-refused}
+use Rattle.bound.proofs.Order.{good-entry}
+use Rattle.exit.proofs.Reading.{told}
+use Rattle.exit.proofs.Fitting.{fit-exit}
+use Rattle.exit.proofs.find_exit.Statement.{statement}
+use Rattle.exit.proofs.find_exit.Tie as tie
+
+check-entry-requires : tie.Need-check-entry-requires
+check-entry-requires c κs = search needs
+
+enum-known-checked : tie.Need-enum-known-checked
+enum-known-checked c = search needs
+
+returns : tie.Need-returns
+returns c = sym (after-refused _ (sym (c .before .before .before .check-entry .ensures) ∙ c .before .checked .given .1))
+
+enum-told : tie.Need-enum-told
+enum-told c = search needs
+
+in-panel-requires : tie.Need-in-panel-requires
+in-panel-requires c κs = good-entry _ _ (sym (c .before .before .check-entry .ensures) ∙ c .enum-told .given .1)
+
+enum-known-found : tie.Need-enum-known-found
+enum-known-found c = search needs
+
+returns-2 : tie.Need-returns-2
+returns-2 c =
+    let g = sym (c .before .before .before .before .before .before .check-entry .ensures) ∙ c .before .before .before .before .enum-told .given .1 in
+    let f = told _ _ _ _ (c .before .found .given .1) (c .before .before .before .in-panel .ensures) in
+    (sym (after-good _ g (expect-yes _ _ (f .0) refl)), fit-exit _ _ _ _ (good-entry _ _ g .1) (f .1 .1) (f .1 .0))
+
+enum-told-2 : tie.Need-enum-told-2
+enum-told-2 c = search needs
+
+returns-3 : tie.Need-returns-3
+returns-3 c =
+    sym
+    (after-good _ (sym (c .before .before .before .before .before .check-entry .ensures) ∙ c .before .before .before .enum-told .given .1)
+    (expect-no _ _ (told _ _ _ _ (c .enum-told2 .given .1) (c .before .before .in-panel .ensures))))
+
+pub find-exit-spec : {M : Type 1} → statement M
+find-exit-spec =
+    tie.close
+    (tie.spec
+    check-entry-requires
+    enum-known-checked
+    returns
+    enum-told
+    in-panel-requires
+    enum-known-found
+    returns-2
+    enum-told-2
+    returns-3)

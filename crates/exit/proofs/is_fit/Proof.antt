@@ -1,0 +1,26 @@
+-- `exit::is_fit` meets its contract: the two tests are those of the definition.
+use borrow.Author.Needs.{needs}
+use mathlib.Core.Path.{refl, sym, ap, _∙_}
+use mathlib.Core.Bool.{not}
+use lib.Dec.{leb}
+use Rattle.count.specs.declared.ClassCount.{ClassCount}
+use Rattle.grid.proofs.Tests.{and-yes, and-no}
+use Rattle.exit.proofs.is_fit.Statement.{statement}
+use Rattle.exit.proofs.is_fit.Tie as tie
+
+same-cell-requires : tie.Need-same-cell-requires
+same-cell-requires c κs = search needs
+
+returns : tie.Need-returns
+returns c = and-no _ (ap not (sym (c .before .same-cell .ensures) ∙ c .if1 .taken))
+
+class-count-requires : tie.Need-class-count-requires
+class-count-requires c κs = search needs
+
+returns-2 : tie.Need-returns-2
+returns-2 c =
+    and-yes _ (ap not (sym (c .before .before .before .before .same-cell .ensures) ∙ c .before .before .before .if1 .left))
+    (ap (λ (k : ClassCount). leb (c .before .before .before .before .before .args .wanted .0) (k .count .0)) (c .before .before .class-count .ensures))
+
+pub is-fit-spec : {M : Type 1} → statement M
+is-fit-spec = tie.close (tie.spec same-cell-requires returns class-count-requires returns-2)

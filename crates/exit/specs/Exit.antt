@@ -1,0 +1,85 @@
+-- Document 01, "Operations": Exit gives a cell other than the entry to which some track has at least the wanted number of cells.
+use Prim.Native.Nat.{ℕ, zero, suc, _+_, _≤_}
+use mathlib.Core.Path.{_≡_}
+use mathlib.Core.Logic.{_≢_}
+use mathlib.Core.Bool.{Bool, true, false, not, _&&_, _||_}
+use mathlib.Core.List.{List, [], _∷_, _++_}
+use lib.Dec.{leb}
+use lib.ListN.{length}
+use Rattle.grid.specs.declared.Panel.{Panel}
+use Rattle.grid.specs.declared.Cell.{Cell}
+use Rattle.grid.specs.declared.Cells.{Cells}
+use Rattle.grid.specs.declared.Refusal.{Refusal}
+use Rattle.grid.specs.declared.Refusal.the-variants.{NoExit}
+use Rattle.grid.specs.declared.Check.{Check}
+use Rattle.grid.specs.declared.Check.the-variants.{Good, Refused}
+use Rattle.grid.specs.Panel.{OnPanel, sameCell}
+use Rattle.grid.specs.Track.{Track}
+use Rattle.grid.specs.Refusal.{number}
+use Rattle.grid.specs.Check.{expect, after, checkEntry}
+use Rattle.count.specs.Count.{count}
+use Rattle.exit.specs.declared.ExitAnswer.{ExitAnswer}
+use Rattle.exit.specs.declared.ExitAnswer.the-variants as E
+use Rattle.exit.specs.declared.Search.{Search}
+use Rattle.exit.specs.declared.Search.the-variants.{At, Nothing}
+
+-- the k cells of row y from column x on
+abbrev pub rowFrom : ℕ → ℕ → ℕ → List Cell
+rowFrom y x zero = []
+rowFrom y x (suc k) = record { x = x; y = y } ∷ rowFrom y (suc x) k
+
+-- the cells of k rows of the panel from row y on
+abbrev pub rowsFrom : Panel → ℕ → ℕ → List Cell
+rowsFrom p y zero = []
+rowsFrom p y (suc k) = rowFrom y 1 (p .width) ++ rowsFrom p (suc y) k
+
+-- the cells of the panel, rows from the top, each from the left
+abbrev pub reading : Panel → List Cell
+reading p = rowsFrom p 1 (p .height)
+
+-- some cell of the list passes the test
+abbrev pub any : (Cell → Bool) → List Cell → Bool
+any f [] = false
+any f (c ∷ l) = f c || any f l
+
+-- not the entry, and the count of a track to it is at least the wanted one
+abbrev pub fits : Panel → Cell → Cells → Cell → Bool
+fits p s w c = not (sameCell s c) && leb (w .0) (count p s c)
+
+-- 1; 2; then 12, no such cell exists
+abbrev pub exitCheck : Panel → Cell → Cells → Check
+exitCheck p s w = after (checkEntry p s) (expect (any (fits p s w) (reading p)) NoExit Good)
+
+-- a cell of the panel that is not the entry, and to which some track has at least that many cells
+pub record Exit (p : Panel) (s : Cell) (w : Cells) (c : Cell) : Type 0 where
+  pub on : OnPanel p c
+  pub other : c ≢ s
+  pub cells : List Cell
+  pub track : Track p s c cells
+  pub enough : w .0 ≤ length cells
+
+-- the answer: the refusal of the check, or where all is good such a cell
+abbrev pub ExitIs : Panel → Cell → Cells → ExitAnswer → Type 0
+ExitIs p s w (E.Refused r) = exitCheck p s w ≡ Refused r
+ExitIs p s w (E.Found c) = (exitCheck p s w ≡ Good) × Exit p s w c
+
+-- the refusal's number, 0 where nothing is refused; the cell, (0, 0) where refused
+abbrev pub numberOf : ExitAnswer → ℕ
+numberOf (E.Refused r) = number r
+numberOf (E.Found c) = 0
+
+abbrev pub cellOf : ExitAnswer → Cell
+cellOf (E.Refused r) = record { x = 0; y = 0 }
+cellOf (E.Found c) = c
+
+-- ---- what the search says of a row, and of the panel
+
+abbrev pub SearchIn : Panel → Cell → Cells → List Cell → Search → Type 0
+SearchIn p s w l (At c) = (any (fits p s w) l ≡ true) × ((fits p s w c ≡ true) × OnPanel p c)
+SearchIn p s w l Nothing = any (fits p s w) l ≡ false
+
+abbrev pub RowIs : Panel → Cell → Cells → ℕ → Search → Type 0
+RowIs p s w y r = SearchIn p s w (rowFrom y 1 (p .width)) r
+
+abbrev pub SearchIs : Panel → Cell → Cells → Search → Type 0
+SearchIs p s w r = SearchIn p s w (reading p) r

@@ -1,0 +1,88 @@
+// Exit: a cell to which some track from the entry has at least a wanted number of cells.
+use grid::Cell;
+use grid::Cells;
+use grid::Check;
+use grid::Panel;
+use grid::Refusal;
+ghost use mathlib.Core.Path.{_≡_};
+ghost use Prim.Native.Nat.{_≤_};
+ghost use Rattle.grid.specs.Panel.{OnPanel};
+ghost use Rattle.grid.proofs.Facts.{Good};
+ghost use Rattle.exit.specs.Exit.{fits, ExitIs, RowIs, SearchIs};
+
+// What Exit answers.
+pub enum ExitAnswer {
+    Refused(Refusal),
+    Found(Cell),
+}
+
+// What a search finds.
+pub enum Search {
+    At(Cell),
+    Nothing,
+}
+
+// Whether the cell is not the entry and a track to it has at least the wanted number of cells.
+fn is_fit(p: Panel, entry: Cell, wanted: Cells, c: Cell) -> bool
+    requires { ⌜ Good p ⌝ }
+    requires { ⌜ OnPanel p entry ⌝ }
+    requires { ⌜ OnPanel p c ⌝ }
+    ensures { λ r. ⌜ r ≡ fits p entry wanted c ⌝ }
+{
+    if grid::same_cell(entry, c) {
+        return false;
+    }
+    let found = bound::class_count(p, entry, c);
+    wanted.0 <= found.count.0
+}
+
+// The first fit in row y.
+fn in_row(p: Panel, entry: Cell, wanted: Cells, y: u32) -> Search
+    requires { ⌜ Good p ⌝ }
+    requires { ⌜ OnPanel p entry ⌝ }
+    requires { ⌜ (1 ≤ y) × (y ≤ p .height) ⌝ }
+    ensures { λ r. ⌜ RowIs p entry wanted y r ⌝ }
+{
+    let width = p.width;
+    let mut x: u32 = 1;
+    while x <= width {
+        let c = Cell { x, y };
+        if is_fit(p, entry, wanted, c) {
+            return Search::At(c);
+        }
+        x += 1;
+    }
+    Search::Nothing
+}
+
+// The first fit, rows from the top, each from the left.
+fn in_panel(p: Panel, entry: Cell, wanted: Cells) -> Search
+    requires { ⌜ Good p ⌝ }
+    requires { ⌜ OnPanel p entry ⌝ }
+    ensures { λ r. ⌜ SearchIs p entry wanted r ⌝ }
+{
+    let height = p.height;
+    let mut y: u32 = 1;
+    while y <= height {
+        let row = in_row(p, entry, wanted, y);
+        if let Search::At(c) = row {
+            return Search::At(c);
+        }
+        y += 1;
+    }
+    Search::Nothing
+}
+
+pub fn find_exit(p: Panel, entry: Cell, wanted: Cells) -> ExitAnswer
+    ensures { λ r. ⌜ ExitIs p entry wanted r ⌝ }
+{
+    let checked = grid::check_entry(p, entry);
+    if let Check::Refused(r) = checked {
+        return ExitAnswer::Refused(r);
+    }
+    let found = in_panel(p, entry, wanted);
+    if let Search::At(c) = found {
+        return ExitAnswer::Found(c);
+    }
+    ExitAnswer::Refused(Refusal::NoExit)
+}

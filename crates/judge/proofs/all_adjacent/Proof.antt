@@ -1,0 +1,93 @@
+-- The tests of the steps from the cell at byte i on amount to those of the whole list.
+use Prim.Native.Nat.{_-_, _≤_}
+use native.Mathlib.Omega.{arith}
+use borrow.Author.Needs.{needs}
+use borrow.Author.Tests.{not-true, not-false}
+use mathlib.Core.Path.{_≡_, refl, sym, _∙_}
+use lib.ListN.{length, drop}
+use Rattle.grid.specs.Bytes.{cellsIn}
+use Rattle.judge.specs.List.{allSteps}
+use Rattle.judge.proofs.Passes.{turn-failed, turn-passed, step-turn, step-end}
+use Rattle.judge.proofs.all_adjacent.Statement.{statement}
+use Rattle.judge.proofs.all_adjacent.Tie as tie
+
+abbrev Inv-loop : tie.InvT-loop
+Inv-loop list i₀ i = (i ≤ length list) × (allSteps (cellsIn (drop i list)) ≡ allSteps (cellsIn list))
+
+abbrev μ-loop : tie.MeasureT-loop
+μ-loop list i₀ i = length list - i
+
+loop-holds : tie.Need-loop-holds Inv-loop μ-loop
+loop-holds c = (omega arith, refl)
+
+add-loop : tie.Need-add-loop Inv-loop μ-loop
+add-loop c = omega arith
+
+shared-slice-read-adjacent : tie.Need-shared-slice-read-adjacent Inv-loop μ-loop
+shared-slice-read-adjacent c = omega arith
+
+add-adjacent : tie.Need-add-adjacent Inv-loop μ-loop
+add-adjacent c = omega arith
+
+shared-slice-read-adjacent-2 : tie.Need-shared-slice-read-adjacent-2 Inv-loop μ-loop
+shared-slice-read-adjacent-2 c = omega arith
+
+add-adjacent-2 : tie.Need-add-adjacent-2 Inv-loop μ-loop
+add-adjacent-2 c = omega arith
+
+shared-slice-read-adjacent-3 : tie.Need-shared-slice-read-adjacent-3 Inv-loop μ-loop
+shared-slice-read-adjacent-3 c = omega arith
+
+add-adjacent-3 : tie.Need-add-adjacent-3 Inv-loop μ-loop
+add-adjacent-3 c = omega arith
+
+shared-slice-read-adjacent-4 : tie.Need-shared-slice-read-adjacent-4 Inv-loop μ-loop
+shared-slice-read-adjacent-4 c = omega arith
+
+adjacent-requires : tie.Need-adjacent-requires Inv-loop μ-loop
+adjacent-requires c κs = search needs
+
+returns : tie.Need-returns Inv-loop μ-loop
+returns c =
+    let l = c .before .before .before .before .before .before .before in
+    turn-failed _ _ (step-turn _ (l .loop .i) (c .before .before .before .before .before .before .loop-test .taken)) (l .loop .inv .1)
+    (sym (c .before .adjacent .ensures) ∙ not-true _ (c .if1 .taken))
+
+add-i : tie.Need-add-i Inv-loop μ-loop
+add-i c = omega arith
+
+loop-less : tie.Need-loop-less Inv-loop μ-loop
+loop-less c = omega arith
+
+loop-again : tie.Need-loop-again Inv-loop μ-loop
+loop-again c =
+    let l = c .before .before .before .before .before .before .before in (
+      omega arith,
+      turn-passed _ _ (step-turn _ (l .loop .i) (c .before .before .before .before .before .before .loop-test .taken)) (l .loop .inv .1)
+          (sym (c .before .adjacent .ensures) ∙ not-false _ (c .if1 .left)),
+    )
+
+returns-2 : tie.Need-returns-2 Inv-loop μ-loop
+returns-2 c = sym (step-end _ (c .before .loop .i) (c .loop-test .left)) ∙ c .before .loop .inv .1
+
+pub all-adjacent-spec : {M : Type 1} → statement M
+all-adjacent-spec =
+    tie.close
+    (tie.spec
+    Inv-loop
+    μ-loop
+    loop-holds
+    add-loop
+    shared-slice-read-adjacent
+    add-adjacent
+    shared-slice-read-adjacent-2
+    add-adjacent-2
+    shared-slice-read-adjacent-3
+    add-adjacent-3
+    shared-slice-read-adjacent-4
+    adjacent-requires
+    returns
+    add-i
+    loop-less
+    loop-again
+    returns-2)

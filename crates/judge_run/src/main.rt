@@ -1,0 +1,233 @@
+// Runs Judge on lists with each fault, with several at once in both orders, and on the largest
+// panel. Each line gives the refusal (0 where accepted), the count, and how many bytes of scratch,
+// filled with 255 before, are 0 and 255 after.
+use grid::Cell;
+use grid::Panel;
+use judge::Judged;
+use libc::STDOUT_FILENO;
+ghost use lib.ListN.{length};
+
+fn print(n: u64, end: &[u8]) {
+    io::print_decimal(STDOUT_FILENO, n);
+    io::write_all(STDOUT_FILENO, end);
+}
+
+fn report(j: Judged) {
+    match j {
+        Judged::Refused(r) => {
+            print(grid::number_of(r) as u64, b" ");
+            print(0, b" ");
+        }
+        Judged::Accepted(k) => {
+            print(0, b" ");
+            print(k.0 as u64, b" ");
+        }
+    }
+}
+
+fn fill(s: &mut [u8]) {
+    let mut i = 0;
+    while i < s.len() {
+        s[i] = 255;
+        i += 1;
+    }
+}
+
+fn count(s: &[u8], b: u8) -> usize {
+    let mut n: usize = 0;
+    let mut i = 0;
+    while i < s.len() {
+        if s[i] == b {
+            n += 1;
+        }
+        i += 1;
+    }
+    n
+}
+
+fn try_order(p: Panel, entry: Cell, exit: Cell, list: &[u8], scratch: &mut [u8]) {
+    fill(scratch);
+    let j = judge::judge(p, entry, exit, list, scratch);
+    report(j);
+    print(count(scratch, 0) as u64, b" ");
+    print(count(scratch, 255) as u64, b"\n");
+}
+
+// A list on the panel of 3 by 2, from (1,1) to (1,2), with 8 bytes of scratch.
+fn try_list(list: &[u8]) {
+    let mut scratch = [0u8; 8];
+    let p = Panel {
+        width: 3,
+        height: 2,
+    };
+    let entry = Cell { x: 1, y: 1 };
+    let exit = Cell { x: 1, y: 2 };
+    try_order(p, entry, exit, list, &mut scratch);
+}
+
+// The list of two cells (1,1) and (1,2), with some of the order's numbers and of scratch changed.
+fn try_sides(width: u32, height: u32, scratch: &mut [u8]) {
+    let p = Panel { width, height };
+    let entry = Cell { x: 1, y: 1 };
+    let exit = Cell { x: 1, y: 2 };
+    try_order(p, entry, exit, b"\x01\x01\x01\x02", scratch);
+}
+
+fn try_ends(ex: u32, ey: u32, tx: u32, ty: u32) {
+    let mut scratch = [0u8; 8];
+    let p = Panel {
+        width: 3,
+        height: 2,
+    };
+    let entry = Cell { x: ex, y: ey };
+    let exit = Cell { x: tx, y: ty };
+    try_order(p, entry, exit, b"\x01\x01\x01\x02", &mut scratch);
+}
+
+// 1 to 5, where the list is good but for what is named.
+fn orders() {
+    io::write_all(STDOUT_FILENO, b"1 to 5:\n");
+    let mut enough = [0u8; 8];
+    try_sides(3, 2, &mut enough);
+    try_sides(0, 2, &mut enough);
+    try_sides(3, 129, &mut enough);
+    try_sides(4294967295, 4294967295, &mut enough);
+    let mut short = [0u8; 5];
+    try_sides(3, 2, &mut short);
+    let mut exact = [0u8; 6];
+    try_sides(3, 2, &mut exact);
+    try_ends(4, 1, 1, 2);
+    try_ends(1, 0, 1, 3);
+    try_ends(1, 1, 4294967295, 2);
+    try_ends(1, 1, 1, 1);
+}
+
+// Accepted lists, and 6.
+fn lengths() {
+    io::write_all(STDOUT_FILENO, b"6:\n");
+    try_list(b"\x01\x01\x02\x01\x03\x01\x03\x02\x02\x02\x01\x02");
+    try_list(b"\x01\x01\x02\x01\x02\x02\x01\x02");
+    try_list(b"");
+    try_list(b"\x01");
+    try_list(b"\x01\x01\x01\x02\x01");
+}
+
+// 7: below and above each side, at the front and at the end; with 8 before and behind.
+fn off_panel() {
+    io::write_all(STDOUT_FILENO, b"7:\n");
+    try_list(b"\x00\x01\x01\x01\x01\x02");
+    try_list(b"\x01\x01\x01\x02\x01\x03");
+    try_list(b"\x01\x01\x01\x00\x01\x02");
+    try_list(b"\x01\x01\x04\x01\x01\x02");
+    try_list(b"\x01\x01\xff\xff\x01\x02");
+    try_list(b"\x01\x01\x03\x01\x04\x01\x01\x02");
+    try_list(b"\x04\x01\x03\x01\x01\x01\x01\x02");
+}
+
+// 8: a cell left out, a cell twice on end, a diagonal, row's end to row's start; with 9 before and
+// behind.
+fn not_neighbours() {
+    io::write_all(STDOUT_FILENO, b"8:\n");
+    try_list(b"\x01\x01\x03\x01\x03\x02\x02\x02\x01\x02");
+    try_list(b"\x01\x01\x01\x01\x01\x02");
+    try_list(b"\x01\x01\x02\x02\x01\x02");
+    try_list(b"\x01\x01\x02\x01\x03\x01\x01\x02");
+    try_list(b"\x01\x01\x02\x01\x01\x01\x03\x01\x02\x01\x01\x02");
+    try_list(b"\x01\x01\x03\x01\x02\x01\x03\x01\x03\x02\x02\x02\x01\x02");
+}
+
+// 9: near, far, at the ends, with more than mn cells; with 11.
+fn repeated() {
+    io::write_all(STDOUT_FILENO, b"9:\n");
+    try_list(b"\x01\x01\x02\x01\x01\x01\x01\x02");
+    try_list(b"\x01\x01\x02\x01\x03\x01\x03\x02\x02\x02\x01\x02\x01\x01");
+    try_list(b"\x01\x01\x01\x02\x02\x02\x02\x01\x01\x01\x01\x02");
+    try_list(b"\x01\x01\x01\x02\x01\x01\x01\x02\x01\x01\x01\x02\x01\x01\x01\x02");
+    try_list(b"\x03\x01\x02\x01\x03\x01");
+}
+
+// 11: the first, the last, both, and backwards.
+fn wrong_ends() {
+    io::write_all(STDOUT_FILENO, b"11:\n");
+    try_list(b"\x02\x01\x01\x01\x01\x02");
+    try_list(b"\x01\x01\x02\x01\x02\x02");
+    try_list(b"\x02\x01\x03\x01");
+    try_list(b"\x01\x02\x01\x01");
+    try_list(b"\x01\x01");
+}
+
+// The x of a place in a row of 128 cells: rightwards in the even rows from 0, else leftwards.
+fn turning_x(row: usize, place: usize) -> u8 {
+    if row % 2 == 0 {
+        (place % 128 + 1) as u8
+    } else {
+        (128 - place % 128) as u8
+    }
+}
+
+// The rows of the panel of 128 by 128, one to the right, the next to the left.
+fn snake(list: &mut [u8]) {
+    let mut i = 0;
+    while i + 1 < list.len() {
+        list[i] = turning_x(i / 256, i / 2);
+        list[i + 1] = (i / 256 % 128 + 1) as u8;
+        i += 2;
+    }
+}
+
+// The first bytes of the snake, its last cell changed to (x, y), on the panel of 128 by 128 from
+// (1,1) to the exit, with the first bytes of scratch.
+fn try_snake(
+    list: &mut [u8],
+    bytes: usize,
+    x: u8,
+    y: u8,
+    exit: Cell,
+    scratch: &mut [u8],
+    room: usize,
+) {
+    let p = Panel {
+        width: 128,
+        height: 128,
+    };
+    let entry = Cell { x: 1, y: 1 };
+    snake(list);
+    if 2 <= bytes {
+        if bytes <= list.len() {
+            if room <= scratch.len() {
+                list[bytes - 2] = x;
+                list[bytes - 1] = y;
+                try_order(p, entry, exit, &list[..bytes], &mut scratch[..room]);
+            }
+        }
+    }
+}
+
+fn try_large(bytes: usize, x: u8, y: u8, exit: Cell, room: usize) {
+    let mut list = io::large_buffer();
+    let mut scratch = io::large_buffer();
+    try_snake(&mut list, bytes, x, y, exit, &mut scratch, room);
+}
+
+// All cells of the largest panel, with the right exit and another, and with scratch too short; then
+// with a cell more, the one above the last and one off the panel; and two rows with their first
+// cell again at the end.
+fn large() {
+    io::write_all(STDOUT_FILENO, b"128 by 128:\n");
+    try_large(32768, 1, 128, Cell { x: 1, y: 128 }, 16400);
+    try_large(32768, 1, 128, Cell { x: 2, y: 128 }, 16400);
+    try_large(32768, 1, 128, Cell { x: 1, y: 128 }, 16383);
+    try_large(32770, 1, 127, Cell { x: 1, y: 127 }, 16400);
+    try_large(32770, 1, 129, Cell { x: 1, y: 128 }, 16400);
+    try_large(514, 1, 1, Cell { x: 1, y: 2 }, 16400);
+}
+
+fn main() {
+    orders();
+    lengths();
+    off_panel();
+    not_neighbours();
+    repeated();
+    wrong_ends();
+    large();
+}
