@@ -74,31 +74,33 @@ impl Job {
     }
 }
 
-/// The shortest time of each contender for one turn over all jobs, in nanoseconds for each job.
+/// The shortest time of each contender for one job, in nanoseconds. They take turns; a turn is short, so
+/// that some turns of each fall between what else the machine does.
 fn times(jobs: usize, contenders: &mut [&mut dyn FnMut()]) -> Vec<f64> {
-    const TURN: f64 = 2e6;
-    let mut best = vec![f64::MAX; contenders.len()];
-    let repeats: Vec<u32> = contenders
+    const TURN: f64 = 50e3;
+    const SPENT: f64 = 400e6;
+    let turn = |run: &mut dyn FnMut(), repeats: u32| {
+        let start = Instant::now();
+        (0..repeats).for_each(|_| run());
+        start.elapsed().as_nanos() as f64
+    };
+    let mut entries: Vec<(u32, f64, f64)> = contenders
         .iter_mut()
         .map(|run| {
-            run();
-            let start = Instant::now();
-            run();
-            let once = start.elapsed().as_nanos() as f64;
-            (TURN / once.max(1.0)).clamp(1.0, 1e6) as u32
+            let once = turn(run, 1).min(turn(run, 1)).max(1.0);
+            ((TURN / once).max(1.0) as u32, f64::MAX, 0.0)
         })
         .collect();
-    for _ in 0..40 {
-        for (k, run) in contenders.iter_mut().enumerate() {
-            let start = Instant::now();
-            for _ in 0..repeats[k] {
-                run();
+    while entries.iter().any(|&(_, _, spent)| spent < SPENT) {
+        for (run, (repeats, best, spent)) in contenders.iter_mut().zip(&mut entries) {
+            if *spent < SPENT {
+                let time = turn(run, *repeats);
+                *best = best.min(time / f64::from(*repeats));
+                *spent += time;
             }
-            let time = start.elapsed().as_nanos() as f64;
-            best[k] = best[k].min(time / f64::from(repeats[k]) / jobs as f64);
         }
     }
-    best
+    entries.iter().map(|&(_, best, _)| best / jobs as f64).collect()
 }
 
 fn time(ns: f64) -> String {
@@ -126,8 +128,9 @@ fn bench_bound(name: &str, jobs: &[Job]) {
 
 fn bench_draw(name: &str, jobs: &[Job]) -> f64 {
     let room = jobs.iter().map(|j| j.track.len()).max().unwrap();
-    let (mut a, mut b, mut c, mut d) =
-        (vec![0; room], vec![0; room], vec![0; room], vec![0; room]);
+    let buffer = || vec![0u8; room];
+    let (mut a, mut b, mut c, mut d, mut e) = (buffer(), buffer(), buffer(), buffer(), buffer());
+    let hot = buffer();
     let t = times(
         jobs.len(),
         &mut [
@@ -148,7 +151,14 @@ fn bench_draw(name: &str, jobs: &[Job]) -> f64 {
             },
             &mut || {
                 for j in jobs {
-                    black_box(&mut d[..j.track.len()]).copy_from_slice(black_box(&j.track));
+                    let size = j.track.len();
+                    black_box(&mut d[..size]).copy_from_slice(black_box(&j.track));
+                }
+            },
+            &mut || {
+                for j in jobs {
+                    let size = j.track.len();
+                    black_box(&mut e[..size]).copy_from_slice(black_box(&hot[..size]));
                 }
             },
         ],
@@ -156,14 +166,16 @@ fn bench_draw(name: &str, jobs: &[Job]) -> f64 {
     let cells = jobs.iter().map(|j| j.track.len() / 2).sum::<usize>() as f64 / jobs.len() as f64;
     let each = t[0] / cells;
     println!(
-        "| {name} | {} | {each:.3} ns | {} | {} | {} | {} | {} | {} |",
+        "| {name} | {} | {each:.2} ns | {} | {} | {} | {} | {} | {} | {} | {} |",
         time(t[0]),
         time(t[1]),
         time(t[2]),
         time(t[3]),
+        time(t[4]),
         ratio(t[0], t[1]),
         ratio(t[0], t[2]),
-        ratio(t[0], t[3])
+        ratio(t[0], t[3]),
+        ratio(t[0], t[4])
     );
     each
 }
@@ -205,13 +217,13 @@ fn mix(seed: u64, jobs: usize, sides: impl Fn(&mut Random) -> (u32, u32)) -> Vec
 }
 
 fn main() {
-    let square = |side: u32| mix(0x5EED, 256, move |_| (side, side));
-    let any = mix(0x5EED, 512, |r| (r.within(1, 128), r.within(1, 128)));
+    let square = |side: u32| mix(0x5EED, 64, move |_| (side, side));
+    let any = mix(0x5EED, 256, |r| (r.within(1, 128), r.within(1, 128)));
     let one = |entry, exit| vec![Job::new(Order::new(128, 128, entry, exit))];
     let sizes: Vec<(String, Vec<Job>)> = [8, 32, 128]
-        .map(|side| (format!("{side} by {side}, 256 random orders"), square(side)))
+        .map(|side| (format!("64 orders, {side} by {side}"), square(side)))
         .into_iter()
-        .chain([("any sides, 512 random orders".to_string(), any)])
+        .chain([("256 orders, any sides".to_string(), any)])
         .collect();
 
     println!("Bound\n\n| orders | Rattle | Rust | Rattle / Rust |\n|---|---|---|---|");
@@ -219,12 +231,12 @@ fn main() {
         bench_bound(name, jobs);
     }
     println!(
-        "\nDraw\n\n| orders | Rattle | each cell | Rust | C loops | memcpy | Rattle / Rust | \
-         Rattle / C loops | Rattle / memcpy |\n|---|---|---|---|---|---|---|---|---|"
+        "\nDraw\n\n| orders | Rattle | each cell | Rust | C loops | memcpy, own | memcpy, hot | / Rust | \
+         / C loops | / memcpy, own | / memcpy, hot |\n|---|---|---|---|---|---|---|---|---|---|---|"
     );
     let each: Vec<f64> = sizes.iter().map(|(name, jobs)| bench_draw(name, jobs)).collect();
-    bench_draw("128 by 128, (1,1) to (128,127): one corner track", &one((1, 1), (128, 127)));
-    bench_draw("128 by 128, (128,127) to (1,1): the same, backwards", &one((128, 127), (1, 1)));
+    bench_draw("128 by 128, (1,1) to (128,64)", &one((1, 1), (128, 64)));
+    bench_draw("128 by 128, (128,64) to (1,1)", &one((128, 64), (1, 1)));
     bench_draw("128 by 128, (40,50) to (90,81)", &one((40, 50), (90, 81)));
     println!("\nEach cell, 128 by 128 / 32 by 32: {:.2}", each[2] / each[1]);
     println!("\nJudge, of the tracks drawn\n\n| orders | Rattle | Rust | Rattle / Rust |\n|---|---|---|---|");
