@@ -19,14 +19,14 @@ use Rattle.corner.specs.Corner.{Inside, trackCount}
 use Rattle.corner.specs.Drawn.{Small, Ready}
 use Rattle.corner.specs.Drawn as corner
 use Rattle.corner.proofs.Drawn.{part-written, part-long}
-use Rattle.draw.specs.declared.Leg.{Leg}
-use Rattle.draw.specs.declared.Plan.{Plan}
-use Rattle.draw.specs.Leg.{legs, total}
+use Rattle.plan.specs.declared.Leg.{Leg}
+use Rattle.plan.specs.declared.Plan.{Plan}
+use Rattle.plan.specs.Leg.{legs, total}
 use Rattle.count.specs.Count.{count}
-use Rattle.draw.specs.Plan.{planOf}
-use Rattle.draw.specs.Drawing.{Each, Drawn, Drawable, Room, Written}
-use Rattle.draw.proofs.Chain.{LegFrom, Chain, Plans, chain-track}
-use Rattle.draw.proofs.Wide.{plan-good}
+use Rattle.plan.specs.Plan.{planOf}
+use Rattle.plan.specs.Drawing.{Each, Drawn, Drawable, Room, Written}
+use Rattle.plan.proofs.Chain.{LegFrom, Chain, Plans, chain-track}
+use Rattle.plan.proofs.Wide.{plan-good}
 
 -- ---- one leg
 

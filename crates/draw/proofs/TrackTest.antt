@@ -10,7 +10,7 @@ use Rattle.grid.specs.declared.Cell.{Cell}
 use Rattle.grid.specs.Panel.{OnPanel, onPanel, sameCell, neighbours}
 use Rattle.grid.specs.Track.{Walk, All, Once, Track}
 use Rattle.grid.proofs.Facts.{and-left, and-right, on, same-eq, same-ne, next}
-use Rattle.draw.proofs.Cases.{equal?}
+use Rattle.plan.proofs.Cases.{equal?}
 
 not-yes : (b : Bool) → not b ≡ true → b ≡ false
 not-yes true e = sym e

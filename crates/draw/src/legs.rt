@@ -1,12 +1,12 @@
 // Legs and plans drawn at the front of a lent buffer: each next drawing gets the part of the same
 // buffer from twice the cells so far onward.
-use crate::Leg;
-use crate::Plan;
 use corner::corner_track;
 use corner::corner_track_back;
+use plan::Leg;
+use plan::Plan;
 ghost use mathlib.Core.List.{[], _∷_};
-ghost use Rattle.draw.specs.Leg.{legs};
-ghost use Rattle.draw.specs.Drawing.{Room, Written};
+ghost use Rattle.plan.specs.Leg.{legs};
+ghost use Rattle.plan.specs.Drawing.{Room, Written};
 
 // Each gives the number of cells written.
 fn draw_leg(g: Leg, buf: &mut [u8]) -> usize

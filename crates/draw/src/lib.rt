@@ -1,5 +1,4 @@
 // Draw: a longest track between two cells, as a plan of corner tracks.
-use choice::plan_of;
 use grid::Cell;
 use grid::Cells;
 use grid::Check;
@@ -17,35 +16,8 @@ ghost use Rattle.corner.specs.Drawn.{Drawn};
 ghost use Rattle.count.specs.Count.{count};
 ghost use Rattle.draw.specs.Draw.{Draws, numberOf, countOf};
 
-mod choice;
 mod legs;
-mod motions;
-mod shapes;
 mod small;
-
-// A leg of a track: the corner track from the corner `a` of a rectangle to its cell `t`, `b` being
-// the opposite corner; walked from `t` to `a` where `back` is set.
-pub struct Leg {
-    pub a: Cell,
-    pub b: Cell,
-    pub t: Cell,
-    pub back: bool,
-}
-
-// A chain of legs in disjoint rectangles, each starting beside the end of the one before.
-pub enum Plan {
-    One(Leg),
-    Two(Leg, Leg),
-    Three(Leg, Leg, Leg),
-    Five(Leg, Leg, Leg, Leg, Leg),
-}
-
-// How a plan is moved: turned, or mirrored so that x, or y, becomes the number less it.
-pub enum Motion {
-    Turn,
-    MirrorX(u32),
-    MirrorY(u32),
-}
 
 // How a row of the 3 by 3 panel's table is laid for two terminals: turned, then mirrored in x
 // (`across`) and in y (`down`), and walked from its end where `back` is set.
@@ -72,8 +44,8 @@ fn draw_planned(p: Panel, s: Cell, t: Cell, buf: &mut [u8])
     requires { ⌜ 2 * count p s t ≤ length (now buf) ⌝ }
     ensures { λ _. ⌜ Drawn (OnPanel p) s t (count p s t) (now (buf .entry)) (now (buf .exit)) ⌝ }
 {
-    let plan = plan_of(p.width, p.height, s, t);
-    draw_plan(plan, buf);
+    let chosen = plan::choice::plan_of(p.width, p.height, s, t);
+    draw_plan(chosen, buf);
 }
 
 // Draws a longest track between two different cells of a panel, where there is room for it.

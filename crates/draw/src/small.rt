@@ -1,7 +1,7 @@
 // The 3 by 3 panel: its longest tracks stand in a table.
 use crate::Placing;
-use crate::motions::less;
 use grid::Cell;
+use plan::motions::less;
 ghost use mathlib.Core.Path.{_≡_};
 ghost use mathlib.Core.Logic.{_≢_};
 ghost use mathlib.Core.List.{_++_};

@@ -17,7 +17,7 @@ use Rattle.grid.specs.Track.{Track}
 use Rattle.grid.proofs.Facts.{and-left, and-right, same-ne, ne-same}
 use Rattle.count.specs.Count.{count}
 use Rattle.count.proofs.AtMost.{no-longer}
-use Rattle.draw.proofs.Theorem.{reached}
+use Rattle.plan.proofs.Theorem.{reached}
 use Rattle.exit.specs.Exit.{fits, any, reading, Exit}
 use Rattle.exit.proofs.Reading.{any-none}
 

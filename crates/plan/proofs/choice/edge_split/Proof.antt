@@ -1,0 +1,30 @@
+-- A plan of moved cells, moved.
+use borrow.Author.Needs.{needs}
+use Rattle.grid.specs.Panel.{turnedCell}
+use Rattle.plan.specs.Plan.{split, edgeSplit}
+use Rattle.plan.proofs.Branch.{moved-as}
+use Rattle.plan.proofs.choice.edge_split.Statement.{statement}
+use Rattle.plan.proofs.choice.edge_split.Tie as tie
+
+move-cell-requires : tie.Need-move-cell-requires
+move-cell-requires c κs = search needs
+
+move-cell-requires-2 : tie.Need-move-cell-requires-2
+move-cell-requires-2 c κs = search needs
+
+split-requires : tie.Need-split-requires
+split-requires c κs = search needs
+
+move-plan-requires : tie.Need-move-plan-requires
+move-plan-requires c κs = search needs
+
+returns : tie.Need-returns
+unfolding edgeSplit
+returns c =
+    let args = c .before .before .before .before .args in
+    moved-as (turnedCell) (λ a b. split (args .n) (args .m) a b (args .s .y) (args .m)) (c .move-plan .ensures) (c .before .split .ensures) (c .before .before .before .move-cell .ensures) (c .before .before .move-cell2 .ensures)
+
+pub edge-split-spec : {M : Type 1} → statement M
+edge-split-spec =
+    tie.close
+    (tie.spec move-cell-requires move-cell-requires-2 split-requires move-plan-requires returns)
