@@ -11,11 +11,10 @@ use lib.ListN.{length, drop, getD, set}
 use lib.Seq.{drop-set-lt}
 use borrow.Author.Tests.{eq-eqb, ne-eqb}
 use Rattle.grid.proofs.Facts.{and-left, and-right, on}
-use Rattle.judge.specs.Judge.{area}
 use Rattle.judge.proofs.Area.{place-below}
 use Rattle.grid.specs.declared.Panel.{Panel}
 use Rattle.grid.specs.declared.Cell.{Cell}
-use Rattle.grid.specs.Panel.{onPanel, neighbours}
+use Rattle.grid.specs.Panel.{area, onPanel, neighbours}
 use Rattle.grid.specs.Bytes.{cellsIn}
 use Rattle.judge.specs.List.{allOn, allSteps, place}
 use Rattle.judge.proofs.Bytes.{cellAt, cells-next, cells-end}

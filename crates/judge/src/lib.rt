@@ -10,23 +10,15 @@ ghost use mathlib.Core.Bool.{true};
 ghost use mathlib.Core.List.{_++_};
 ghost use Prim.Native.Nat.{_+_, _*_, _%_, _≤_, _<_};
 ghost use lib.ListN.{length, take, drop, replicate};
-ghost use Rattle.grid.specs.Panel.{goodPanel, onPanel, dist, neighbours, sameCell};
+ghost use Rattle.grid.specs.Panel.{goodPanel, area, onPanel, dist, neighbours, sameCell};
 ghost use Rattle.grid.specs.Bytes.{cellsIn};
 ghost use Rattle.judge.specs.List.{allOn, allSteps, noneTwice, runs, place};
-ghost use Rattle.judge.specs.Judge.{area, wholeCells, sizesCheck, cellsCheck, judgeOf, scratchAfter};
+ghost use Rattle.judge.specs.Judge.{wholeCells, sizesCheck, cellsCheck, judgeOf, scratchAfter};
 
 // What Judge answers: the refusal, or the number of cells of the track.
 pub enum Judged {
     Refused(Refusal),
     Accepted(Cells),
-}
-
-// mn, the number of cells of the panel.
-fn area_of(p: Panel) -> usize
-    requires { ⌜ goodPanel p ≡ true ⌝ }
-    ensures { λ r. ⌜ r ≡ area p ⌝ }
-{
-    (p.width as usize) * (p.height as usize)
 }
 
 // The refusals that are tested before any cell is looked at.
@@ -43,7 +35,7 @@ fn check_sizes(p: Panel, entry: Cell, exit: Cell, bytes: usize, room: usize) -> 
     if bytes % 2 != 0 {
         return Check::Refused(Refusal::ListLength);
     }
-    if room < area_of(p) {
+    if room < grid::area_of(p) {
         return Check::Refused(Refusal::ShortBuffer);
     }
     Check::Good
@@ -159,7 +151,7 @@ fn all_once(p: Panel, list: &[u8], scratch: &mut [u8]) -> bool
     ensures same { λ _. ⌜ now (scratch .exit) ≡ now (scratch .entry) ⌝ }
 {
     let once = mark_all(p, list, scratch);
-    let places = area_of(p);
+    let places = grid::area_of(p);
     clear(scratch, places);
     once
 }
@@ -198,7 +190,7 @@ fn check_cells(p: Panel, entry: Cell, exit: Cell, list: &[u8], scratch: &mut [u8
     ensures told { λ r. ⌜ r ≡ cellsCheck p entry exit (cellsIn (now (list .entry))) ⌝ }
     ensures left { λ _. ⌜ now (scratch .exit) ≡ replicate (area p) 0 ++ drop (area p) (now (scratch .entry)) ⌝ }
 {
-    let area = area_of(p);
+    let area = grid::area_of(p);
     clear(scratch, area);
     if !all_on_panel(p, list) {
         return Check::Refused(Refusal::CellOff);

@@ -21,18 +21,19 @@ use Rattle.grid.specs.declared.Refusal.the-variants.{Mark, CutShort, Side, Entr
 use Rattle.grid.specs.declared.Check.{Check}
 use Rattle.grid.specs.declared.Check.the-variants.{Good}
 use Rattle.grid.specs.Refusal.{number}
-use Rattle.grid.specs.Panel.{onPanel, goodPanel}
+use Rattle.grid.specs.Panel.{area, onPanel, goodPanel}
 use Rattle.grid.specs.Bytes.{bytes, cellsIn}
 use Rattle.grid.specs.Check.{checkPanel, checkEntry, expect, after, answer}
 use Rattle.record.specs.declared.Written.{Written}
 use Rattle.record.specs.declared.ReadBack.{ReadBack}
 use Rattle.record.specs.Format.{headLength, markHigh, markLow, headOf, recordOf, lettersFrom, lettersOf, allKnown, walkOn, walkFrom}
-use Rattle.record.specs.Write.{area, wholeCells, allOn, allNext, goodCount, checkList, checkWrite, recordLength, writeAnswer, writeBuffer, bytesWritten, recordMade}
+use Rattle.record.specs.Write.{wholeCells, allOn, allNext, goodCount, checkList, checkWrite, recordLength, writeAnswer, writeBuffer, bytesWritten, recordMade}
 use Rattle.record.specs.Read.{hasMark, panelIn, entryIn, stepsIn, lettersIn, cellsRead, goodSteps, checkHead, checkKnown, checkRecord, checkRead, readAnswer, readBuffer, panelGiven, cellsGiven, lengthGiven, listRead, lettersAnswer}
 use Rattle.grid.proofs.Bytes.{length-bytes, cells-bytes}
 use Rattle.record.proofs.Laws.{both}
 use Rattle.record.proofs.Lists.{length-letters-from, length-walk}
-use Rattle.record.proofs.Checks.{both-good, expect-good, GoodRecord, GoodList, record-good, list-good}
+use Rattle.grid.proofs.Passed.{expect-passed, after-passed, after-rest}
+use Rattle.record.proofs.Checks.{GoodRecord, GoodList, record-good, list-good}
 use Rattle.record.proofs.Directions.{known-letters, walk-letters, letters-walk}
 
 -- Bytes and cells
@@ -114,7 +115,7 @@ length-record p (s ∷ l) h = omega (arith, length-letters-from s l)
 written : (p : Panel) (list out : List ℕ) → checkWrite p list out ≡ Good
     → (writeAnswer p list out ≡ Written.Bytes (recordLength (cellsIn list))) × (recordMade p list out ≡ recordOf p (cellsIn list))
 written p list out e =
-    let g = list-good p list (both-good (checkList p list) _ e .0) in
+    let g = list-good p list (after-passed (checkList p list) _ e) in
     let some : 1 ≤ length (cellsIn list) = omega (arith, g .some) in
     let a : writeAnswer p list out ≡ Written.Bytes (recordLength (cellsIn list)) = sym (answer-good _ _ e refl) in
     let b : writeBuffer p list out ≡ recordOf p (cellsIn list) ++ drop (recordLength (cellsIn list)) out = sym (answer-good _ _ e refl) in (
@@ -129,9 +130,9 @@ pub reads-back : (p : Panel) (list out rest buffer : List ℕ) → checkWrite p 
     × (readBuffer (recordMade p list out ++ rest) buffer ≡ list ++ drop (length list) buffer)
 unfolding wholeCells
 reads-back p list out rest buffer e room =
-    let c = both-good (checkList p list) _ e .0 in
+    let c = after-passed (checkList p list) _ e in
     let g = list-good p list c in
-    let whole = expect-good (wholeCells list) _ _ (both-good (checkPanel p) _ c .1) .0 in
+    let whole = expect-passed (wholeCells list) _ _ (after-rest (checkPanel p) _ c) in
     let even = eqb-true (length list % 2) 0 (both (leb 1 (length list)) (eqb (length list % 2) 0) whole .1) in
     let back = bytes-cells list even in
     let n : 2 * length (cellsIn list) ≡ length list = sym (length-bytes (cellsIn list)) ∙ ap length back in
@@ -209,7 +210,7 @@ pub writes-back : (f buffer out : List ℕ) → ((i : ℕ) → getD f i 0 < 256)
     → (writeAnswer (panelGiven (readAnswer f buffer)) (listRead f buffer) out ≡ Written.Bytes (lengthGiven (readAnswer f buffer)))
     × (recordMade (panelGiven (readAnswer f buffer)) (listRead f buffer) out ≡ take (lengthGiven (readAnswer f buffer)) f)
 writes-back f buffer out byte e room =
-    let g = record-good f (both-good (checkRecord f) _ e .0) in
+    let g = record-good f (after-passed (checkRecord f) _ e) in
     let p = panelIn f in
     let l = cellsRead f in
     let k = headLength + stepsIn f in

@@ -1,5 +1,5 @@
 -- Document 01, "Write": its refusals in order, its answer and the final content of the lent buffer.
-use Prim.Native.Nat.{ℕ, _+_, _*_, _%_}
+use Prim.Native.Nat.{ℕ, _+_, _%_}
 use mathlib.Core.Bool.{Bool, true, _&&_}
 use mathlib.Core.List.{List, [], _∷_, _++_}
 use lib.ListN.{length, take, drop}
@@ -9,17 +9,13 @@ use Rattle.grid.specs.declared.Cell.{Cell}
 use Rattle.grid.specs.declared.Check.{Check}
 use Rattle.grid.specs.declared.Check.the-variants.{Good}
 use Rattle.grid.specs.declared.Refusal.the-variants.{ListLength, CellOff, NotNeighbours, StepCount, ShortBuffer}
-use Rattle.grid.specs.Panel.{onPanel, neighbours}
+use Rattle.grid.specs.Panel.{area, onPanel, neighbours}
 use Rattle.grid.specs.Refusal.{number}
 use Rattle.grid.specs.Bytes.{cellsIn}
 use Rattle.grid.specs.Check.{checkPanel, expect, after, answer}
 use Rattle.record.specs.declared.Written.{Written}
 use Rattle.record.specs.declared.Written.the-variants.{Refused, Bytes}
 use Rattle.record.specs.Format.{headLength, recordOf, stepsOf}
-
--- mn
-unfoldable pub area : Panel → ℕ
-area p = p .width * p .height
 
 -- a list that is not empty and has an even number of bytes
 unfoldable pub wholeCells : List ℕ → Bool
@@ -42,7 +38,6 @@ allNext (a ∷ l) = nextFrom a l
 
 -- 2 cells or more, and at most mn
 unfoldable pub goodCount : Panel → ℕ → Bool
-unfolding area
 goodCount p k = leb 2 k && leb k (area p)
 
 -- 1; 6, the list is empty or has an odd number of bytes; 7, some cell is off the panel; 8, some two successive cells are not

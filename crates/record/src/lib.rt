@@ -6,6 +6,7 @@ use grid::Check;
 use grid::Panel;
 use grid::Refusal;
 use grid::Steps;
+use grid::area_of;
 use grid::check_entry;
 use grid::check_panel;
 use grid::number_of;
@@ -19,7 +20,7 @@ ghost use lib.ListN.{length, take, drop, getD, set};
 ghost use Rattle.grid.specs.Panel.{OnPanel, dist, neighbours, onPanel, goodPanel};
 ghost use Rattle.grid.specs.Bytes.{bytes, cellsIn};
 ghost use Rattle.record.specs.Format.{cellAt, letter, headOf, headLength, lettersOf, moveOf, largest, walkFrom};
-ghost use Rattle.record.specs.Write.{area, wholeCells, allOn, allNext, goodCount, checkList, recordLength, writeAnswer, writeBuffer, writeNumber, bytesWritten};
+ghost use Rattle.record.specs.Write.{wholeCells, allOn, allNext, goodCount, checkList, recordLength, writeAnswer, writeBuffer, writeNumber, bytesWritten};
 ghost use Rattle.record.specs.Read.{hasMark, panelIn, entryIn, stepsIn, lettersIn, goodSteps, checkHead, checkKnown, walkedOf, recordCells, readAnswer, readBuffer, readNumber, panelGiven, cellsGiven, lengthGiven, lettersAnswer};
 
 // The mark, and the number of bytes before the letters.
@@ -73,12 +74,6 @@ pub struct Head {
 pub enum Found {
     Refused(Refusal),
     Record(Cells),
-}
-
-fn area_of(p: Panel) -> usize
-    ensures { λ r. ⌜ r ≡ area p ⌝ }
-{
-    (p.width as usize) * (p.height as usize)
 }
 
 fn byte_at(s: &[u8], i: usize) -> u32

@@ -2,7 +2,7 @@ use borrow.Author.Needs.{needs}
 use mathlib.Core.Path.{refl, sym, ap, _∙_}
 use native.Mathlib.Omega.{arith}
 use lib.ListN.{length}
-use Rattle.bound.proofs.Order.{good-order}
+use Rattle.grid.proofs.Passed.{good-order}
 use Rattle.count.specs.declared.ClassCount.{ClassCount}
 use Rattle.draw.proofs.Answer.{refused, short, drawn, at-front}
 use Rattle.draw.proofs.draw.Statement.{statement}

@@ -3,8 +3,7 @@ use native.Mathlib.Omega.{arith}
 use mathlib.Core.Path.{refl, sym, _∙_}
 use borrow.Author.Tests.{le-leb, lt-leb}
 use Rattle.grid.proofs.Tests.{expect-yes, expect-no, after-good, after-refused}
-use Rattle.judge.specs.Judge.{area}
-use Rattle.judge.proofs.Checks.{order}
+use Rattle.grid.specs.Panel.{area}
 use Rattle.judge.proofs.Bytes.{is-whole, empty, odd}
 use borrow.Author.Needs.{needs}
 use Rattle.judge.proofs.check_sizes.Statement.{statement}
@@ -29,9 +28,7 @@ returns-3 : tie.Need-returns-3
 returns-3 c = after-good _ (sym (c .before .before .before .before .check-order .ensures) ∙ c .before .before .enum-told .given .1) (expect-no _ _ (odd _ (omega arith) (c .if2 .taken)))
 
 area-of-requires : tie.Need-area-of-requires
-area-of-requires c κs =
-    let a = c .before .before .before .before .before .args in
-    order (a .p) (a .entry) (a .exit) (sym (c .before .before .before .before .check-order .ensures) ∙ c .before .before .enum-told .given .1) .sides
+area-of-requires c κs = search needs
 
 returns-4 : tie.Need-returns-4
 returns-4 c =

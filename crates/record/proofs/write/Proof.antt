@@ -9,6 +9,7 @@ use native.Mathlib.Omega.{arith}
 use lib.ListN.{length, take, drop}
 use lib.Dec.{leb}
 use denote.Ref.{now}
+use Rattle.grid.proofs.Facts.{good as is-good-panel, area-small}
 use Rattle.grid.proofs.Tests.{expect-yes, expect-no, after-good, after-refused, answer-good, answer-refused}
 use Rattle.grid.specs.declared.Cell.{Cell}
 use Rattle.grid.specs.declared.Panel.{Panel}
@@ -21,7 +22,7 @@ use Rattle.record.specs.Format.{headLength, cellAt, headOf, lettersOf, s
 use Rattle.record.specs.Write.{allOn, checkList, checkWrite, recordLength}
 use Rattle.record.proofs.Laws.{both}
 use Rattle.record.proofs.Lists.{length-cells, cells-more, steps-and-one, record-made}
-use Rattle.record.proofs.Checks.{GoodList, list-good, area-bound}
+use Rattle.record.proofs.Checks.{GoodList, list-good}
 use Rattle.record.proofs.write.Statement.{statement}
 use Rattle.record.proofs.write.Tie as tie
 
@@ -44,7 +45,7 @@ good : (c : tie.After-enum-told) → GoodList (P c) (cellsIn (L c))
 good c = list-good (P c) (L c) (passed c)
 
 few : (c : tie.After-enum-told) → length (cellsIn (L c)) ≤ 16384
-few c = omega (arith, good c .few, area-bound (P c) (good c .panel))
+few c = omega (arith, good c .few, area-small (is-good-panel (P c) (good c .panel)))
 
 -- the steps are those of the list
 counted : (c : tie.After-steps-of) → c .steps-of .result .0 ≡ stepsOf (cellsIn (L (c .before)))
