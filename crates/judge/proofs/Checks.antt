@@ -18,8 +18,9 @@ use Rattle.grid.specs.Bytes.{cellsIn}
 use Rattle.grid.proofs.Tests.{expect-yes, after-good, after-refused, answer-good, answer-refused}
 use Rattle.grid.proofs.Passed.{expect-passed, expect-rest, after-passed, after-rest, GoodOrder, good-order, is-order}
 use Rattle.judge.specs.declared.Judged.the-variants as answers
-use Rattle.judge.specs.List.{allOn, allSteps, noneTwice, runs}
-use Rattle.judge.specs.Judge.{wholeCells, sizesCheck, cellsCheck, judgeOf, scratchAfter}
+use Rattle.list.specs.List.{wholeCells, allOn, allSteps}
+use Rattle.judge.specs.List.{noneTwice, runs}
+use Rattle.judge.specs.Judge.{sizesCheck, cellsCheck, judgeOf, scratchAfter}
 
 -- what is known once the refusals before 7 are passed
 pub record Sized (p : Panel) (s t : Cell) (bytes room : ℕ) : Type 0 where

@@ -24,8 +24,10 @@ use Rattle.judge.specs.Judge.{sizesCheck, cellsCheck, judgeCheck, judgeO
 use Rattle.grid.proofs.Facts.{good, is-good}
 use Rattle.grid.proofs.Passed.{after-passed, after-rest}
 use Rattle.judge.proofs.Checks.{Sized, sized, is-sized, Passed, passed, is-passed}
-use Rattle.judge.proofs.Bytes.{length-cells, whole, is-whole}
-use Rattle.judge.proofs.Tracks.{all-on, is-all-on, once, is-once, walk, walk-steps, walk-runs}
+use Rattle.list.proofs.Cells.{length-cells}
+use Rattle.list.proofs.Whole.{whole, is-whole}
+use Rattle.list.proofs.Tracks.{all-on, is-all-on, walk-steps}
+use Rattle.judge.proofs.Tracks.{once, is-once, walk, walk-runs}
 use Rattle.judge.proofs.Marks.{at-most}
 
 -- the bytes hold a track between two different cells of a good panel, and nothing else

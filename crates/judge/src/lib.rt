@@ -5,15 +5,19 @@ use grid::Cells;
 use grid::Check;
 use grid::Panel;
 use grid::Refusal;
+use list::all_adjacent;
+use list::all_on_panel;
+use list::whole_cells;
 ghost use mathlib.Core.Path.{_≡_};
 ghost use mathlib.Core.Bool.{true};
 ghost use mathlib.Core.List.{_++_};
 ghost use Prim.Native.Nat.{_+_, _*_, _%_, _≤_, _<_};
 ghost use lib.ListN.{length, take, drop, replicate};
-ghost use Rattle.grid.specs.Panel.{goodPanel, area, onPanel, dist, neighbours, sameCell};
+ghost use Rattle.grid.specs.Panel.{goodPanel, area, onPanel, sameCell};
 ghost use Rattle.grid.specs.Bytes.{cellsIn};
-ghost use Rattle.judge.specs.List.{allOn, allSteps, noneTwice, runs, place};
-ghost use Rattle.judge.specs.Judge.{wholeCells, sizesCheck, cellsCheck, judgeOf, scratchAfter};
+ghost use Rattle.list.specs.List.{wholeCells, allOn};
+ghost use Rattle.judge.specs.List.{noneTwice, runs, place};
+ghost use Rattle.judge.specs.Judge.{sizesCheck, cellsCheck, judgeOf, scratchAfter};
 
 // What Judge answers: the refusal, or the number of cells of the track.
 pub enum Judged {
@@ -29,73 +33,13 @@ fn check_sizes(p: Panel, entry: Cell, exit: Cell, bytes: usize, room: usize) -> 
     if let Check::Refused(r) = c {
         return Check::Refused(r);
     }
-    if bytes == 0 {
-        return Check::Refused(Refusal::ListLength);
-    }
-    if bytes % 2 != 0 {
+    if !whole_cells(bytes) {
         return Check::Refused(Refusal::ListLength);
     }
     if room < grid::area_of(p) {
         return Check::Refused(Refusal::ShortBuffer);
     }
     Check::Good
-}
-
-// Whether the two bytes are a cell of the panel.
-fn on_panel(p: Panel, x: u8, y: u8) -> bool
-    ensures { λ r. ⌜ r ≡ onPanel p (record { x = x; y = y }) ⌝ }
-{
-    grid::on_panel(
-        p,
-        Cell {
-            x: x as u32,
-            y: y as u32,
-        },
-    )
-}
-
-// Whether every cell of the list is on the panel.
-fn all_on_panel(p: Panel, list: &[u8]) -> bool
-    ensures { λ r. ⌜ r ≡ allOn p (cellsIn (now (list .entry))) ⌝ }
-{
-    let mut i = 0;
-    while i + 1 < list.len() {
-        if !on_panel(p, list[i], list[i + 1]) {
-            return false;
-        }
-        i += 2;
-    }
-    true
-}
-
-// How far two bytes are apart.
-fn gap(a: u8, b: u8) -> u8
-    ensures { λ r. ⌜ r ≡ dist a b ⌝ }
-{
-    if a < b { b - a } else { a - b }
-}
-
-// Whether two cells, each given by its two bytes, are neighbours.
-fn adjacent(ax: u8, ay: u8, bx: u8, by: u8) -> bool
-    ensures { λ r. ⌜ r ≡ neighbours (record { x = ax; y = ay }) (record { x = bx; y = by }) ⌝ }
-{
-    let dx = gap(ax, bx) as u32;
-    let dy = gap(ay, by) as u32;
-    dx + dy == 1
-}
-
-// Whether each two successive cells of the list are neighbours.
-fn all_adjacent(list: &[u8]) -> bool
-    ensures { λ r. ⌜ r ≡ allSteps (cellsIn (now (list .entry))) ⌝ }
-{
-    let mut i = 0;
-    while i + 3 < list.len() {
-        if !adjacent(list[i], list[i + 1], list[i + 2], list[i + 3]) {
-            return false;
-        }
-        i += 2;
-    }
-    true
 }
 
 // Writes 0 into the first k bytes.

@@ -21,7 +21,8 @@ use Rattle.record.specs.declared.Walked.the-variants.{On, Off}
 use Rattle.record.specs.declared.Found.{Found}
 use Rattle.record.specs.declared.Found.the-variants.{Record}
 use Rattle.record.specs.Format.{headLength, allKnown, walkFrom}
-use Rattle.record.specs.Write.{wholeCells, allOn, allNext, goodCount, checkList}
+use Rattle.list.specs.List.{wholeCells, allOn, allSteps}
+use Rattle.record.specs.Write.{goodCount, checkList}
 use Rattle.record.specs.Read.{hasMark, panelIn, entryIn, stepsIn, lettersIn, cellsRead, goodSteps, checkHead, checkKnown, checkLetters, checkRecord, walkedOf, recordCells}
 use Rattle.grid.proofs.Facts.{good, is-good, is-on, area-small}
 use Rattle.grid.proofs.Passed.{expect-passed, expect-rest, after-passed, after-rest, good-panel, good-entry}
@@ -83,7 +84,7 @@ steps-bound f h = omega (arith, h .few, area-small (good (panelIn f) (h .panel))
 pub record GoodList (p : Panel) (l : List Cell) : Type 0 where
   pub panel : goodPanel p ≡ true
   pub on : allOn p l ≡ true
-  pub next : allNext l ≡ true
+  pub next : allSteps l ≡ true
   pub some : 2 ≤ length l
   pub few : length l ≤ area p
 
@@ -91,14 +92,14 @@ pub list-good : (p : Panel) (list : List ℕ) → checkList p list ≡ Good → 
 unfolding goodCount
 list-good p list e =
     let e₁ = after-rest (checkPanel p) _ e in
-    let e₂ = expect-rest (wholeCells list) _ _ e₁ in
+    let e₂ = expect-rest (wholeCells (length list)) _ _ e₁ in
     let e₃ = expect-rest (allOn p (cellsIn list)) _ _ e₂ in
-    let e₄ = expect-rest (allNext (cellsIn list)) _ _ e₃ in
+    let e₄ = expect-rest (allSteps (cellsIn list)) _ _ e₃ in
     let k = both (leb 2 (length (cellsIn list))) (leb (length (cellsIn list)) (area p)) (expect-passed (goodCount p (length (cellsIn list))) _ _ e₄) in
     record {
       panel = is-good (good-panel p (after-passed (checkPanel p) _ e));
       on = expect-passed (allOn p (cellsIn list)) _ _ e₂;
-      next = expect-passed (allNext (cellsIn list)) _ _ e₃;
+      next = expect-passed (allSteps (cellsIn list)) _ _ e₃;
       some = leb-true _ _ (k .0);
       few = leb-true _ _ (k .1);
     }

@@ -12,7 +12,7 @@ use native.Mathlib.Omega.{arith}
 use lib.ListN.{length, take, drop, getD, length-append, length-drop}
 use lib.Seq.{take-at, take-add, length-take-le}
 use lib.Dec.{leb, eqb}
-use borrow.Author.Tests.{eqb-true, eq-eqb, le-leb, lt-leb}
+use borrow.Author.Tests.{eqb-true, le-leb, lt-leb}
 use Rattle.grid.proofs.Tests.{and-yes, expect-yes, expect-no, after-good, answer-good, answer-refused}
 use Rattle.grid.specs.declared.Cell.{Cell}
 use Rattle.grid.specs.declared.Panel.{Panel}
@@ -24,10 +24,12 @@ use Rattle.grid.specs.Refusal.{number}
 use Rattle.grid.specs.Panel.{area, onPanel, goodPanel}
 use Rattle.grid.specs.Bytes.{bytes, cellsIn}
 use Rattle.grid.specs.Check.{checkPanel, checkEntry, expect, after, answer}
+use Rattle.list.specs.List.{wholeCells, allOn, allSteps}
+use Rattle.list.proofs.Whole.{whole, is-whole}
 use Rattle.record.specs.declared.Written.{Written}
 use Rattle.record.specs.declared.ReadBack.{ReadBack}
 use Rattle.record.specs.Format.{headLength, markHigh, markLow, headOf, recordOf, lettersFrom, lettersOf, allKnown, walkOn, walkFrom}
-use Rattle.record.specs.Write.{wholeCells, allOn, allNext, goodCount, checkList, checkWrite, recordLength, writeAnswer, writeBuffer, bytesWritten, recordMade}
+use Rattle.record.specs.Write.{goodCount, checkList, checkWrite, recordLength, writeAnswer, writeBuffer, bytesWritten, recordMade}
 use Rattle.record.specs.Read.{hasMark, panelIn, entryIn, stepsIn, lettersIn, cellsRead, goodSteps, checkHead, checkKnown, checkRecord, checkRead, readAnswer, readBuffer, panelGiven, cellsGiven, lengthGiven, listRead, lettersAnswer}
 use Rattle.grid.proofs.Bytes.{length-bytes, cells-bytes}
 use Rattle.record.proofs.Laws.{both}
@@ -128,12 +130,10 @@ pub reads-back : (p : Panel) (list out rest buffer : List ℕ) → checkWrite p 
     → (readAnswer (recordMade p list out ++ rest) buffer
     ≡ ReadBack.Found p (record { 0 = length (cellsIn list) }) (bytesWritten (writeAnswer p list out)))
     × (readBuffer (recordMade p list out ++ rest) buffer ≡ list ++ drop (length list) buffer)
-unfolding wholeCells
 reads-back p list out rest buffer e room =
     let c = after-passed (checkList p list) _ e in
     let g = list-good p list c in
-    let whole = expect-passed (wholeCells list) _ _ (after-rest (checkPanel p) _ c) in
-    let even = eqb-true (length list % 2) 0 (both (leb 1 (length list)) (eqb (length list % 2) 0) whole .1) in
+    let even = whole (length list) (expect-passed (wholeCells (length list)) _ _ (after-rest (checkPanel p) _ c)) .1 in
     let back = bytes-cells list even in
     let n : 2 * length (cellsIn list) ≡ length list = sym (length-bytes (cellsIn list)) ∙ ap length back in
     let w = written p list out e in
@@ -169,7 +169,7 @@ module _ (f : List ℕ) (g : GoodRecord f) where
   length-read : length (lettersIn f) ≡ stepsIn f
   length-read = length-take-le (stepsIn f) (drop headLength f) (omega (arith, length-drop headLength f, g .head .whole))
 
-  walked : (lettersFrom (entryIn f) (walkOn (entryIn f) (lettersIn f)) ≡ lettersIn f) × (allNext (cellsRead f) ≡ true)
+  walked : (lettersFrom (entryIn f) (walkOn (entryIn f) (lettersIn f)) ≡ lettersIn f) × (allSteps (cellsRead f) ≡ true)
   walked = letters-walk (panelIn f) (entryIn f) (lettersIn f) (g .letters) (g .cells)
 
   steps-read : length (walkOn (entryIn f) (lettersIn f)) ≡ stepsIn f
@@ -193,17 +193,16 @@ module _ (f : List ℕ) (g : GoodRecord f) where
 
 -- Write takes every good list
 list-accepted : (p : Panel) (l : List Cell) → GoodList p l → checkList p (bytes l) ≡ Good
-unfolding wholeCells goodCount
+unfolding goodCount
 list-accepted p l g =
     let n = length-bytes l in
     let back = cells-bytes l in
-    let some : leb 1 (length (bytes l)) ≡ true = le-leb 1 (length (bytes l)) (omega (arith, g .some)) in
-    let even : eqb (length (bytes l) % 2) 0 ≡ true = eq-eqb (length (bytes l) % 2) 0 (omega arith) in
+    let cells : wholeCells (length (bytes l)) ≡ true = is-whole (length (bytes l)) (omega (arith, g .some)) (omega arith) in
     let count : goodCount p (length l) ≡ true = sym (and-yes _ (le-leb 2 (length l) (g .some)) (sym (le-leb (length l) (area p) (g .few)))) in
     sym (after-good _ (sym (expect-yes _ _ (g .panel) refl))
-    (expect-yes _ _ (sym (and-yes _ some (sym even)))
+    (expect-yes _ _ cells
     (expect-yes _ _ (ap (allOn p) back ∙ g .on)
-    (expect-yes _ _ (ap allNext back ∙ g .next)
+    (expect-yes _ _ (ap allSteps back ∙ g .next)
     (expect-yes _ _ (ap (λ (k : List Cell). goodCount p (length k)) back ∙ count) refl)))))
 
 pub writes-back : (f buffer out : List ℕ) → ((i : ℕ) → getD f i 0 < 256) → checkRead f buffer ≡ Good → lengthGiven (readAnswer f buffer) ≤ length out

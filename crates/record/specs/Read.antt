@@ -13,13 +13,13 @@ use Rattle.grid.specs.Panel.{upTo, area}
 use Rattle.grid.specs.Refusal.{number}
 use Rattle.grid.specs.Bytes.{bytes}
 use Rattle.grid.specs.Check.{checkEntry, expect, after, answer}
+use Rattle.list.specs.List.{allOn}
 use Rattle.record.specs.declared.ReadBack.{ReadBack}
 use Rattle.record.specs.declared.Found.{Found}
 use Rattle.record.specs.declared.Found.the-variants.{Record}
 use Rattle.record.specs.declared.Walked.{Walked}
 use Rattle.record.specs.declared.Walked.the-variants.{On, Off}
 use Rattle.record.specs.Format.{markHigh, markLow, headLength, allKnown, walkFrom}
-use Rattle.record.specs.Write.{allOn}
 
 -- the file begins with the mark
 unfoldable pub hasMark : List ℕ → Bool

@@ -3,7 +3,7 @@ use native.Mathlib.Omega.{arith}
 use mathlib.Core.Path.{sym}
 use Rattle.grid.proofs.Facts.{is-good, area-small}
 use Rattle.judge.proofs.Checks.{sizes-good, cells-good, sizes-refused, cells-refused, all-good}
-use Rattle.judge.proofs.Bytes.{length-cells}
+use Rattle.list.proofs.Cells.{length-cells}
 use borrow.Author.Needs.{needs}
 use Rattle.judge.proofs.judge.Statement.{statement}
 use Rattle.judge.proofs.judge.Tie as tie
