@@ -231,10 +231,14 @@ fn name_terminals(p: Panel, s: Cell, t: Cell) -> ClassCount
     requires { ⌜ OnPanel p t ⌝ }
     ensures { λ r. ⌜ r ≡ named p s t ⌝ }
 {
+    // Chosen without a jump: on random orders it would be mispredicted half of the time.
+    let mut left = s;
+    let mut right = t;
     if t.x < s.x {
-        return decide(p, t, s);
+        left = t;
+        right = s;
     }
-    decide(p, s, t)
+    decide(p, left, right)
 }
 
 // Class and count of two cells on a good panel.

@@ -1,24 +1,39 @@
--- Two branches, as in the definition.
+-- The terminals are exchanged or not, as in the definition.
 use borrow.Author.Tests.{lt-ltb, le-ltb}
+use native.Mathlib.Omega.{arith}
+use Prim.Native.Nat.{_≤_}
+use mathlib.Core.Path.{_≡_, _∙_, sym, subst₂}
+use mathlib.Core.Logic.{⊎-elim}
+use Rattle.grid.specs.declared.Panel.{Panel}
+use Rattle.grid.specs.declared.Cell.{Cell}
+use Rattle.grid.specs.Panel.{OnPanel}
 use Rattle.grid.proofs.Tests.{cond-yes, cond-no}
-use Rattle.count.specs.Count.{named}
-use borrow.Author.Needs.{needs}
+use Rattle.grid.proofs.Facts.{Good}
+use Rattle.count.specs.Count.{named, decided}
 use Rattle.bound.proofs.name_terminals.Statement.{statement}
 use Rattle.bound.proofs.name_terminals.Tie as tie
 
+-- what `decide` asks, of cells that are a and b
+chosen : {p : Panel} {a b left right : Cell} → left ≡ a → right ≡ b → Good p → OnPanel p a → OnPanel p b → a .x ≤ b .x
+    → Good p × (OnPanel p left × (OnPanel p right × (left .x ≤ right .x)))
+chosen {p} e f g o q h = subst₂ (λ (l r : Cell). Good p × (OnPanel p l × (OnPanel p r × (l .x ≤ r .x)))) (sym e) (sym f) (g, (o, (q, h)))
+
 decide-requires : tie.Need-decide-requires
-decide-requires c κs = search needs
+decide-requires c κs =
+    let k = c .before .before .before .pre in
+    ⊎-elim
+    (λ w. chosen (w .1) (w .2) (k .0) (k .1 .1) (k .1 .0) (omega (arith, w .0 .taken)))
+    (λ w. chosen (w .1) (w .2) (k .0) (k .1 .0) (k .1 .1) (w .0 .left))
+    (c .if1 .came)
 
 returns : tie.Need-returns
 unfolding named
-returns c = cond-yes _ _ (lt-ltb _ _ (c .before .if1 .taken)) (c .decide .ensures)
-
-decide-requires-2 : tie.Need-decide-requires-2
-decide-requires-2 c κs = search needs
-
-returns-2 : tie.Need-returns-2
-unfolding named
-returns-2 c = cond-no _ _ (le-ltb _ _ (c .before .if1 .left)) (c .decide2 .ensures)
+returns c =
+    let p = c .before .before .before .before .args .p in
+    ⊎-elim
+    (λ w. cond-yes _ _ (lt-ltb _ _ (w .0 .taken)) (c .decide .ensures ∙ (λ i. decided p (w .1 i) (w .2 i))))
+    (λ w. cond-no _ _ (le-ltb _ _ (w .0 .left)) (c .decide .ensures ∙ (λ i. decided p (w .1 i) (w .2 i))))
+    (c .before .if1 .came)
 
 pub name-terminals-spec : {M : Type 1} → statement M
-name-terminals-spec = tie.close (tie.spec decide-requires returns decide-requires-2 returns-2)
+name-terminals-spec = tie.close (tie.spec decide-requires returns)

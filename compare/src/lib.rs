@@ -1,0 +1,16 @@
+//! A second implementation of Bound, Draw and Judge, written from the demands and from the
+//! linear-time paper (document 000) alone, and a safe wrapper around the archive's three calls.
+//! The tests compare one with the other; the benchmark times them side by side.
+
+pub mod archive;
+pub mod bound;
+pub mod judge;
+pub mod order;
+pub mod random;
+pub mod router;
+pub mod search;
+
+pub use bound::bound;
+pub use judge::judge;
+pub use order::{Bounded, Cell, Order, Refusal};
+pub use router::draw;

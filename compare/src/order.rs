@@ -1,0 +1,72 @@
+//! Orders, and the refusals that every call tests first.
+
+/// A cell: column from the left and row from the top, both from 1.
+pub type Cell = (u32, u32);
+
+/// A panel of `width` columns and `height` rows with its two terminals.
+#[derive(Clone, Copy, Debug, PartialEq, Eq)]
+pub struct Order {
+    pub width: u32,
+    pub height: u32,
+    pub entry: Cell,
+    pub exit: Cell,
+}
+
+/// Why a call refuses, with document 01's number.
+#[derive(Clone, Copy, Debug, PartialEq, Eq)]
+#[repr(u32)]
+pub enum Refusal {
+    Side = 1,
+    EntryOff = 2,
+    ExitOff = 3,
+    SameCell = 4,
+    ShortBuffer = 5,
+    ListLength = 6,
+    CellOff = 7,
+    NotNeighbours = 8,
+    Repeated = 9,
+    TooManyCells = 10,
+    WrongEnds = 11,
+}
+
+/// What Bound gives where it does not refuse.
+#[derive(Clone, Copy, Debug, PartialEq, Eq)]
+pub struct Bounded {
+    pub class: u32,
+    pub count: u32,
+}
+
+pub const MAX_SIDE: u32 = 128;
+
+impl Order {
+    pub fn new(width: u32, height: u32, entry: Cell, exit: Cell) -> Self {
+        Order { width, height, entry, exit }
+    }
+
+    pub fn holds(&self, (x, y): Cell) -> bool {
+        (1..=self.width).contains(&x) && (1..=self.height).contains(&y)
+    }
+
+    /// The number of cells of the panel, where its sides are good.
+    pub fn area(&self) -> usize {
+        self.width as usize * self.height as usize
+    }
+
+    /// Refusals 1 to 4, in order.
+    pub fn check(&self) -> Result<(), Refusal> {
+        let sides = 1..=MAX_SIDE;
+        if !sides.contains(&self.width) || !sides.contains(&self.height) {
+            return Err(Refusal::Side);
+        }
+        if !self.holds(self.entry) {
+            return Err(Refusal::EntryOff);
+        }
+        if !self.holds(self.exit) {
+            return Err(Refusal::ExitOff);
+        }
+        if self.entry == self.exit {
+            return Err(Refusal::SameCell);
+        }
+        Ok(())
+    }
+}

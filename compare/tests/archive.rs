@@ -1,0 +1,241 @@
+//! The archive's calls beside the independent implementation: every pair up to 8 by 8, and more than a
+//! million random and hostile calls, fixed by their seeds.
+
+use compare::archive::{self, Answer};
+use compare::{bound, draw, judge, random::Random, Cell, Order, Refusal};
+
+fn packed<T>(answer: &Result<T, Refusal>, class_count: impl Fn(&T) -> (u32, u32)) -> Answer {
+    match answer {
+        Ok(value) => {
+            let (class, count) = class_count(value);
+            Answer { refusal: 0, class, count }
+        }
+        Err(refusal) => Answer { refusal: *refusal as u32, class: 0, count: 0 },
+    }
+}
+
+fn compare_bound(order: &Order) -> Answer {
+    let expected = packed(&bound(order), |b| (b.class, b.count));
+    let answer = archive::bound(order);
+    assert_eq!(answer, expected, "{order:?}");
+    answer
+}
+
+/// Refusal and count are equal; the track is one by the independent judge; the rest of the buffer stays.
+fn compare_draw(order: &Order, buffer: &mut [u8]) -> Answer {
+    let before = buffer.to_vec();
+    let mut own = before.clone();
+    let expected = packed(&draw(order, &mut own), |&count| (0, count));
+    let answer = archive::draw(order, buffer);
+    assert_eq!(answer, expected, "{order:?}, buffer of {}", before.len());
+    let end = 2 * answer.count as usize;
+    assert!(buffer[end..] == before[end..], "{order:?}: bytes behind the track");
+    if answer.refusal == 0 {
+        let mut scratch = vec![0; order.area()];
+        assert_eq!(judge(order, &buffer[..end], &mut scratch), Ok(answer.count), "{order:?}");
+    }
+    answer
+}
+
+fn compare_judge(order: &Order, list: &[u8], scratch: &mut [u8]) -> Answer {
+    let mut own = scratch.to_vec();
+    let expected = packed(&judge(order, list, &mut own), |&count| (0, count));
+    let answer = archive::judge(order, list, scratch);
+    assert_eq!(answer, expected, "{order:?} {list:?}, scratch of {}", own.len());
+    assert!(*scratch == own[..], "{order:?} {list:?}: scratch");
+    answer
+}
+
+/// How often each refusal was met, 0 being none: a test that never meets one tests less than it says.
+struct Met([u32; 18]);
+
+impl Met {
+    fn new() -> Met {
+        Met([0; 18])
+    }
+
+    fn note(&mut self, answer: Answer) {
+        self.0[answer.refusal as usize] += 1;
+    }
+
+    fn all_of(&self, refusals: &[usize]) {
+        for &refusal in refusals {
+            assert!(self.0[refusal] >= 100, "refusal {refusal} is met {} times", self.0[refusal]);
+        }
+    }
+}
+
+#[test]
+fn every_pair_up_to_eight_by_eight() {
+    for (width, height) in (1..=8).flat_map(|m| (1..=8).map(move |n| (m, n))) {
+        let cells = || (1..=height).flat_map(move |y| (1..=width).map(move |x| (x, y)));
+        for (entry, exit) in cells().flat_map(|s| cells().map(move |t| (s, t))) {
+            let order = Order::new(width, height, entry, exit);
+            compare_bound(&order);
+            let mut buffer = [0xA5; 2 * 64 + 2];
+            let count = compare_draw(&order, &mut buffer).count as usize;
+            if count > 0 {
+                compare_draw(&order, &mut [0x5A; 2 * 64][..2 * count]);
+                compare_draw(&order, &mut [0x5A; 2 * 64][..2 * count - 1]);
+            }
+            let mut scratch = [0xA5; 66];
+            compare_judge(&order, &buffer[..2 * count], &mut scratch);
+            compare_judge(&order, &buffer[..2 * count], &mut scratch[..order.area() - 1]);
+        }
+    }
+}
+
+/// A number that is good for a side or a coordinate, or one from the ends of the range.
+fn number(random: &mut Random, largest: u32) -> u32 {
+    const HOSTILE: [u32; 14] = [
+        0,
+        1,
+        127,
+        128,
+        129,
+        255,
+        256,
+        257,
+        65_535,
+        65_536,
+        0x7FFF_FFFF,
+        0x8000_0000,
+        u32::MAX - 1,
+        u32::MAX,
+    ];
+    match random.below(48) {
+        0 => HOSTILE[random.below(14) as usize],
+        1 => largest.wrapping_add(1),
+        _ => random.within(1, largest.clamp(1, 128)),
+    }
+}
+
+/// An order on a panel that is small, middling, or, once in `rarely`, of any size.
+fn order(random: &mut Random, rarely: u32) -> Order {
+    let largest = match random.below(rarely) {
+        0 => 128,
+        k if k % 3 == 0 => 16,
+        _ => 6,
+    };
+    let (width, height) = (number(random, largest), number(random, largest));
+    let mut cell = || (number(random, width), number(random, height));
+    let (entry, exit) = (cell(), cell());
+    Order::new(width, height, entry, if random.below(64) == 0 { entry } else { exit })
+}
+
+fn dirty(random: &mut Random, length: usize) -> Vec<u8> {
+    (0..length).map(|_| random.byte()).collect()
+}
+
+/// A length at, around or far from the one that is enough.
+fn length(random: &mut Random, enough: usize) -> usize {
+    match random.below(8) {
+        0 => enough.saturating_sub(1),
+        1 => random.below(enough as u32 + 1) as usize,
+        2 => 0,
+        3 => enough + 1,
+        4 => enough + random.below(40) as usize,
+        _ => enough,
+    }
+}
+
+#[test]
+fn random_and_hostile_bounds() {
+    let mut random = Random::new(0x5EED_0001);
+    let mut met = Met::new();
+    for _ in 0..1_000_000 {
+        met.note(compare_bound(&order(&mut random, 4)));
+    }
+    met.all_of(&[0, 1, 2, 3, 4]);
+}
+
+#[test]
+fn random_and_hostile_draws() {
+    let mut random = Random::new(0x5EED_0002);
+    let mut met = Met::new();
+    for _ in 0..250_000 {
+        let order = order(&mut random, 400);
+        let enough = bound(&order).map_or(random.below(20), |b| 2 * b.count) as usize;
+        let length = length(&mut random, enough);
+        met.note(compare_draw(&order, &mut dirty(&mut random, length)));
+    }
+    met.all_of(&[0, 1, 2, 3, 4, 5]);
+}
+
+/// A walk of neighbours, on the panel or off it, which may come back to its own cells.
+fn walk(random: &mut Random, order: &Order, cells: u32) -> Vec<u8> {
+    let (mut x, mut y) = order.entry;
+    let mut list = vec![x as u8, y as u8];
+    for _ in 1..cells {
+        let step: Cell = match random.below(4) {
+            0 => (x.wrapping_add(1), y),
+            1 => (x.wrapping_sub(1), y),
+            2 => (x, y.wrapping_add(1)),
+            _ => (x, y.wrapping_sub(1)),
+        };
+        if order.holds(step) || random.below(64) == 0 {
+            (x, y) = step;
+            list.extend([x as u8, y as u8]);
+        }
+    }
+    list
+}
+
+/// The list with one or several faults.
+fn damage(random: &mut Random, list: &mut Vec<u8>) {
+    for _ in 0..random.within(1, 3) {
+        let cells = (list.len() / 2) as u32;
+        if cells == 0 {
+            return;
+        }
+        let at = 2 * random.below(cells) as usize;
+        match random.below(9) {
+            0 => list[at] = random.byte(),
+            1 => list[at + 1] ^= 1 << random.below(8),
+            2 => drop(list.drain(at..at + 2)),
+            3 => list.extend_from_within(at..at + 2),
+            4 => list.truncate(at),
+            5 => drop(list.pop()),
+            6 => {
+                let other = 2 * random.below(cells) as usize;
+                list.swap(at, other);
+                list.swap(at + 1, other + 1);
+            }
+            7 => drop(list.drain(..at)),
+            _ => *list = list.chunks(2).rev().flatten().copied().collect(),
+        }
+    }
+}
+
+#[test]
+fn random_and_hostile_judgements() {
+    let mut random = Random::new(0x5EED_0003);
+    let mut met = Met::new();
+    for _ in 0..400_000 {
+        let order = order(&mut random, 400);
+        let mut list = match (bound(&order), random.below(8)) {
+            (_, 0) => {
+                let length = random.below(24) as usize;
+                dirty(&mut random, length)
+            }
+            (Ok(_), 1 | 2) => {
+                let cells = random.within(1, 24);
+                walk(&mut random, &order, cells)
+            }
+            (Ok(found), _) => {
+                let mut track = vec![0; 2 * found.count as usize];
+                assert_eq!(archive::draw(&order, &mut track).count, found.count);
+                track
+            }
+            (Err(_), _) => vec![1, 1, 2, 1],
+        };
+        if random.below(3) != 0 {
+            damage(&mut random, &mut list);
+        }
+        let enough = if order.check().is_ok() { order.area() } else { 9 };
+        let length = length(&mut random, enough);
+        met.note(compare_judge(&order, &list, &mut dirty(&mut random, length)));
+    }
+    // 10 is never met: more than mn cells of the panel have one twice, which is 9.
+    met.all_of(&[0, 1, 2, 3, 4, 5, 6, 7, 8, 9, 11]);
+}

@@ -1,0 +1,43 @@
+-- The two parts are those of Judge's answer, and fit; scratch is what Judge leaves.
+use native.Mathlib.Omega.{arith}
+use lib.ListN.{length}
+use Rattle.host.specs.Host.{panel, cell}
+use Rattle.host.proofs.Answers.{judge-fits, judge-packed}
+use borrow.Author.Needs.{needs}
+use Rattle.host.proofs.foil_judge.Statement.{statement}
+use Rattle.host.proofs.foil_judge.Tie as tie
+
+judge-requires : tie.Need-judge-requires
+judge-requires c κs = search needs
+
+judged-number-requires : tie.Need-judged-number-requires
+judged-number-requires c κs = search needs
+
+judged-count-requires : tie.Need-judged-count-requires
+judged-count-requires c κs = search needs
+
+pack-requires : tie.Need-pack-requires
+pack-requires c κs =
+    let j = c .before .before .before .before in
+    let a = j .before .before .before .before .args in
+    (omega arith, judge-fits (panel (a .m) (a .n)) (cell (a .sx) (a .sy)) (cell (a .tx) (a .ty)) (a .list .now) (length (a .scratch .now)) (j .judge .ensures .0) (c .before .judged-number .ensures) (c .judged-count .ensures))
+
+same-length : tie.Need-same-length
+same-length c = search needs
+
+returns : tie.Need-returns
+returns c =
+    let j = c .before .before .before .before .before in
+    let a = j .before .before .before .before .args in
+    (judge-packed (panel (a .m) (a .n)) (cell (a .sx) (a .sy)) (cell (a .tx) (a .ty)) (a .list .now) (length (a .scratch .now)) (j .judge .ensures .0) (c .before .before .judged-number .ensures) (c .before .judged-count .ensures) (c .pack .ensures), j .judge .ensures .1)
+
+pub foil-judge-spec : {M : Type 1} → statement M
+foil-judge-spec =
+    tie.close
+    (tie.spec
+    judge-requires
+    judged-number-requires
+    judged-count-requires
+    pack-requires
+    same-length
+    returns)

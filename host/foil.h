@@ -1,0 +1,75 @@
+/* Foil Router: the longest track between two cells of a rectangular panel.
+ *
+ * A panel has m columns and n rows, each from 1 to 128. A cell is (x, y), x from 1 to m and y from 1 to
+ * n; (1, 1) is the upper left, and y grows downward. A track is a list of cells from the entry to the
+ * exit, each a neighbour of the one before, none twice. A cell list is bytes: x then y for each cell.
+ *
+ * Link with libhost.a, the archive that `rt staticlib host` writes to target/staticlib. The calls keep
+ * no state, call nothing but memset, and may be made from several threads at once on different buffers.
+ * Any numbers may be passed: what is wrong is refused, and nothing is written outside the buffers.
+ *
+ * A buffer is a pointer and its length in bytes. Where the length is 0 the pointer may be null; it is
+ * not looked at. Otherwise it must point at that many bytes, which no other thread changes meanwhile,
+ * and the two buffers of foil_judge must not overlap.
+ */
+#ifndef FOIL_H
+#define FOIL_H
+
+#include <stddef.h>
+#include <stdint.h>
+
+#ifdef __cplusplus
+extern "C" {
+#endif
+
+/* Why a call refuses. The first that holds, in the order given at each call, is the one. */
+enum foil_refusal {
+    FOIL_OK = 0,                /* nothing is refused */
+    FOIL_SIDE = 1,              /* a side is 0 or above 128 */
+    FOIL_ENTRY_OFF = 2,         /* the entry is off the panel */
+    FOIL_EXIT_OFF = 3,          /* the exit is off the panel */
+    FOIL_SAME_CELL = 4,         /* entry and exit are the same cell */
+    FOIL_SHORT_BUFFER = 5,      /* the buffer, or the scratch, is too short */
+    FOIL_LIST_LENGTH = 6,       /* the list is empty or has an odd number of bytes */
+    FOIL_CELL_OFF = 7,          /* some cell of the list is off the panel */
+    FOIL_NOT_NEIGHBOURS = 8,    /* some two successive cells are not neighbours */
+    FOIL_REPEATED = 9,          /* some cell stands twice */
+    FOIL_TOO_MANY_CELLS = 10,   /* the list has more cells than the panel */
+    FOIL_WRONG_ENDS = 11        /* the first cell is not the entry, or the last not the exit */
+};
+
+/* The largest panel: sides, cells, and bytes of a cell list with every cell. */
+#define FOIL_MAX_SIDE 128u
+#define FOIL_MAX_CELLS (FOIL_MAX_SIDE * FOIL_MAX_SIDE)
+#define FOIL_MAX_BYTES (2u * FOIL_MAX_CELLS)
+
+/* A call's answer is one number: refusal * 2^32 + class * 2^24 + count. Where a call refuses, class and
+ * count are 0. These three take it apart. */
+static inline uint32_t foil_refusal_in(uint64_t answer) { return (uint32_t)(answer >> 32); }
+static inline uint32_t foil_class_in(uint64_t answer) { return (uint32_t)(answer >> 24) & 0xFFu; }
+static inline uint32_t foil_count_in(uint64_t answer) { return (uint32_t)answer & 0xFFFFFFu; }
+
+/* Bound: the class of the order, 1 to 5, and the number of cells of a longest track.
+ * Refused, in order: 1, 2, 3, 4. */
+uint64_t foil_bound(uint32_t m, uint32_t n, uint32_t entry_x, uint32_t entry_y, uint32_t exit_x, uint32_t exit_y);
+
+/* Draw: writes a longest track from entry to exit at the front of the buffer and gives its number of
+ * cells, the count of foil_bound. It takes 2 bytes for each cell; FOIL_MAX_BYTES are always enough.
+ * Refused, in order: 1, 2, 3, 4; 5, the buffer is shorter than 2 bytes for each cell of the count.
+ * After: the bytes behind the track are as before; a refusal changes no byte. The class is 0. */
+uint64_t foil_draw(uint32_t m, uint32_t n, uint32_t entry_x, uint32_t entry_y, uint32_t exit_x, uint32_t exit_y,
+                   uint8_t *buffer, size_t buffer_len);
+
+/* Judge: whether a list is a track from entry to exit, and its number of cells. It need not be longest.
+ * Refused, in order: 1, 2, 3, 4; 6; 5, the scratch is shorter than m * n bytes (FOIL_MAX_CELLS are always
+ * enough); 7, 8, 9, 10, 11, each over the whole list before the next.
+ * After: the list is as before. A refusal of 1 to 6 leaves the scratch as before; otherwise, accepted or
+ * refused, its first m * n bytes are 0 and the rest as before. The class is 0. */
+uint64_t foil_judge(uint32_t m, uint32_t n, uint32_t entry_x, uint32_t entry_y, uint32_t exit_x, uint32_t exit_y,
+                    const uint8_t *list, size_t list_len, uint8_t *scratch, size_t scratch_len);
+
+#ifdef __cplusplus
+}
+#endif
+
+#endif
