@@ -5,12 +5,10 @@ use lib.Dec.{leb, ltb, eqb}
 use Rattle.grid.specs.declared.Panel.{Panel}
 use Rattle.grid.specs.declared.Cell.{Cell}
 use Rattle.grid.specs.Panel.{black, turned, turnedCell}
+pub use Rattle.grid.specs.Panel.{area}
 use Rattle.count.specs.declared.ClassCount.{ClassCount}
 
--- mn, the number of a panel's cells, and whether it is odd
-abbrev pub area : Panel → ℕ
-area p = p .width * p .height
-
+-- an odd number
 abbrev pub odd : ℕ → Bool
 odd k = eqb (k % 2) 1
 

@@ -3,12 +3,13 @@ use Prim.Native.Nat.{ℕ, _+_, _-_, _≤_, _<_}
 use mathlib.Core.Path.{_≡_, refl, sym, ap, _∙_}
 use mathlib.Core.Logic.{_≢_, _⊎_, inl, inr}
 use mathlib.Core.Bool.{Bool, true, false, _&&_, not}
+use native.Mathlib.Nat.{mul-le-mul}
 use native.Mathlib.Omega.{arith}
 use lib.Dec.{leb, eqb}
 use borrow.Author.Tests.{leb-true, leb-false, le-leb, lt-leb, eqb-true, eqb-false, eq-eqb, ne-eqb}
 use Rattle.grid.specs.declared.Panel.{Panel}
 use Rattle.grid.specs.declared.Cell.{Cell}
-use Rattle.grid.specs.Panel.{maxSide, upTo, goodPanel, onPanel, OnPanel, sameCell, dist, apart, Neighbours, neighbours, turned, turnedCell}
+use Rattle.grid.specs.Panel.{maxSide, upTo, goodPanel, area, onPanel, OnPanel, sameCell, dist, apart, Neighbours, neighbours, turned, turnedCell}
 
 -- ---- Boolean "and"
 
@@ -46,6 +47,10 @@ good p e =
 
 pub is-good : {p : Panel} → Good p → goodPanel p ≡ true
 is-good g = and-both (and-both (le-leb _ _ (g .wide)) (le-leb _ _ (g .widest))) (and-both (le-leb _ _ (g .high)) (le-leb _ _ (g .highest)))
+
+-- it has at most 128 by 128 cells
+pub area-small : {p : Panel} → Good p → area p ≤ 16384
+area-small g = mul-le-mul (g .widest) (g .highest)
 
 pub on : (p : Panel) (c : Cell) → onPanel p c ≡ true → OnPanel p c
 on p c e =

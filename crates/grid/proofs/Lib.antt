@@ -1,5 +1,6 @@
 pub mod Tests
 pub mod Facts
+pub mod Passed
 pub mod Track
 pub mod Moves
 pub mod Bytes

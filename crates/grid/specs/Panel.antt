@@ -1,5 +1,5 @@
 -- Document 01, "Panel, cell, track": panels, cells, neighbours and colours. A cell is a vertex of a rectangular grid graph.
-use Prim.Native.Nat.{ℕ, _+_, _-_, _%_, _≤_}
+use Prim.Native.Nat.{ℕ, _+_, _-_, _*_, _%_, _≤_}
 use mathlib.Core.Path.{_≡_}
 use mathlib.Core.Bool.{Bool, _&&_}
 use lib.Dec.{leb, eqb}
@@ -17,6 +17,10 @@ upTo k a = leb 1 a && leb a k
 -- a panel has width and height, each 1 to 128
 abbrev pub goodPanel : Panel → Bool
 goodPanel p = upTo maxSide (p .width) && upTo maxSide (p .height)
+
+-- mn, the number of a panel's cells
+abbrev pub area : Panel → ℕ
+area p = p .width * p .height
 
 -- a cell of the panel: x from 1 to m, y from 1 to n
 abbrev pub onPanel : Panel → Cell → Bool

@@ -2,7 +2,7 @@
 // the calls share.
 ghost use mathlib.Core.Path.{_≡_};
 ghost use Prim.Native.Nat.{_≤_, _<_, _+_};
-ghost use Rattle.grid.specs.Panel.{upTo, goodPanel, onPanel, sameCell, black, neighbours, turned, turnedCell};
+ghost use Rattle.grid.specs.Panel.{upTo, goodPanel, area, onPanel, sameCell, black, neighbours, turned, turnedCell};
 ghost use Rattle.grid.specs.Refusal.{number};
 ghost use Rattle.grid.specs.Check.{checkPanel, checkEntry, checkOrder};
 
@@ -101,6 +101,13 @@ pub fn good_panel(p: Panel) -> bool
     } else {
         false
     }
+}
+
+// mn, the number of cells of the panel.
+pub fn area_of(p: Panel) -> usize
+    ensures { λ r. ⌜ r ≡ area p ⌝ }
+{
+    (p.width as usize) * (p.height as usize)
 }
 
 pub fn on_panel(p: Panel, c: Cell) -> bool

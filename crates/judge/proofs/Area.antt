@@ -1,19 +1,15 @@
--- The places of a panel's cells in scratch: there are at most 16,384, each cell's lies among them, and no two cells share one.
+-- The places of a panel's cells in scratch: each lies among the first mn, and no two cells share one.
 use Prim.Native.Nat.{ℕ, _+_, _-_, _*_, _≤_, _<_}
 use native.Mathlib.Omega.{arith}
-use native.Mathlib.Nat.{mul-le-mul, mul-le-mul-right, suc-mul, mul-comm, le-antisymm}
+use native.Mathlib.Nat.{mul-le-mul-right, suc-mul, mul-comm, le-antisymm}
 use native.Mathlib.Decide.{decLe}
 use mathlib.Core.Path.{_≡_, sym, ap}
 use mathlib.Core.Logic.{by-cases}
 use Rattle.grid.specs.declared.Panel.{Panel}
 use Rattle.grid.specs.declared.Cell.{Cell}
-use Rattle.grid.specs.Panel.{OnPanel}
-use Rattle.grid.proofs.Facts.{Good, cell-eq}
+use Rattle.grid.specs.Panel.{area, OnPanel}
+use Rattle.grid.proofs.Facts.{cell-eq}
 use Rattle.judge.specs.List.{place}
-use Rattle.judge.specs.Judge.{area}
-
-pub area-small : {p : Panel} → Good p → area p ≤ 16384
-area-small g = mul-le-mul (g .widest) (g .highest)
 
 -- a row and a column, from 0, as one number
 row-below : (m n r q : ℕ) → r < n → q < m → r * m + q < m * n

@@ -1,75 +1,30 @@
--- What a check that is good tells of each of its tests: taken apart from the front.
-use mathlib.Core.Path.{_≡_, refl, sym, ap, subst, _∙_}
-use mathlib.Core.Bool.{Bool, true, false, not}
-use mathlib.Core.Logic.{_≢_}
+-- What Judge's checks say where they refuse nothing, and what the call answers then and where they refuse.
+use mathlib.Core.Path.{_≡_, refl, sym, ap, _∙_}
+use mathlib.Core.Bool.{true}
 use mathlib.Core.List.{List, _++_}
 use Prim.Native.Nat.{ℕ, _≤_}
 use lib.Dec.{leb}
 use lib.ListN.{length, drop, replicate}
-use borrow.Author.Tests.{not-true, leb-true, le-leb}
+use borrow.Author.Tests.{leb-true, le-leb}
 use Rattle.grid.specs.declared.Panel.{Panel}
 use Rattle.grid.specs.declared.Cell.{Cell}
 use Rattle.grid.specs.declared.Refusal.{Refusal}
-use Rattle.grid.specs.declared.Refusal.the-variants.{Side, EntryOff, ExitOff, SameCell, ListLength, ShortBuffer, CellOff, NotNeighbours, Repeated, TooManyCells, WrongEnds}
+use Rattle.grid.specs.declared.Refusal.the-variants.{ListLength, ShortBuffer, CellOff, NotNeighbours, Repeated, TooManyCells, WrongEnds}
 use Rattle.grid.specs.declared.Check.{Check}
 use Rattle.grid.specs.declared.Check.the-variants.{Good, Refused}
-use Rattle.grid.specs.Panel.{goodPanel, onPanel, OnPanel, sameCell}
-use Rattle.grid.specs.Check.{expect, after, checkPanel, checkEntry, checkOrder}
-use Rattle.grid.proofs.Facts.{on, is-on, same-ne, ne-same}
+use Rattle.grid.specs.Panel.{area}
+use Rattle.grid.specs.Check.{expect, checkOrder}
 use Rattle.grid.specs.Bytes.{cellsIn}
 use Rattle.grid.proofs.Tests.{expect-yes, after-good, after-refused, answer-good, answer-refused}
+use Rattle.grid.proofs.Passed.{expect-passed, expect-rest, after-passed, after-rest, GoodOrder, good-order, is-order}
 use Rattle.judge.specs.declared.Judged.the-variants as answers
-use Rattle.judge.specs.List.{allOn, allSteps, noneTwice, runs}
-use Rattle.judge.specs.Judge.{area, wholeCells, sizesCheck, cellsCheck, judgeOf, scratchAfter}
-
-abbrev isGood : Check → Type 0
-isGood Good = Unit {0}
-isGood (Refused r) = ⊥
-
-pub expect-passed : (b : Bool) (r : Refusal) (k : Check) → expect b r k ≡ Good → b ≡ true
-expect-passed true r k e = refl
-expect-passed false r k e = absurd (subst isGood (sym e) tt)
-
-pub expect-rest : (b : Bool) (r : Refusal) (k : Check) → expect b r k ≡ Good → k ≡ Good
-expect-rest true r k e = e
-expect-rest false r k e = absurd (subst isGood (sym e) tt)
-
-pub after-passed : (c k : Check) → after c k ≡ Good → c ≡ Good
-after-passed Good k e = refl
-after-passed (Refused r) k e = absurd (subst isGood (sym e) tt)
-
-pub after-rest : (c k : Check) → after c k ≡ Good → k ≡ Good
-after-rest Good k e = e
-after-rest (Refused r) k e = absurd (subst isGood (sym e) tt)
-
--- what a good order is: document 01's tests 1 to 4
-pub record Order (p : Panel) (s t : Cell) : Type 0 where
-  pub sides : goodPanel p ≡ true
-  pub entry : OnPanel p s
-  pub exit : OnPanel p t
-  pub different : s ≢ t
-
-pub order : (p : Panel) (s t : Cell) → checkOrder p s t ≡ Good → Order p s t
-order p s t e =
-    let differ = expect (not (sameCell s t)) SameCell Good in
-    let ends = expect (onPanel p t) ExitOff differ in
-    let front = after-passed (checkEntry p s) ends e in
-    let back = after-rest (checkEntry p s) ends e in
-    record {
-      sides = expect-passed (goodPanel p) Side Good (after-passed (checkPanel p) (expect (onPanel p s) EntryOff Good) front);
-      entry = on p s (expect-passed (onPanel p s) EntryOff Good (after-rest (checkPanel p) (expect (onPanel p s) EntryOff Good) front));
-      exit = on p t (expect-passed (onPanel p t) ExitOff differ back);
-      different = same-ne s t (not-true _ (expect-passed (not (sameCell s t)) SameCell Good (expect-rest (onPanel p t) ExitOff differ back)));
-    }
-
-pub is-order : {p : Panel} {s t : Cell} → Order p s t → Good ≡ checkOrder p s t
-is-order {p} {s} {t} o =
-    after-good _ (sym (after-good _ (sym (expect-yes _ _ (o .sides) refl)) (expect-yes _ _ (is-on (o .entry)) refl)))
-    (expect-yes _ _ (is-on (o .exit)) (expect-yes _ _ (ap not (ne-same s t (o .different))) refl))
+use Rattle.list.specs.List.{wholeCells, allOn, allSteps}
+use Rattle.judge.specs.List.{noneTwice, runs}
+use Rattle.judge.specs.Judge.{sizesCheck, cellsCheck, judgeOf, scratchAfter}
 
 -- what is known once the refusals before 7 are passed
 pub record Sized (p : Panel) (s t : Cell) (bytes room : ℕ) : Type 0 where
-  pub ordered : Order p s t
+  pub ordered : GoodOrder p s t
   pub whole : wholeCells bytes ≡ true
   pub enough : area p ≤ room
 
@@ -78,7 +33,7 @@ sized p s t bytes room e =
     let short = expect (leb (area p) room) ShortBuffer Good in
     let rest = after-rest (checkOrder p s t) (expect (wholeCells bytes) ListLength short) e in
     record {
-      ordered = order p s t (after-passed (checkOrder p s t) (expect (wholeCells bytes) ListLength short) e);
+      ordered = good-order p s t (after-passed (checkOrder p s t) (expect (wholeCells bytes) ListLength short) e);
       whole = expect-passed (wholeCells bytes) ListLength short rest;
       enough = leb-true (area p) room (expect-passed (leb (area p) room) ShortBuffer Good (expect-rest (wholeCells bytes) ListLength short rest));
     }

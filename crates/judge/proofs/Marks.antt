@@ -12,11 +12,10 @@ use lib.Seq.{getD-set-same, getD-set-other, getD-take, take-all}
 use borrow.Author.Tests.{eqb-true, eq-eqb}
 use Rattle.grid.specs.declared.Panel.{Panel}
 use Rattle.grid.specs.declared.Cell.{Cell}
-use Rattle.grid.specs.Panel.{OnPanel, sameCell}
+use Rattle.grid.specs.Panel.{area, OnPanel, sameCell}
 use Rattle.grid.specs.Track.{All}
 use Rattle.grid.proofs.Facts.{and-left, and-right, and-both, same-eq, same-ne}
 use Rattle.judge.specs.List.{among, noneTwice, place}
-use Rattle.judge.specs.Judge.{area}
 use Rattle.judge.proofs.Area.{place-below, place-once}
 
 -- a cell's place is not marked

@@ -13,17 +13,21 @@ use Rattle.grid.specs.declared.Cell.{Cell}
 use Rattle.grid.specs.declared.Cells.{Cells}
 use Rattle.grid.specs.declared.Check.{Check}
 use Rattle.grid.specs.declared.Check.the-variants as check
-use Rattle.grid.specs.Panel.{goodPanel}
+use Rattle.grid.specs.Panel.{goodPanel, area}
 use Rattle.grid.specs.Track.{Walk, All, Track}
 use Rattle.grid.specs.Bytes.{cellsIn, front}
 use Rattle.grid.specs.Check.{answer}
 use Rattle.grid.proofs.Tests.{after-good, answer-good}
 use Rattle.judge.specs.declared.Judged.{Judged}
 use Rattle.judge.specs.declared.Judged.the-variants.{Refused, Accepted}
-use Rattle.judge.specs.Judge.{area, sizesCheck, cellsCheck, judgeCheck, judgeOf, judgedCount}
-use Rattle.judge.proofs.Checks.{after-passed, after-rest, Sized, sized, is-sized, Passed, passed, is-passed}
-use Rattle.judge.proofs.Bytes.{length-cells, whole, is-whole}
-use Rattle.judge.proofs.Tracks.{all-on, is-all-on, once, is-once, walk, walk-steps, walk-runs}
+use Rattle.judge.specs.Judge.{sizesCheck, cellsCheck, judgeCheck, judgeOf, judgedCount}
+use Rattle.grid.proofs.Facts.{good, is-good}
+use Rattle.grid.proofs.Passed.{after-passed, after-rest}
+use Rattle.judge.proofs.Checks.{Sized, sized, is-sized, Passed, passed, is-passed}
+use Rattle.list.proofs.Cells.{length-cells}
+use Rattle.list.proofs.Whole.{whole, is-whole}
+use Rattle.list.proofs.Tracks.{all-on, is-all-on, walk-steps}
+use Rattle.judge.proofs.Tracks.{once, is-once, walk, walk-runs}
 use Rattle.judge.proofs.Marks.{at-most}
 
 -- the bytes hold a track between two different cells of a good panel, and nothing else
@@ -65,8 +69,8 @@ module _ (p : Panel) (s t : Cell) (list : List ℕ) (room : ℕ) where
       let z = sized p s t (length list) room (after-passed sizes cells g) in
       let j = passed p s t (cellsIn list) (after-rest sizes cells g) in
       record {
-        sides = z .ordered .sides;
-        different = z .ordered .different;
+        sides = is-good (z .ordered .panel);
+        different = z .ordered .differ;
         even = whole (length list) (z .whole) .1;
         track = record {
           walk = walk s t (cellsIn list) (j .steps) (j .ends);
@@ -83,7 +87,7 @@ module _ (p : Panel) (s t : Cell) (list : List ℕ) (room : ℕ) where
       let o = is-once (b .track .once) in
       let some : 1 ≤ length list = omega (arith, walk-some w, length-cells list) in
       let z : Sized p s t (length list) room = record {
-        ordered = record { sides = b .sides; entry = walk-entry w a; exit = walk-exit w a; different = b .different };
+        ordered = record { panel = good p (b .sides); entry = walk-entry w a; exit = walk-exit w a; differ = b .different };
         whole = is-whole (length list) some (b .even);
         enough = h;
       } in

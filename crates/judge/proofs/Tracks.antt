@@ -1,23 +1,15 @@
--- The tests of a list of cells, each as the fact that it tests: every cell on the panel, no cell twice, a walk from s to t. Together they
--- say that the list is a track. Each law goes along the list.
+-- The tests of a list of cells, each as the fact that it tests: no cell twice, a walk from s to t. With every cell on the panel they say
+-- that the list is a track. Each law goes along the list.
 use mathlib.Core.Path.{_≡_, refl, sym, ap, subst}
 use mathlib.Core.Bool.{Bool, true, false, not, _||_, false≢true}
 use mathlib.Core.Logic.{_≢_}
 use mathlib.Core.List.{List, [], _∷_}
-use Rattle.grid.specs.declared.Panel.{Panel}
 use Rattle.grid.specs.declared.Cell.{Cell}
-use Rattle.grid.specs.Panel.{onPanel, OnPanel, sameCell, Neighbours, neighbours}
+use Rattle.grid.specs.Panel.{sameCell, neighbours}
 use Rattle.grid.specs.Track.{Walk, All, Once}
-use Rattle.grid.proofs.Facts.{and-left, and-right, and-both, on, is-on, next, is-next, same-eq, eq-same, same-ne, ne-same}
-use Rattle.judge.specs.List.{allOn, stepsFrom, allSteps, among, noneTwice, lastFrom, runs}
-
-pub all-on : (p : Panel) (l : List Cell) → allOn p l ≡ true → All (OnPanel p) l
-all-on p [] e = All.none
-all-on p (c ∷ l) e = All.more (on p c (and-left (onPanel p c) (allOn p l) e)) (all-on p l (and-right (onPanel p c) (allOn p l) e))
-
-pub is-all-on : {p : Panel} {l : List Cell} → All (OnPanel p) l → allOn p l ≡ true
-is-all-on All.none = refl
-is-all-on (All.more o r) = and-both (is-on o) (is-all-on r)
+use Rattle.grid.proofs.Facts.{and-left, and-right, and-both, next, same-eq, eq-same, same-ne, ne-same}
+use Rattle.list.specs.List.{stepsFrom, allSteps}
+use Rattle.judge.specs.List.{among, noneTwice, lastFrom, runs}
 
 -- the cell differs from every cell of a list that it does not stand in
 or-left : (a b : Bool) → not (a || b) ≡ true → a ≡ false
@@ -56,14 +48,6 @@ walk s t [] e f = absurd (false≢true f)
 walk s t (a ∷ l) e f =
     subst (λ (u : Cell). Walk u t (a ∷ l)) (same-eq a s (and-left (sameCell a s) (sameCell (lastFrom a l) t) f))
     (walk-from a t l e (and-right (sameCell a s) (sameCell (lastFrom a l) t) f))
-
-steps-after : {a b t : Cell} {l : List Cell} → Neighbours a b → Walk b t l → stepsFrom a l ≡ true
-steps-after n Walk.end = and-both (is-next n) refl
-steps-after n (Walk.step m w) = and-both (is-next n) (steps-after m w)
-
-pub walk-steps : {s t : Cell} {l : List Cell} → Walk s t l → allSteps l ≡ true
-walk-steps Walk.end = refl
-walk-steps (Walk.step n w) = steps-after n w
 
 last-after : (a : Cell) {b t : Cell} {l : List Cell} → Walk b t l → lastFrom a l ≡ t
 last-after a Walk.end = refl

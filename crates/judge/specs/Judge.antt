@@ -1,28 +1,21 @@
 -- Document 01, "Judge": what the call answers and what it leaves in scratch, for every input.
-use Prim.Native.Nat.{ℕ, _*_, _%_}
-use mathlib.Core.Bool.{Bool, _&&_}
+use Prim.Native.Nat.{ℕ}
 use mathlib.Core.List.{List, _++_}
-use lib.Dec.{leb, eqb}
+use lib.Dec.{leb}
 use lib.ListN.{length, drop, replicate}
 use Rattle.grid.specs.declared.Panel.{Panel}
 use Rattle.grid.specs.declared.Cell.{Cell}
 use Rattle.grid.specs.declared.Refusal.the-variants.{ListLength, ShortBuffer, CellOff, NotNeighbours, Repeated, TooManyCells, WrongEnds}
 use Rattle.grid.specs.declared.Check.{Check}
 use Rattle.grid.specs.declared.Check.the-variants.{Good}
+use Rattle.grid.specs.Panel.{area}
 use Rattle.grid.specs.Check.{expect, after, answer, checkOrder}
 use Rattle.grid.specs.Refusal.{number}
 use Rattle.grid.specs.Bytes.{cellsIn}
+use Rattle.list.specs.List.{wholeCells, allOn, allSteps}
 use Rattle.judge.specs.declared.Judged.{Judged}
 use Rattle.judge.specs.declared.Judged.the-variants.{Refused, Accepted}
-use Rattle.judge.specs.List.{allOn, allSteps, noneTwice, runs}
-
--- mn, the cells of a panel
-abbrev pub area : Panel → ℕ
-area p = p .width * p .height
-
--- a number of bytes that is neither 0 nor odd
-abbrev pub wholeCells : ℕ → Bool
-wholeCells k = leb 1 k && eqb (k % 2) 0
+use Rattle.judge.specs.List.{noneTwice, runs}
 
 -- the refusals tested before 7: 1 to 4; 6, the list is empty or has an odd number of bytes; 5, scratch is shorter than mn
 abbrev pub sizesCheck : Panel → Cell → Cell → ℕ → ℕ → Check

@@ -1,25 +1,10 @@
--- Document 01, "Judge": the tests of a list of cells, each over the whole list.
+-- Document 01, "Judge": the tests of a list of cells that Judge alone makes, each over the whole list.
 use Prim.Native.Nat.{ℕ, _+_, _-_, _*_}
 use mathlib.Core.Bool.{Bool, true, false, not, _&&_, _||_}
 use mathlib.Core.List.{List, [], _∷_}
 use Rattle.grid.specs.declared.Panel.{Panel}
 use Rattle.grid.specs.declared.Cell.{Cell}
-use Rattle.grid.specs.Panel.{onPanel, neighbours, sameCell}
-
--- every cell is on the panel
-abbrev pub allOn : Panel → List Cell → Bool
-allOn p [] = true
-allOn p (c ∷ l) = onPanel p c && allOn p l
-
--- a cell and those that follow it: each two successive cells are neighbours
-abbrev pub stepsFrom : Cell → List Cell → Bool
-stepsFrom a [] = true
-stepsFrom a (b ∷ l) = neighbours a b && stepsFrom b l
-
--- each two successive cells are neighbours
-abbrev pub allSteps : List Cell → Bool
-allSteps [] = true
-allSteps (a ∷ l) = stepsFrom a l
+use Rattle.grid.specs.Panel.{sameCell}
 
 -- the cell stands in the list
 abbrev pub among : Cell → List Cell → Bool

@@ -5,28 +5,24 @@ use grid::Cells;
 use grid::Check;
 use grid::Panel;
 use grid::Refusal;
+use list::all_adjacent;
+use list::all_on_panel;
+use list::whole_cells;
 ghost use mathlib.Core.Path.{_≡_};
 ghost use mathlib.Core.Bool.{true};
 ghost use mathlib.Core.List.{_++_};
 ghost use Prim.Native.Nat.{_+_, _*_, _%_, _≤_, _<_};
 ghost use lib.ListN.{length, take, drop, replicate};
-ghost use Rattle.grid.specs.Panel.{goodPanel, onPanel, dist, neighbours, sameCell};
+ghost use Rattle.grid.specs.Panel.{goodPanel, area, onPanel, sameCell};
 ghost use Rattle.grid.specs.Bytes.{cellsIn};
-ghost use Rattle.judge.specs.List.{allOn, allSteps, noneTwice, runs, place};
-ghost use Rattle.judge.specs.Judge.{area, wholeCells, sizesCheck, cellsCheck, judgeOf, scratchAfter};
+ghost use Rattle.list.specs.List.{wholeCells, allOn};
+ghost use Rattle.judge.specs.List.{noneTwice, runs, place};
+ghost use Rattle.judge.specs.Judge.{sizesCheck, cellsCheck, judgeOf, scratchAfter};
 
 // What Judge answers: the refusal, or the number of cells of the track.
 pub enum Judged {
     Refused(Refusal),
     Accepted(Cells),
-}
-
-// mn, the number of cells of the panel.
-fn area_of(p: Panel) -> usize
-    requires { ⌜ goodPanel p ≡ true ⌝ }
-    ensures { λ r. ⌜ r ≡ area p ⌝ }
-{
-    (p.width as usize) * (p.height as usize)
 }
 
 // The refusals that are tested before any cell is looked at.
@@ -37,73 +33,13 @@ fn check_sizes(p: Panel, entry: Cell, exit: Cell, bytes: usize, room: usize) -> 
     if let Check::Refused(r) = c {
         return Check::Refused(r);
     }
-    if bytes == 0 {
+    if !whole_cells(bytes) {
         return Check::Refused(Refusal::ListLength);
     }
-    if bytes % 2 != 0 {
-        return Check::Refused(Refusal::ListLength);
-    }
-    if room < area_of(p) {
+    if room < grid::area_of(p) {
         return Check::Refused(Refusal::ShortBuffer);
     }
     Check::Good
-}
-
-// Whether the two bytes are a cell of the panel.
-fn on_panel(p: Panel, x: u8, y: u8) -> bool
-    ensures { λ r. ⌜ r ≡ onPanel p (record { x = x; y = y }) ⌝ }
-{
-    grid::on_panel(
-        p,
-        Cell {
-            x: x as u32,
-            y: y as u32,
-        },
-    )
-}
-
-// Whether every cell of the list is on the panel.
-fn all_on_panel(p: Panel, list: &[u8]) -> bool
-    ensures { λ r. ⌜ r ≡ allOn p (cellsIn (now (list .entry))) ⌝ }
-{
-    let mut i = 0;
-    while i + 1 < list.len() {
-        if !on_panel(p, list[i], list[i + 1]) {
-            return false;
-        }
-        i += 2;
-    }
-    true
-}
-
-// How far two bytes are apart.
-fn gap(a: u8, b: u8) -> u8
-    ensures { λ r. ⌜ r ≡ dist a b ⌝ }
-{
-    if a < b { b - a } else { a - b }
-}
-
-// Whether two cells, each given by its two bytes, are neighbours.
-fn adjacent(ax: u8, ay: u8, bx: u8, by: u8) -> bool
-    ensures { λ r. ⌜ r ≡ neighbours (record { x = ax; y = ay }) (record { x = bx; y = by }) ⌝ }
-{
-    let dx = gap(ax, bx) as u32;
-    let dy = gap(ay, by) as u32;
-    dx + dy == 1
-}
-
-// Whether each two successive cells of the list are neighbours.
-fn all_adjacent(list: &[u8]) -> bool
-    ensures { λ r. ⌜ r ≡ allSteps (cellsIn (now (list .entry))) ⌝ }
-{
-    let mut i = 0;
-    while i + 3 < list.len() {
-        if !adjacent(list[i], list[i + 1], list[i + 2], list[i + 3]) {
-            return false;
-        }
-        i += 2;
-    }
-    true
 }
 
 // Writes 0 into the first k bytes.
@@ -159,7 +95,7 @@ fn all_once(p: Panel, list: &[u8], scratch: &mut [u8]) -> bool
     ensures same { λ _. ⌜ now (scratch .exit) ≡ now (scratch .entry) ⌝ }
 {
     let once = mark_all(p, list, scratch);
-    let places = area_of(p);
+    let places = grid::area_of(p);
     clear(scratch, places);
     once
 }
@@ -198,7 +134,7 @@ fn check_cells(p: Panel, entry: Cell, exit: Cell, list: &[u8], scratch: &mut [u8
     ensures told { λ r. ⌜ r ≡ cellsCheck p entry exit (cellsIn (now (list .entry))) ⌝ }
     ensures left { λ _. ⌜ now (scratch .exit) ≡ replicate (area p) 0 ++ drop (area p) (now (scratch .entry)) ⌝ }
 {
-    let area = area_of(p);
+    let area = grid::area_of(p);
     clear(scratch, area);
     if !all_on_panel(p, list) {
         return Check::Refused(Refusal::CellOff);

@@ -1,9 +1,8 @@
--- What a check says that refuses nothing, and what the answer of a part of Read says of the check.
+-- What the checks of Write and Read say where they refuse nothing, and what the answer of a part of Read says of the check.
 use Prim.Native.Nat.{ℕ, _+_, _-_, _≤_, _<_}
 use mathlib.Core.Path.{_≡_, refl}
 use mathlib.Core.Bool.{Bool, true, false, cond}
 use mathlib.Core.List.{List}
-use native.Mathlib.Nat.{mul-le-mul}
 use native.Mathlib.Omega.{arith}
 use lib.Dec.{leb}
 use lib.ListN.{length}
@@ -14,33 +13,20 @@ use Rattle.grid.specs.declared.Refusal.{Refusal}
 use Rattle.grid.specs.declared.Cells.{Cells}
 use Rattle.grid.specs.declared.Check.{Check}
 use Rattle.grid.specs.declared.Check.the-variants.{Good}
-use Rattle.grid.specs.Check.{checkPanel, checkEntry, expect, after, answer}
-use Rattle.grid.specs.Panel.{onPanel, goodPanel}
+use Rattle.grid.specs.Check.{checkPanel, checkEntry, answer}
+use Rattle.grid.specs.Panel.{area, onPanel, goodPanel}
 use Rattle.grid.specs.Bytes.{cellsIn}
 use Rattle.record.specs.declared.Moved.the-variants.{Refused}
 use Rattle.record.specs.declared.Walked.the-variants.{On, Off}
 use Rattle.record.specs.declared.Found.{Found}
 use Rattle.record.specs.declared.Found.the-variants.{Record}
 use Rattle.record.specs.Format.{headLength, allKnown, walkFrom}
-use Rattle.record.specs.Write.{area, wholeCells, allOn, allNext, goodCount, checkList}
+use Rattle.list.specs.List.{wholeCells, allOn, allSteps}
+use Rattle.record.specs.Write.{goodCount, checkList}
 use Rattle.record.specs.Read.{hasMark, panelIn, entryIn, stepsIn, lettersIn, cellsRead, goodSteps, checkHead, checkKnown, checkLetters, checkRecord, walkedOf, recordCells}
-use Rattle.grid.proofs.Facts.{good, on}
+use Rattle.grid.proofs.Facts.{good, is-good, is-on, area-small}
+use Rattle.grid.proofs.Passed.{expect-passed, expect-rest, after-passed, after-rest, good-panel, good-entry}
 use Rattle.record.proofs.Laws.{both}
-
--- What a check that finds nothing says
-
-pub expect-good : (b : Bool) (r : Refusal) (k : Check) → expect b r k ≡ Good → (b ≡ true) × (k ≡ Good)
-expect-good true r k e = (refl, e)
-expect-good false r k e = let z : _≡_ {A = ℕ} 0 1 = cc in (absurd (omega arith), absurd (omega arith))
-
-pub both-good : (c k : Check) → after c k ≡ Good → (c ≡ Good) × (k ≡ Good)
-both-good Good k e = (refl, e)
-both-good (Check.Refused r) k e = let z : _≡_ {A = ℕ} 0 1 = cc in (absurd (omega arith), absurd (omega arith))
-
--- mn is at most 128 by 128
-pub area-bound : (p : Panel) → goodPanel p ≡ true → area p ≤ 16384
-unfolding area
-area-bound p g = let s = good p g in mul-le-mul (s .widest) (s .highest)
 
 -- what a head that is not refused says
 pub record GoodHead (f : List ℕ) : Type 0 where
@@ -55,24 +41,21 @@ pub record GoodHead (f : List ℕ) : Type 0 where
 pub head-good : (f : List ℕ) → checkHead f ≡ Good → GoodHead f
 unfolding goodSteps
 head-good f e =
-    let h₁ = expect-good (hasMark f) _ _ e in
-    let h₂ = expect-good (leb headLength (length f)) _ _ (h₁ .1) in
-    let h₃ = both-good (checkEntry (panelIn f) (entryIn f)) _ (h₂ .1) in
-    let h₄ = both-good (checkPanel (panelIn f)) _ (h₃ .0) in
-    let h₅ = expect-good (goodPanel (panelIn f)) _ _ (h₄ .0) in
-    let h₆ = expect-good (onPanel (panelIn f) (entryIn f)) _ _ (h₄ .1) in
-    let h₇ = expect-good (goodSteps (panelIn f) (stepsIn f)) _ _ (h₃ .1) in
-    let h₈ = expect-good (leb (headLength + stepsIn f) (length f)) _ _ (h₇ .1) in
-    let k = both (leb 1 (stepsIn f)) (leb (stepsIn f) (area (panelIn f) - 1)) (h₇ .0) in
+    let e₁ = expect-rest (hasMark f) _ _ e in
+    let e₂ = expect-rest (leb headLength (length f)) _ _ e₁ in
+    let e₃ = after-rest (checkEntry (panelIn f) (entryIn f)) _ e₂ in
+    let e₄ = expect-rest (goodSteps (panelIn f) (stepsIn f)) _ _ e₃ in
+    let front = good-entry (panelIn f) (entryIn f) (after-passed _ _ e₂) in
+    let k = both (leb 1 (stepsIn f)) (leb (stepsIn f) (area (panelIn f) - 1)) (expect-passed _ _ _ e₃) in
     let low = leb-true 1 (stepsIn f) (k .0) in
     record {
-      mark = h₁ .0;
-      long = leb-true _ _ (h₂ .0);
-      panel = h₅ .0;
-      entry = h₆ .0;
+      mark = expect-passed (hasMark f) _ _ e;
+      long = leb-true _ _ (expect-passed (leb headLength (length f)) _ _ e₁);
+      panel = is-good (front .0);
+      entry = is-on (front .1);
       some = low;
       few = below (stepsIn f) (area (panelIn f)) low (leb-true _ _ (k .1));
-      whole = leb-true _ _ (h₈ .0);
+      whole = leb-true _ _ (expect-passed (leb (headLength + stepsIn f) (length f)) _ _ e₄);
     }
   where
     below : (k n : ℕ) → 1 ≤ k → k ≤ n - 1 → k < n
@@ -86,40 +69,37 @@ pub record GoodRecord (f : List ℕ) : Type 0 where
 
 pub record-good : (f : List ℕ) → checkRecord f ≡ Good → GoodRecord f
 record-good f e =
-    let h = both-good (checkHead f) (checkLetters (panelIn f) (entryIn f) (lettersIn f)) e in
-    let k = both-good (checkKnown (lettersIn f)) _ (h .1) in
+    let k = after-rest (checkHead f) (checkLetters (panelIn f) (entryIn f) (lettersIn f)) e in
     record {
-      head = head-good f (h .0);
-      letters = expect-good (allKnown (lettersIn f)) _ _ (k .0) .0;
-      cells = expect-good (allOn (panelIn f) (cellsRead f)) _ _ (k .1) .0;
+      head = head-good f (after-passed (checkHead f) _ e);
+      letters = expect-passed (allKnown (lettersIn f)) _ _ (after-passed (checkKnown (lettersIn f)) _ k);
+      cells = expect-passed (allOn (panelIn f) (cellsRead f)) _ _ (after-rest (checkKnown (lettersIn f)) _ k);
     }
 
 -- the step count of a good head has two bytes to spare
 pub steps-bound : (f : List ℕ) → GoodHead f → stepsIn f < 16384
-steps-bound f h = omega (arith, h .few, area-bound (panelIn f) (h .panel))
+steps-bound f h = omega (arith, h .few, area-small (good (panelIn f) (h .panel)))
 
 -- what a list that is not refused says
 pub record GoodList (p : Panel) (l : List Cell) : Type 0 where
   pub panel : goodPanel p ≡ true
   pub on : allOn p l ≡ true
-  pub next : allNext l ≡ true
+  pub next : allSteps l ≡ true
   pub some : 2 ≤ length l
   pub few : length l ≤ area p
 
 pub list-good : (p : Panel) (list : List ℕ) → checkList p list ≡ Good → GoodList p (cellsIn list)
 unfolding goodCount
 list-good p list e =
-    let h₁ = both-good (checkPanel p) _ e in
-    let h₂ = expect-good (goodPanel p) _ _ (h₁ .0) in
-    let h₃ = expect-good (wholeCells list) _ _ (h₁ .1) in
-    let h₄ = expect-good (allOn p (cellsIn list)) _ _ (h₃ .1) in
-    let h₅ = expect-good (allNext (cellsIn list)) _ _ (h₄ .1) in
-    let h₆ = expect-good (goodCount p (length (cellsIn list))) _ _ (h₅ .1) in
-    let k = both (leb 2 (length (cellsIn list))) (leb (length (cellsIn list)) (area p)) (h₆ .0) in
+    let e₁ = after-rest (checkPanel p) _ e in
+    let e₂ = expect-rest (wholeCells (length list)) _ _ e₁ in
+    let e₃ = expect-rest (allOn p (cellsIn list)) _ _ e₂ in
+    let e₄ = expect-rest (allSteps (cellsIn list)) _ _ e₃ in
+    let k = both (leb 2 (length (cellsIn list))) (leb (length (cellsIn list)) (area p)) (expect-passed (goodCount p (length (cellsIn list))) _ _ e₄) in
     record {
-      panel = h₂ .0;
-      on = h₄ .0;
-      next = h₅ .0;
+      panel = is-good (good-panel p (after-passed (checkPanel p) _ e));
+      on = expect-passed (allOn p (cellsIn list)) _ _ e₂;
+      next = expect-passed (allSteps (cellsIn list)) _ _ e₃;
       some = leb-true _ _ (k .0);
       few = leb-true _ _ (k .1);
     }

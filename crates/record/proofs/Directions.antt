@@ -12,7 +12,7 @@ use Rattle.grid.specs.declared.Cell.{Cell}
 use Rattle.grid.specs.declared.Panel.{Panel}
 use Rattle.grid.specs.Panel.{dist, apart, neighbours, onPanel}
 use Rattle.record.specs.Format.{north, east, south, west, letter, lettersFrom, known, moved, allKnown, walkOn, walkFrom}
-use Rattle.record.specs.Write.{allOn, nextFrom}
+use Rattle.list.specs.List.{allOn, stepsFrom}
 use Rattle.grid.proofs.Facts.{on as on-panel-is}
 use Rattle.record.proofs.Laws.{both}
 
@@ -106,15 +106,15 @@ known-letters a [] = refl
 known-letters a (b ∷ l) = sym (and-yes _ (letter-known a b) (sym (known-letters b l)))
 
 -- the letters of a list of neighbours lead over that list
-pub walk-letters : (a : Cell) (l : List Cell) → nextFrom a l ≡ true → walkOn a (lettersFrom a l) ≡ l
+pub walk-letters : (a : Cell) (l : List Cell) → stepsFrom a l ≡ true → walkOn a (lettersFrom a l) ≡ l
 walk-letters a [] e = refl
 walk-letters a (b ∷ l) e =
-    let h = both (neighbours a b) (nextFrom b l) e in
+    let h = both (neighbours a b) (stepsFrom b l) e in
     ap (λ (d : Cell). d ∷ walkOn d (lettersFrom b l)) (moved-letter a b (h .0)) ∙ ap (λ (k : List Cell). b ∷ k) (walk-letters b l (h .1))
 
 -- letters that stay on a panel are those of the list that they lead over, and its cells are neighbours
 pub letters-walk : (p : Panel) (c : Cell) (l : List ℕ) → allKnown l ≡ true → allOn p (walkFrom c l) ≡ true
-    → (lettersFrom c (walkOn c l) ≡ l) × (nextFrom c (walkOn c l) ≡ true)
+    → (lettersFrom c (walkOn c l) ≡ l) × (stepsFrom c (walkOn c l) ≡ true)
 letters-walk p c [] k e = (refl, refl)
 letters-walk p c (b ∷ l) k e =
     let h = both (known b) (allKnown l) k in

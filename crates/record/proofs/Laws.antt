@@ -1,37 +1,22 @@
 -- Numbers, tests, cells and letters: laws that the proofs of the functions and the theorems on records share.
-use Prim.Native.Nat.{ℕ, _+_, _-_, _*_, _^_, _≤_, _<_}
-use mathlib.Core.Path.{_≡_, refl, sym, ap, _∙_, subst⁻¹}
+use Prim.Native.Nat.{ℕ, _+_, _-_, _≤_}
+use mathlib.Core.Path.{_≡_, refl, sym, _∙_}
 use mathlib.Core.Bool.{Bool, true, false, cond, _&&_, _||_}
 use mathlib.Core.List.{List, [], _∷_}
-use native.Mathlib.Nat.{lt-of-le-of-lt, le-of-lt, mul-le-mul-left, mul-lt-mul-of-pos-right}
 use native.Mathlib.Omega.{arith}
-use lib.Pow.{pow-pos, pow-add}
 use lib.Dec.{leb, ltb, eqb}
-use borrow.Author.Tests.{eq-eqb, ne-eqb, eqb-true, eqb-false, lt-ltb, le-ltb, leb-true, leb-false}
+use borrow.Author.Tests.{ne-eqb, lt-ltb, le-ltb, leb-true, leb-false}
 use Rattle.grid.specs.declared.Cell.{Cell}
 use Rattle.grid.specs.declared.Panel.{Panel}
 use Rattle.grid.specs.declared.Refusal.{Refusal}
 use Rattle.grid.specs.declared.Refusal.the-variants.{UnknownByte}
-use Rattle.grid.specs.Panel.{OnPanel, dist, apart, neighbours, onPanel, goodPanel}
+use Rattle.grid.specs.Panel.{OnPanel, onPanel, goodPanel}
 use Rattle.record.specs.declared.Moved.the-variants.{Refused, To}
 use Rattle.record.specs.Format.{known, moved, moveOf, largest, north, east, south, west}
-use Rattle.record.specs.Write.{allOn}
+use Rattle.list.specs.List.{allOn}
 use Rattle.grid.proofs.Facts.{and-left, and-right, and-both, good, on, is-on}
 
 -- Numbers
-
--- the product of two numbers of k bits has 2 k bits
-pub product-fits : (k : ℕ) {a b : ℕ} → a < 2 ^ k → b < 2 ^ k → a * b < 2 ^ (k + k)
-product-fits k {a} {b} ha hb =
-    subst⁻¹ (λ (n : ℕ). a * b < n) (pow-add 2 k k)
-    (lt-of-le-of-lt (mul-le-mul-left a (le-of-lt hb)) (mul-lt-mul-of-pos-right ha (pow-pos k)))
-
-pub same-test : (a b c d : ℕ) → (a ≡ b → c ≡ d) → (c ≡ d → a ≡ b) → eqb a b ≡ eqb c d
-same-test a b c d f g = by-case (eqb c d) refl
-  where
-    by-case : (t : Bool) → eqb c d ≡ t → eqb a b ≡ eqb c d
-    by-case true e = eq-eqb a b (g (eqb-true c d e)) ∙ sym e
-    by-case false e = ne-eqb a b (λ h. eqb-false c d e (f h)) ∙ sym e
 
 -- below n is at most n − 1, for numbers from 1
 pub below-last : (k n : ℕ) → 1 ≤ k → ltb k n ≡ leb k (n - 1)
@@ -46,19 +31,7 @@ below-last k n h = by-case (leb k (n - 1)) refl
 pub both : (a b : Bool) → (a && b) ≡ true → (a ≡ true) × (b ≡ true)
 both a b e = (and-left a b e, and-right a b e)
 
--- a test of the rest of a list, where its first element fails or passes
-pub stops : {t u b : Bool} (k : Bool) → t ≡ u → u ≡ (b && k) → b ≡ false → false ≡ t
-stops k e f h = sym (e ∙ f ∙ ap (λ (x : Bool). x && k) h)
-
-pub goes-on : {t u b : Bool} (k : Bool) → t ≡ u → u ≡ (b && k) → b ≡ true → t ≡ k
-goes-on k e f h = e ∙ f ∙ ap (λ (x : Bool). x && k) h
-
 -- Cells
-
--- two distances, and whether they add up to 1
-pub one-step : (a b : Cell) (dx dy : ℕ) → dx ≡ dist (a .x) (b .x) → dy ≡ dist (a .y) (b .y) → eqb (dx + dy) 1 ≡ neighbours a b
-unfolding apart dist
-one-step a b dx dy ex ey = ap (λ (n : ℕ). eqb n 1) (ap (λ (n : ℕ). n + dy) ex ∙ ap (λ (n : ℕ). dist (a .x) (b .x) + n) ey)
 
 -- a cell of a good panel is one of the largest
 pub on-largest : (p : Panel) (c : Cell) → goodPanel p ≡ true → onPanel p c ≡ true → OnPanel largest c

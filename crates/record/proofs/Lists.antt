@@ -1,18 +1,18 @@
 -- Lists walked from the front: what stands at a place and what is left behind it, and buffers that are filled so.
-use Prim.Native.Nat.{ℕ, suc, _+_, _/_, _≤_, _<_}
+use Prim.Native.Nat.{ℕ, suc, _+_, _≤_, _<_}
 use mathlib.Core.Path.{_≡_, refl, sym, ap, ap₂, _∙_, subst⁻¹}
-use mathlib.Core.Bool.{true, _&&_}
 use mathlib.Core.List.{List, [], _∷_, _++_}
 use native.Mathlib.Numerals.{add-one}
 use native.Mathlib.Omega.{arith}
-use lib.ListN.{length, take, drop, getD, set, length-drop, length-set, take-append-drop}
+use lib.ListN.{length, take, drop, getD, set, length-set, take-append-drop}
 use lib.Seq.{drop-cons, take-suc-set, drop-set-lt, append-snoc, sets-eq, drop-append-add, drop-drop}
 use Rattle.grid.specs.declared.Cell.{Cell}
 use Rattle.grid.specs.declared.Panel.{Panel}
-use Rattle.grid.specs.Panel.{neighbours}
 use Rattle.grid.specs.Bytes.{cellsIn}
-use Rattle.record.specs.Format.{headLength, cellAt, letter, lettersFrom, lettersOf, stepsOf, headOf, recordOf, moved, walkOn}
-use Rattle.record.specs.Write.{allNext, recordLength}
+use Rattle.list.specs.List.{cellAt}
+use Rattle.list.proofs.Cells.{pairs-more, pairs-end}
+use Rattle.record.specs.Format.{headLength, letter, lettersFrom, lettersOf, stepsOf, headOf, recordOf, moved, walkOn}
+use Rattle.record.specs.Write.{recordLength}
 
 -- Lists
 
@@ -22,53 +22,6 @@ bytes-more l i h = rw (add-one, drop-cons l i 0)
 
 pub bytes-end : (l : List ℕ) (i : ℕ) → length l ≤ i → drop i l ≡ []
 bytes-end l i h = lib.ListN.drop-of-length-le l h
-
--- the cell at i, and those behind it
-pub cells-more : (l : List ℕ) (i : ℕ) → i + 1 < length l → cellsIn (drop i l) ≡ cellAt l i ∷ cellsIn (drop (i + 2) l)
-cells-more l i h =
-    let two : i + 1 + 1 ≡ i + 2 = omega arith in
-    ap cellsIn (bytes-more l i (omega arith)
-    ∙ ap (λ (k : List ℕ). getD l i 0 ∷ k) (bytes-more l (i + 1) h
-    ∙ ap (λ (j : ℕ). getD l (i + 1) 0 ∷ drop j l) two))
-
--- what is left is less than a cell
-pub cells-end : (l : List ℕ) (i : ℕ) → length l ≤ i + 1 → cellsIn (drop i l) ≡ []
-cells-end l i h = short (drop i l) (omega (arith, length-drop i l))
-  where
-    short : (k : List ℕ) → length k ≤ 1 → cellsIn k ≡ []
-    short [] e = refl
-    short (x ∷ []) e = refl
-    short (x ∷ y ∷ k) e = absurd (omega arith)
-
--- of what goes by each two successive cells: the first two of the cells from i, and the rest
-pub pairs-more {ℓ} : {X : Type ℓ} (F : List Cell → X) (G : Cell → Cell → X → X)
-    → ((a b : Cell) (r : List Cell) → F (a ∷ b ∷ r) ≡ G a b (F (b ∷ r)))
-    → (l : List ℕ) (i : ℕ) → i + 3 < length l
-    → F (cellsIn (drop i l)) ≡ G (cellAt l i) (cellAt l (i + 2)) (F (cellsIn (drop (i + 2) l)))
-pairs-more F G step l i h =
-    let b = cells-more l (i + 2) (omega arith) in
-    ap F (cells-more l i (omega arith) ∙ ap (λ (k : List Cell). cellAt l i ∷ k) b)
-    ∙ step (cellAt l i) (cellAt l (i + 2)) (cellsIn (drop (i + 2 + 2) l))
-    ∙ ap (λ (k : List Cell). G (cellAt l i) (cellAt l (i + 2)) (F k)) (sym b)
-
--- the same where less than two cells are left
-pub pairs-end {ℓ} : {X : Type ℓ} (F : List Cell → X) (z : X) → F [] ≡ z → ((a : Cell) → F (a ∷ []) ≡ z)
-    → (l : List ℕ) (i : ℕ) → length l ≤ i + 3 → F (cellsIn (drop i l)) ≡ z
-pairs-end F z none one l i h = short (drop i l) (omega (arith, length-drop i l))
-  where
-    short : (k : List ℕ) → length k ≤ 3 → F (cellsIn k) ≡ z
-    short [] e = none
-    short (x ∷ []) e = none
-    short (x ∷ y ∷ []) e = one (record { x = x; y = y })
-    short (x ∷ y ∷ w ∷ []) e = one (record { x = x; y = y })
-    short (x ∷ y ∷ w ∷ v ∷ k) e = absurd (omega arith)
-
-pub next-more : (l : List ℕ) (i : ℕ) → i + 3 < length l
-    → allNext (cellsIn (drop i l)) ≡ (neighbours (cellAt l i) (cellAt l (i + 2)) && allNext (cellsIn (drop (i + 2) l)))
-next-more = pairs-more allNext (λ a b k. neighbours a b && k) (λ a b r. refl)
-
-pub next-end : (l : List ℕ) (i : ℕ) → length l ≤ i + 3 → allNext (cellsIn (drop i l)) ≡ true
-next-end = pairs-end allNext true refl (λ a. refl)
 
 pub letters-more : (l : List ℕ) (i : ℕ) → i + 3 < length l
     → lettersOf (cellsIn (drop i l)) ≡ letter (cellAt l i) (cellAt l (i + 2)) ∷ lettersOf (cellsIn (drop (i + 2) l))
@@ -94,12 +47,6 @@ length-walk c (b ∷ l) = ap suc (length-walk (moved c b) l)
 pub walk-more : (l : List ℕ) (i : ℕ) (c : Cell) {d : Cell} → i < length l → moved c (getD l i 0) ≡ d
     → walkOn c (drop i l) ≡ d ∷ walkOn d (drop (i + 1) l)
 walk-more l i c h e = ap (walkOn c) (bytes-more l i h) ∙ ap (λ (d : Cell). d ∷ walkOn d (drop (i + 1) l)) e
-
--- two bytes to a cell
-pub length-cells : (b : List ℕ) → length (cellsIn b) ≡ length b / 2
-length-cells [] = refl
-length-cells (x ∷ []) = refl
-length-cells (x ∷ y ∷ b) = omega (arith, length-cells b)
 
 -- Buffers: what is still to be written from k on, up to n
 

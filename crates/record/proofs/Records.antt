@@ -12,7 +12,7 @@ use native.Mathlib.Omega.{arith}
 use lib.ListN.{length, take, drop, getD, length-append, length-drop}
 use lib.Seq.{take-at, take-add, length-take-le}
 use lib.Dec.{leb, eqb}
-use borrow.Author.Tests.{eqb-true, eq-eqb, le-leb, lt-leb}
+use borrow.Author.Tests.{eqb-true, le-leb, lt-leb}
 use Rattle.grid.proofs.Tests.{and-yes, expect-yes, expect-no, after-good, answer-good, answer-refused}
 use Rattle.grid.specs.declared.Cell.{Cell}
 use Rattle.grid.specs.declared.Panel.{Panel}
@@ -21,18 +21,21 @@ use Rattle.grid.specs.declared.Refusal.the-variants.{Mark, CutShort, Side, Entr
 use Rattle.grid.specs.declared.Check.{Check}
 use Rattle.grid.specs.declared.Check.the-variants.{Good}
 use Rattle.grid.specs.Refusal.{number}
-use Rattle.grid.specs.Panel.{onPanel, goodPanel}
+use Rattle.grid.specs.Panel.{area, onPanel, goodPanel}
 use Rattle.grid.specs.Bytes.{bytes, cellsIn}
 use Rattle.grid.specs.Check.{checkPanel, checkEntry, expect, after, answer}
+use Rattle.list.specs.List.{wholeCells, allOn, allSteps}
+use Rattle.list.proofs.Whole.{whole, is-whole}
 use Rattle.record.specs.declared.Written.{Written}
 use Rattle.record.specs.declared.ReadBack.{ReadBack}
 use Rattle.record.specs.Format.{headLength, markHigh, markLow, headOf, recordOf, lettersFrom, lettersOf, allKnown, walkOn, walkFrom}
-use Rattle.record.specs.Write.{area, wholeCells, allOn, allNext, goodCount, checkList, checkWrite, recordLength, writeAnswer, writeBuffer, bytesWritten, recordMade}
+use Rattle.record.specs.Write.{goodCount, checkList, checkWrite, recordLength, writeAnswer, writeBuffer, bytesWritten, recordMade}
 use Rattle.record.specs.Read.{hasMark, panelIn, entryIn, stepsIn, lettersIn, cellsRead, goodSteps, checkHead, checkKnown, checkRecord, checkRead, readAnswer, readBuffer, panelGiven, cellsGiven, lengthGiven, listRead, lettersAnswer}
 use Rattle.grid.proofs.Bytes.{length-bytes, cells-bytes}
 use Rattle.record.proofs.Laws.{both}
 use Rattle.record.proofs.Lists.{length-letters-from, length-walk}
-use Rattle.record.proofs.Checks.{both-good, expect-good, GoodRecord, GoodList, record-good, list-good}
+use Rattle.grid.proofs.Passed.{expect-passed, after-passed, after-rest}
+use Rattle.record.proofs.Checks.{GoodRecord, GoodList, record-good, list-good}
 use Rattle.record.proofs.Directions.{known-letters, walk-letters, letters-walk}
 
 -- Bytes and cells
@@ -114,7 +117,7 @@ length-record p (s ∷ l) h = omega (arith, length-letters-from s l)
 written : (p : Panel) (list out : List ℕ) → checkWrite p list out ≡ Good
     → (writeAnswer p list out ≡ Written.Bytes (recordLength (cellsIn list))) × (recordMade p list out ≡ recordOf p (cellsIn list))
 written p list out e =
-    let g = list-good p list (both-good (checkList p list) _ e .0) in
+    let g = list-good p list (after-passed (checkList p list) _ e) in
     let some : 1 ≤ length (cellsIn list) = omega (arith, g .some) in
     let a : writeAnswer p list out ≡ Written.Bytes (recordLength (cellsIn list)) = sym (answer-good _ _ e refl) in
     let b : writeBuffer p list out ≡ recordOf p (cellsIn list) ++ drop (recordLength (cellsIn list)) out = sym (answer-good _ _ e refl) in (
@@ -127,12 +130,10 @@ pub reads-back : (p : Panel) (list out rest buffer : List ℕ) → checkWrite p 
     → (readAnswer (recordMade p list out ++ rest) buffer
     ≡ ReadBack.Found p (record { 0 = length (cellsIn list) }) (bytesWritten (writeAnswer p list out)))
     × (readBuffer (recordMade p list out ++ rest) buffer ≡ list ++ drop (length list) buffer)
-unfolding wholeCells
 reads-back p list out rest buffer e room =
-    let c = both-good (checkList p list) _ e .0 in
+    let c = after-passed (checkList p list) _ e in
     let g = list-good p list c in
-    let whole = expect-good (wholeCells list) _ _ (both-good (checkPanel p) _ c .1) .0 in
-    let even = eqb-true (length list % 2) 0 (both (leb 1 (length list)) (eqb (length list % 2) 0) whole .1) in
+    let even = whole (length list) (expect-passed (wholeCells (length list)) _ _ (after-rest (checkPanel p) _ c)) .1 in
     let back = bytes-cells list even in
     let n : 2 * length (cellsIn list) ≡ length list = sym (length-bytes (cellsIn list)) ∙ ap length back in
     let w = written p list out e in
@@ -168,7 +169,7 @@ module _ (f : List ℕ) (g : GoodRecord f) where
   length-read : length (lettersIn f) ≡ stepsIn f
   length-read = length-take-le (stepsIn f) (drop headLength f) (omega (arith, length-drop headLength f, g .head .whole))
 
-  walked : (lettersFrom (entryIn f) (walkOn (entryIn f) (lettersIn f)) ≡ lettersIn f) × (allNext (cellsRead f) ≡ true)
+  walked : (lettersFrom (entryIn f) (walkOn (entryIn f) (lettersIn f)) ≡ lettersIn f) × (allSteps (cellsRead f) ≡ true)
   walked = letters-walk (panelIn f) (entryIn f) (lettersIn f) (g .letters) (g .cells)
 
   steps-read : length (walkOn (entryIn f) (lettersIn f)) ≡ stepsIn f
@@ -192,24 +193,23 @@ module _ (f : List ℕ) (g : GoodRecord f) where
 
 -- Write takes every good list
 list-accepted : (p : Panel) (l : List Cell) → GoodList p l → checkList p (bytes l) ≡ Good
-unfolding wholeCells goodCount
+unfolding goodCount
 list-accepted p l g =
     let n = length-bytes l in
     let back = cells-bytes l in
-    let some : leb 1 (length (bytes l)) ≡ true = le-leb 1 (length (bytes l)) (omega (arith, g .some)) in
-    let even : eqb (length (bytes l) % 2) 0 ≡ true = eq-eqb (length (bytes l) % 2) 0 (omega arith) in
+    let cells : wholeCells (length (bytes l)) ≡ true = is-whole (length (bytes l)) (omega (arith, g .some)) (omega arith) in
     let count : goodCount p (length l) ≡ true = sym (and-yes _ (le-leb 2 (length l) (g .some)) (sym (le-leb (length l) (area p) (g .few)))) in
     sym (after-good _ (sym (expect-yes _ _ (g .panel) refl))
-    (expect-yes _ _ (sym (and-yes _ some (sym even)))
+    (expect-yes _ _ cells
     (expect-yes _ _ (ap (allOn p) back ∙ g .on)
-    (expect-yes _ _ (ap allNext back ∙ g .next)
+    (expect-yes _ _ (ap allSteps back ∙ g .next)
     (expect-yes _ _ (ap (λ (k : List Cell). goodCount p (length k)) back ∙ count) refl)))))
 
 pub writes-back : (f buffer out : List ℕ) → ((i : ℕ) → getD f i 0 < 256) → checkRead f buffer ≡ Good → lengthGiven (readAnswer f buffer) ≤ length out
     → (writeAnswer (panelGiven (readAnswer f buffer)) (listRead f buffer) out ≡ Written.Bytes (lengthGiven (readAnswer f buffer)))
     × (recordMade (panelGiven (readAnswer f buffer)) (listRead f buffer) out ≡ take (lengthGiven (readAnswer f buffer)) f)
 writes-back f buffer out byte e room =
-    let g = record-good f (both-good (checkRecord f) _ e .0) in
+    let g = record-good f (after-passed (checkRecord f) _ e) in
     let p = panelIn f in
     let l = cellsRead f in
     let k = headLength + stepsIn f in

@@ -2,7 +2,7 @@
 use Prim.Native.Nat.{ℕ, _+_, _-_, _/_, _%_}
 use mathlib.Core.Bool.{Bool, true, cond, _&&_, _||_}
 use mathlib.Core.List.{List, [], _∷_, _++_}
-use lib.ListN.{length, getD}
+use lib.ListN.{length}
 use lib.Dec.{ltb, eqb}
 use Rattle.grid.specs.declared.Panel.{Panel}
 use Rattle.grid.specs.declared.Cell.{Cell}
@@ -34,10 +34,6 @@ south = 0x53
 
 abbrev pub west : ℕ
 west = 0x57
-
--- the cell whose x stands at i of a list
-abbrev pub cellAt : List ℕ → ℕ → Cell
-cellAt list i = record { x = getD list i 0; y = getD list (i + 1) 0 }
 
 -- the letter of the step from a to its neighbour b
 unfoldable pub letter : Cell → Cell → ℕ

@@ -9,17 +9,17 @@ use Rattle.grid.specs.declared.Cell.{Cell}
 use Rattle.grid.specs.declared.Check.{Check}
 use Rattle.grid.specs.declared.Check.the-variants.{Good}
 use Rattle.grid.specs.declared.Refusal.the-variants.{Mark, CutShort, StepCount, UnknownByte, CellOff, ShortBuffer}
-use Rattle.grid.specs.Panel.{upTo}
+use Rattle.grid.specs.Panel.{upTo, area}
 use Rattle.grid.specs.Refusal.{number}
 use Rattle.grid.specs.Bytes.{bytes}
 use Rattle.grid.specs.Check.{checkEntry, expect, after, answer}
+use Rattle.list.specs.List.{allOn}
 use Rattle.record.specs.declared.ReadBack.{ReadBack}
 use Rattle.record.specs.declared.Found.{Found}
 use Rattle.record.specs.declared.Found.the-variants.{Record}
 use Rattle.record.specs.declared.Walked.{Walked}
 use Rattle.record.specs.declared.Walked.the-variants.{On, Off}
 use Rattle.record.specs.Format.{markHigh, markLow, headLength, allKnown, walkFrom}
-use Rattle.record.specs.Write.{area, allOn}
 
 -- the file begins with the mark
 unfoldable pub hasMark : List ℕ → Bool
@@ -45,7 +45,6 @@ cellsRead f = walkFrom (entryIn f) (lettersIn f)
 
 -- a step count of 1 to mn − 1
 unfoldable pub goodSteps : Panel → ℕ → Bool
-unfolding area
 goodSteps p k = upTo (area p - 1) k
 
 -- 14, the mark is missing or other; 17, fewer than 8 bytes; 1; 2; 15, step count 0 or above mn − 1; 17, letters cut short

@@ -1,48 +1,25 @@
 -- Document 01, "Write": its refusals in order, its answer and the final content of the lent buffer.
-use Prim.Native.Nat.{ℕ, _+_, _*_, _%_}
-use mathlib.Core.Bool.{Bool, true, _&&_}
-use mathlib.Core.List.{List, [], _∷_, _++_}
+use Prim.Native.Nat.{ℕ, _+_}
+use mathlib.Core.Bool.{Bool, _&&_}
+use mathlib.Core.List.{List, _++_}
 use lib.ListN.{length, take, drop}
-use lib.Dec.{leb, eqb}
+use lib.Dec.{leb}
 use Rattle.grid.specs.declared.Panel.{Panel}
 use Rattle.grid.specs.declared.Cell.{Cell}
 use Rattle.grid.specs.declared.Check.{Check}
 use Rattle.grid.specs.declared.Check.the-variants.{Good}
 use Rattle.grid.specs.declared.Refusal.the-variants.{ListLength, CellOff, NotNeighbours, StepCount, ShortBuffer}
-use Rattle.grid.specs.Panel.{onPanel, neighbours}
+use Rattle.grid.specs.Panel.{area}
 use Rattle.grid.specs.Refusal.{number}
 use Rattle.grid.specs.Bytes.{cellsIn}
 use Rattle.grid.specs.Check.{checkPanel, expect, after, answer}
+use Rattle.list.specs.List.{wholeCells, allOn, allSteps}
 use Rattle.record.specs.declared.Written.{Written}
 use Rattle.record.specs.declared.Written.the-variants.{Refused, Bytes}
 use Rattle.record.specs.Format.{headLength, recordOf, stepsOf}
 
--- mn
-unfoldable pub area : Panel → ℕ
-area p = p .width * p .height
-
--- a list that is not empty and has an even number of bytes
-unfoldable pub wholeCells : List ℕ → Bool
-wholeCells b = leb 1 (length b) && eqb (length b % 2) 0
-
--- every cell is on the panel
-abbrev pub allOn : Panel → List Cell → Bool
-allOn p [] = true
-allOn p (c ∷ l) = onPanel p c && allOn p l
-
--- each cell is a neighbour of the one before, the first of a
-abbrev pub nextFrom : Cell → List Cell → Bool
-nextFrom a [] = true
-nextFrom a (b ∷ l) = neighbours a b && nextFrom b l
-
--- each next cell is a neighbour of the one before
-abbrev pub allNext : List Cell → Bool
-allNext [] = true
-allNext (a ∷ l) = nextFrom a l
-
 -- 2 cells or more, and at most mn
 unfoldable pub goodCount : Panel → ℕ → Bool
-unfolding area
 goodCount p k = leb 2 k && leb k (area p)
 
 -- 1; 6, the list is empty or has an odd number of bytes; 7, some cell is off the panel; 8, some two successive cells are not
@@ -50,9 +27,9 @@ goodCount p k = leb 2 k && leb k (area p)
 abbrev pub checkList : Panel → List ℕ → Check
 checkList p list =
     after (checkPanel p)
-    (expect (wholeCells list) ListLength
+    (expect (wholeCells (length list)) ListLength
     (expect (allOn p (cellsIn list)) CellOff
-    (expect (allNext (cellsIn list)) NotNeighbours
+    (expect (allSteps (cellsIn list)) NotNeighbours
     (expect (goodCount p (length (cellsIn list))) StepCount Good))))
 
 -- 8 bytes plus one for each step

@@ -6,20 +6,25 @@ use grid::Check;
 use grid::Panel;
 use grid::Refusal;
 use grid::Steps;
+use grid::area_of;
 use grid::check_entry;
 use grid::check_panel;
 use grid::number_of;
 use grid::on_panel;
 use grid::steps_of;
+use list::all_adjacent;
+use list::all_on_panel;
+use list::whole_cells;
 ghost use mathlib.Core.Path.{_≡_};
 ghost use mathlib.Core.Bool.{true};
 ghost use mathlib.Core.List.{_++_};
 ghost use Prim.Native.Nat.{_≤_, _<_, _+_, _*_};
 ghost use lib.ListN.{length, take, drop, getD, set};
-ghost use Rattle.grid.specs.Panel.{OnPanel, dist, neighbours, onPanel, goodPanel};
+ghost use Rattle.grid.specs.Panel.{OnPanel, onPanel, goodPanel};
 ghost use Rattle.grid.specs.Bytes.{bytes, cellsIn};
-ghost use Rattle.record.specs.Format.{cellAt, letter, headOf, headLength, lettersOf, moveOf, largest, walkFrom};
-ghost use Rattle.record.specs.Write.{area, wholeCells, allOn, allNext, goodCount, checkList, recordLength, writeAnswer, writeBuffer, writeNumber, bytesWritten};
+ghost use Rattle.list.specs.List.{allOn, cellAt};
+ghost use Rattle.record.specs.Format.{letter, headOf, headLength, lettersOf, moveOf, largest, walkFrom};
+ghost use Rattle.record.specs.Write.{goodCount, checkList, recordLength, writeAnswer, writeBuffer, writeNumber, bytesWritten};
 ghost use Rattle.record.specs.Read.{hasMark, panelIn, entryIn, stepsIn, lettersIn, goodSteps, checkHead, checkKnown, walkedOf, recordCells, readAnswer, readBuffer, readNumber, panelGiven, cellsGiven, lengthGiven, lettersAnswer};
 
 // The mark, and the number of bytes before the letters.
@@ -75,12 +80,6 @@ pub enum Found {
     Record(Cells),
 }
 
-fn area_of(p: Panel) -> usize
-    ensures { λ r. ⌜ r ≡ area p ⌝ }
-{
-    (p.width as usize) * (p.height as usize)
-}
-
 fn byte_at(s: &[u8], i: usize) -> u32
     requires { ⌜ i < length (now s) ⌝ }
     ensures { λ r. ⌜ (r ≡ getD (now (s .entry)) i 0) × (r < 256) ⌝ }
@@ -97,62 +96,6 @@ fn cell_at(list: &[u8], i: usize) -> Cell
         x: byte_at(list, i),
         y: byte_at(list, i + 1),
     }
-}
-
-fn distance(a: u32, b: u32) -> u32
-    ensures { λ r. ⌜ r ≡ dist a b ⌝ }
-{
-    if a < b { b - a } else { a - b }
-}
-
-fn are_neighbours(a: Cell, b: Cell) -> bool
-    ensures { λ r. ⌜ r ≡ neighbours a b ⌝ }
-{
-    let dx = distance(a.x, b.x);
-    let dy = distance(a.y, b.y);
-    if dx == 0 {
-        return dy == 1;
-    }
-    if dx == 1 {
-        return dy == 0;
-    }
-    false
-}
-
-// Not empty, and x and y for each cell.
-fn whole_cells(list: &[u8]) -> bool
-    ensures { λ r. ⌜ r ≡ wholeCells (now (list .entry)) ⌝ }
-{
-    if 1 <= list.len() {
-        return list.len() % 2 == 0;
-    }
-    false
-}
-
-fn all_on(p: Panel, list: &[u8]) -> bool
-    ensures { λ r. ⌜ r ≡ allOn p (cellsIn (now (list .entry))) ⌝ }
-{
-    let mut i = 0;
-    while i + 1 < list.len() {
-        if !on_panel(p, cell_at(list, i)) {
-            return false;
-        }
-        i += 2;
-    }
-    true
-}
-
-fn all_next(list: &[u8]) -> bool
-    ensures { λ r. ⌜ r ≡ allNext (cellsIn (now (list .entry))) ⌝ }
-{
-    let mut i = 0;
-    while i + 3 < list.len() {
-        if !are_neighbours(cell_at(list, i), cell_at(list, i + 2)) {
-            return false;
-        }
-        i += 2;
-    }
-    true
 }
 
 fn good_count(p: Panel, k: usize) -> bool
@@ -172,13 +115,13 @@ fn check_list(p: Panel, list: &[u8]) -> Check
     if let Check::Refused(r) = c {
         return Check::Refused(r);
     }
-    if !whole_cells(list) {
+    if !whole_cells(list.len()) {
         return Check::Refused(Refusal::ListLength);
     }
-    if !all_on(p, list) {
+    if !all_on_panel(p, list) {
         return Check::Refused(Refusal::CellOff);
     }
-    if !all_next(list) {
+    if !all_adjacent(list) {
         return Check::Refused(Refusal::NotNeighbours);
     }
     if !good_count(p, list.len() / 2) {

@@ -1,11 +1,11 @@
--- The product of two sides of at most 128 fits.
-use Rattle.bound.proofs.Sizes.{product-le}
+-- A good panel has at most 128 by 128 cells.
+use Rattle.grid.proofs.Facts.{area-small}
 use borrow.Author.Needs.{needs}
 use Rattle.bound.proofs.area_of.Statement.{statement}
 use Rattle.bound.proofs.area_of.Tie as tie
 
 mul-result : tie.Need-mul-result
-mul-result c = let h = product-le (c .before .pre .widest) (c .before .pre .highest) in search needs
+mul-result c = let h = area-small (c .before .pre) in search needs
 
 returns : tie.Need-returns
 returns c = search needs

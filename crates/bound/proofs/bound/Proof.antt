@@ -2,7 +2,7 @@
 use mathlib.Core.Path.{sym, ap, _∙_}
 use Rattle.grid.proofs.Tests.{answer-good, answer-refused}
 use Rattle.bound.specs.declared.Bounded.the-variants.{Found}
-use Rattle.bound.proofs.Order.{good-order}
+use Rattle.grid.proofs.Passed.{good-order}
 use borrow.Author.Needs.{needs}
 use Rattle.bound.proofs.bound.Statement.{statement}
 use Rattle.bound.proofs.bound.Tie as tie

@@ -5,9 +5,9 @@ use lib.ListN.{length}
 use borrow.Author.Needs.{needs}
 use Rattle.grid.specs.declared.Check.the-variants.{Good}
 use Rattle.grid.specs.Check.{checkOrder}
+use Rattle.grid.proofs.Passed.{GoodOrder, good-order}
 use Rattle.count.specs.declared.ClassCount.{ClassCount}
 use Rattle.count.specs.Count.{count}
-use Rattle.bound.proofs.Order.{GoodOrder, good-order}
 use Rattle.draw.proofs.Answer.{refused, short, drawn, at-front}
 use Rattle.draw.proofs.draw.Statement.{statement}
 use Rattle.draw.proofs.draw.Tie as tie

@@ -2,7 +2,7 @@
 use borrow.Author.Needs.{needs}
 use mathlib.Core.Path.{refl, sym, _∙_}
 use Rattle.grid.proofs.Tests.{expect-yes, expect-no, after-good, after-refused}
-use Rattle.bound.proofs.Order.{good-entry}
+use Rattle.grid.proofs.Passed.{good-entry}
 use Rattle.exit.proofs.Reading.{told}
 use Rattle.exit.proofs.Fitting.{fit-exit}
 use Rattle.exit.proofs.find_exit.Statement.{statement}

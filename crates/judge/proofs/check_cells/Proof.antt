@@ -5,8 +5,9 @@ use borrow.Author.Tests.{not-true, not-false, le-leb, lt-leb}
 use lib.ListN.{length}
 use Rattle.grid.specs.Bytes.{cellsIn}
 use Rattle.grid.proofs.Tests.{expect-yes, expect-no}
-use Rattle.judge.specs.Judge.{area}
-use Rattle.judge.proofs.Bytes.{length-cells, whole}
+use Rattle.grid.specs.Panel.{area}
+use Rattle.list.proofs.Cells.{length-cells}
+use Rattle.list.proofs.Whole.{whole}
 use Rattle.judge.proofs.Scratch.{cleared-at, clean-front}
 use borrow.Author.Needs.{needs}
 use Rattle.judge.proofs.check_cells.Statement.{statement}

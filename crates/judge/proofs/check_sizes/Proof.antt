@@ -1,12 +1,10 @@
 -- The tests in document 01's order: each answer is read off the branches on the way to it.
 use native.Mathlib.Omega.{arith}
 use mathlib.Core.Path.{refl, sym, _∙_}
-use borrow.Author.Tests.{le-leb, lt-leb}
-use Rattle.grid.proofs.Tests.{expect-yes, expect-no, after-good, after-refused}
-use Rattle.judge.specs.Judge.{area}
-use Rattle.judge.proofs.Checks.{order}
-use Rattle.judge.proofs.Bytes.{is-whole, empty, odd}
 use borrow.Author.Needs.{needs}
+use borrow.Author.Tests.{not-true, not-false, le-leb, lt-leb}
+use Rattle.grid.specs.Panel.{area}
+use Rattle.grid.proofs.Tests.{expect-yes, expect-no, after-good, after-refused}
 use Rattle.judge.proofs.check_sizes.Statement.{statement}
 use Rattle.judge.proofs.check_sizes.Tie as tie
 
@@ -22,27 +20,27 @@ returns c = after-refused _ (sym (c .before .before .before .check-order .ensure
 enum-told : tie.Need-enum-told
 enum-told c = search needs
 
-returns-2 : tie.Need-returns-2
-returns-2 c = after-good _ (sym (c .before .before .before .check-order .ensures) ∙ c .before .enum-told .given .1) (expect-no _ _ (empty _ (c .if1 .taken)))
+whole-cells-requires : tie.Need-whole-cells-requires
+whole-cells-requires c κs = search needs
 
-returns-3 : tie.Need-returns-3
-returns-3 c = after-good _ (sym (c .before .before .before .before .check-order .ensures) ∙ c .before .before .enum-told .given .1) (expect-no _ _ (odd _ (omega arith) (c .if2 .taken)))
+returns-2 : tie.Need-returns-2
+returns-2 c =
+    after-good _ (sym (c .before .before .before .before .check-order .ensures) ∙ c .before .before .enum-told .given .1)
+    (expect-no _ _ (sym (c .before .whole-cells .ensures) ∙ not-true _ (c .if1 .taken)))
 
 area-of-requires : tie.Need-area-of-requires
-area-of-requires c κs =
-    let a = c .before .before .before .before .before .args in
-    order (a .p) (a .entry) (a .exit) (sym (c .before .before .before .before .check-order .ensures) ∙ c .before .before .enum-told .given .1) .sides
+area-of-requires c κs = search needs
+
+returns-3 : tie.Need-returns-3
+returns-3 c =
+    after-good _ (sym (c .before .before .before .before .before .before .check-order .ensures) ∙ c .before .before .before .before .enum-told .given .1)
+    (expect-yes _ _ (sym (c .before .before .before .whole-cells .ensures) ∙ not-false _ (c .before .before .if1 .left))
+    (expect-no _ _ (lt-leb (area (c .before .before .before .before .before .before .before .args .p)) (c .before .before .before .before .before .before .before .args .room) (omega arith))))
 
 returns-4 : tie.Need-returns-4
 returns-4 c =
     after-good _ (sym (c .before .before .before .before .before .before .check-order .ensures) ∙ c .before .before .before .before .enum-told .given .1)
-    (expect-yes _ _ (is-whole _ (omega arith) (c .before .before .if2 .left))
-    (expect-no _ _ (lt-leb (area (c .before .before .before .before .before .before .before .args .p)) (c .before .before .before .before .before .before .before .args .room) (omega arith))))
-
-returns-5 : tie.Need-returns-5
-returns-5 c =
-    after-good _ (sym (c .before .before .before .before .before .before .check-order .ensures) ∙ c .before .before .before .before .enum-told .given .1)
-    (expect-yes _ _ (is-whole _ (omega arith) (c .before .before .if2 .left))
+    (expect-yes _ _ (sym (c .before .before .before .whole-cells .ensures) ∙ not-false _ (c .before .before .if1 .left))
     (expect-yes _ _ (le-leb (area (c .before .before .before .before .before .before .before .args .p)) (c .before .before .before .before .before .before .before .args .room) (omega arith)) refl))
 
 pub check-sizes-spec : {M : Type 1} → statement M
@@ -53,8 +51,8 @@ check-sizes-spec =
     enum-known-c
     returns
     enum-told
+    whole-cells-requires
     returns-2
-    returns-3
     area-of-requires
-    returns-4
-    returns-5)
+    returns-3
+    returns-4)

@@ -2,7 +2,7 @@
 use native.Mathlib.Omega.{arith}
 use mathlib.Core.Path.{sym, _∙_}
 use Rattle.grid.proofs.Tests.{and-yes, and-no}
-use Rattle.judge.proofs.Bytes.{runs-is}
+use Rattle.judge.proofs.Ends.{runs-is}
 use borrow.Author.Needs.{needs}
 use Rattle.judge.proofs.ends_at.Statement.{statement}
 use Rattle.judge.proofs.ends_at.Tie as tie

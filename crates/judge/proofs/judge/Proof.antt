@@ -1,10 +1,9 @@
 -- The tests of the sizes, then those of the cells; a count that is given is at most mn, so that it fits.
 use native.Mathlib.Omega.{arith}
 use mathlib.Core.Path.{sym}
-use Rattle.grid.proofs.Facts.{good}
+use Rattle.grid.proofs.Facts.{is-good, area-small}
 use Rattle.judge.proofs.Checks.{sizes-good, cells-good, sizes-refused, cells-refused, all-good}
-use Rattle.judge.proofs.Bytes.{length-cells}
-use Rattle.judge.proofs.Area.{area-small}
+use Rattle.list.proofs.Cells.{length-cells}
 use borrow.Author.Needs.{needs}
 use Rattle.judge.proofs.judge.Statement.{statement}
 use Rattle.judge.proofs.judge.Tie as tie
@@ -27,7 +26,7 @@ check-cells-requires : tie.Need-check-cells-requires
 check-cells-requires c κs =
     let a = c .before .before .before .before .before .before .args in
     let z = sizes-good (a .p) (a .entry) (a .exit) (a .list .now) (a .scratch .now) (c .before .before .before .check-sizes .ensures) (c .before .enum-told .given .1) in
-    (z .ordered .sides, (z .whole, z .enough))
+    (is-good (z .ordered .panel), (z .whole, z .enough))
 
 enum-known-cells : tie.Need-enum-known-cells
 enum-known-cells c = search needs
@@ -49,7 +48,7 @@ cast-t14 c =
     let a = c .before .before .before .before .before .before .before .before .before .before .before .args in
     let z = sizes-good (a .p) (a .entry) (a .exit) (a .list .now) (a .scratch .now) (c .before .before .before .before .before .before .before .before .check-sizes .ensures) (c .before .before .before .before .before .before .enum-told .given .1) in
     let j = cells-good (a .p) (a .entry) (a .exit) (a .list .now) (a .scratch .now) (c .before .before .before .before .before .before .before .before .check-sizes .ensures) (c .before .before .before .before .before .before .enum-told .given .1) (c .before .before .before .before .check-cells .ensures .0) (c .enum-told2 .given .1) in
-    record { fits = omega (arith, j .few, area-small (good (a .p) (z .ordered .sides)), length-cells (a .list .now)) }
+    record { fits = omega (arith, j .few, area-small (z .ordered .panel), length-cells (a .list .now)) }
 
 same-length-2 : tie.Need-same-length-2
 same-length-2 c = search needs

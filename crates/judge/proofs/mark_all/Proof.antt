@@ -6,9 +6,10 @@ use mathlib.Core.Path.{_≡_, refl, sym, _∙_}
 use mathlib.Core.Bool.{true}
 use lib.ListN.{length, drop, length-set}
 use Rattle.grid.specs.Bytes.{cellsIn}
-use Rattle.judge.specs.List.{allOn, noneTwice}
-use Rattle.judge.specs.Judge.{area}
-use Rattle.judge.proofs.Tracks.{all-on}
+use Rattle.list.specs.List.{allOn}
+use Rattle.judge.specs.List.{noneTwice}
+use Rattle.grid.specs.Panel.{area}
+use Rattle.list.proofs.Tracks.{all-on}
 use Rattle.judge.proofs.Marks.{fresh, fresh-once}
 use Rattle.judge.proofs.Passes.{on-here, on-rest, mark-end, mark-within, mark-keeps, mark-twice, mark-next}
 use Rattle.judge.proofs.mark_all.Statement.{statement}

@@ -1,7 +1,7 @@
 -- The place lies among the panel's places, of which there are few enough that nothing wraps.
 use native.Mathlib.Omega.{arith}
-use Rattle.grid.proofs.Facts.{good, on}
-use Rattle.judge.proofs.Area.{area-small, place-below}
+use Rattle.grid.proofs.Facts.{good, area-small, on}
+use Rattle.judge.proofs.Area.{place-below}
 use borrow.Author.Needs.{needs}
 use Rattle.judge.proofs.place_of.Statement.{statement}
 use Rattle.judge.proofs.place_of.Tie as tie

@@ -7,14 +7,15 @@ use lib.ListN.{length, drop, getD}
 use denote.Ref.{now}
 use Rattle.grid.proofs.Tests.{expect-yes, expect-no}
 use Rattle.grid.specs.declared.Check.the-variants.{Refused}
+use Rattle.list.proofs.Turns.{turn-failed, turn-passed}
 use Rattle.record.specs.Format.{allKnown}
-use Rattle.record.proofs.Laws.{byte-refused, byte-moves, stops, goes-on}
+use Rattle.record.proofs.Laws.{byte-refused, byte-moves}
 use Rattle.record.proofs.Lists.{bytes-more, bytes-end}
 use Rattle.record.proofs.check_known.Statement.{statement}
 use Rattle.record.proofs.check_known.Tie as tie
 
 abbrev Inv-loop : tie.InvT-loop
-Inv-loop c letters i₀ i = (i ≤ length letters) × (allKnown letters ≡ allKnown (drop i letters))
+Inv-loop c letters i₀ i = (i ≤ length letters) × (allKnown (drop i letters) ≡ allKnown letters)
 
 abbrev μ-loop : tie.MeasureT-loop
 μ-loop c letters i₀ i = length letters - i
@@ -40,7 +41,7 @@ returns c =
     let l = now (a .letters) in
     let h = byte-refused (a .c) (getD l (at-loop .loop .i) 0) (sym (call .move-by .ensures) ∙ c .before .m .given .1) in
     ap Refused (sym (h .1))
-    ∙ expect-no _ _ (sym (stops _ (at-loop .loop .inv .1) (ap allKnown (bytes-more l (at-loop .loop .i) (at-test .loop-test .taken))) (h .0)))
+    ∙ expect-no _ _ (sym (turn-failed _ _ (ap allKnown (bytes-more l (at-loop .loop .i) (at-test .loop-test .taken))) (at-loop .loop .inv .1) (h .0)))
 
 enum-told : tie.Need-enum-told Inv-loop μ-loop
 enum-told c = search needs
@@ -60,13 +61,13 @@ loop-again c =
     let l = now (a .letters) in
     let h = byte-moves (a .c) (getD l (at-loop .loop .i) 0) (sym (call .move-by .ensures) ∙ c .enum-told .given .1) in (
       omega arith,
-      goes-on _ (at-loop .loop .inv .1) (ap allKnown (bytes-more l (at-loop .loop .i) (at-test .loop-test .taken))) (h .0),
+      turn-passed _ _ (ap allKnown (bytes-more l (at-loop .loop .i) (at-test .loop-test .taken))) (at-loop .loop .inv .1) (h .0),
     )
 
 returns-2 : tie.Need-returns-2 Inv-loop μ-loop
 returns-2 c =
     let at-loop = c .before in
-    expect-yes _ _ (at-loop .loop .inv .1 ∙ ap allKnown (bytes-end (now (at-loop .before .before .args .letters)) (at-loop .loop .i) (c .loop-test .left))) refl
+    expect-yes _ _ (sym (at-loop .loop .inv .1) ∙ ap allKnown (bytes-end (now (at-loop .before .before .args .letters)) (at-loop .loop .i) (c .loop-test .left))) refl
 
 pub check-known-spec : {M : Type 1} → statement M
 check-known-spec =

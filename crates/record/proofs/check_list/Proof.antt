@@ -12,8 +12,9 @@ use Rattle.grid.specs.declared.Check.{Check}
 use Rattle.grid.specs.declared.Refusal.the-variants.{ListLength, CellOff, NotNeighbours}
 use Rattle.grid.specs.Bytes.{cellsIn}
 use Rattle.grid.specs.Check.{checkPanel, expect, after}
-use Rattle.record.specs.Write.{wholeCells, allOn, allNext, goodCount}
-use Rattle.record.proofs.Lists.{length-cells}
+use Rattle.list.specs.List.{wholeCells, allOn, allSteps}
+use Rattle.list.proofs.Cells.{length-cells}
+use Rattle.record.specs.Write.{goodCount}
 use Rattle.record.proofs.check_list.Statement.{statement}
 use Rattle.record.proofs.check_list.Tie as tie
 
@@ -27,20 +28,20 @@ good-panel : (c : tie.After-enum-told) (k : Check) {z : Check} → z ≡ k → z
 good-panel c k = after-good k (sym (c .before .before .check-panel .ensures) ∙ c .enum-told .given .1)
 
 whole : (c : tie.Else1) (k : Check) {z : Check} → z ≡ k
-    → z ≡ after (checkPanel (P (c .before .before))) (expect (wholeCells (L (c .before .before))) ListLength k)
+    → z ≡ after (checkPanel (P (c .before .before))) (expect (wholeCells (length (L (c .before .before)))) ListLength k)
 whole c k e =
     good-panel (c .before .before) _ (expect-yes _ k (sym (c .before .whole-cells .ensures) ∙ not-false _ (c .if1 .left)) e)
 
 on : (c : tie.Else2) (k : Check) {z : Check} → z ≡ k
-    → z ≡ after (checkPanel (P (c .before .before .before .before))) (expect (wholeCells (L (c .before .before .before .before))) ListLength (expect (allOn (P (c .before .before .before .before)) (cellsIn (L (c .before .before .before .before)))) CellOff k))
-on c k e = whole (c .before .before) _ (expect-yes _ k (sym (c .before .all-on .ensures) ∙ not-false _ (c .if2 .left)) e)
+    → z ≡ after (checkPanel (P (c .before .before .before .before))) (expect (wholeCells (length (L (c .before .before .before .before)))) ListLength (expect (allOn (P (c .before .before .before .before)) (cellsIn (L (c .before .before .before .before)))) CellOff k))
+on c k e = whole (c .before .before) _ (expect-yes _ k (sym (c .before .all-on-panel .ensures) ∙ not-false _ (c .if2 .left)) e)
 
 abbrev start : tie.Else3 → tie.After-enum-told
 start c = c .before .before .before .before .before .before
 
 next : (c : tie.Else3) (k : Check) {z : Check} → z ≡ k
-    → z ≡ after (checkPanel (P (start c))) (expect (wholeCells (L (start c))) ListLength (expect (allOn (P (start c)) (cellsIn (L (start c)))) CellOff (expect (allNext (cellsIn (L (start c)))) NotNeighbours k)))
-next c k e = on (c .before .before) _ (expect-yes _ k (sym (c .before .all-next .ensures) ∙ not-false _ (c .if3 .left)) e)
+    → z ≡ after (checkPanel (P (start c))) (expect (wholeCells (length (L (start c)))) ListLength (expect (allOn (P (start c)) (cellsIn (L (start c)))) CellOff (expect (allSteps (cellsIn (L (start c)))) NotNeighbours k)))
+next c k e = on (c .before .before) _ (expect-yes _ k (sym (c .before .all-adjacent .ensures) ∙ not-false _ (c .if3 .left)) e)
 
 -- the count of cells is half that of the bytes
 counted : (c : tie.After-good-count) → goodCount (P (start (c .before))) (length (cellsIn (L (start (c .before))))) ≡ c .good-count .result
@@ -65,17 +66,17 @@ returns-2 : tie.Need-returns-2
 returns-2 c =
     good-panel (c .before .before) _ (expect-no _ _ (sym (c .before .whole-cells .ensures) ∙ not-true _ (c .if1 .taken)))
 
-all-on-requires : tie.Need-all-on-requires
-all-on-requires c κs = search needs
+all-on-panel-requires : tie.Need-all-on-panel-requires
+all-on-panel-requires c κs = search needs
 
 returns-3 : tie.Need-returns-3
-returns-3 c = whole (c .before .before) _ (expect-no _ _ (sym (c .before .all-on .ensures) ∙ not-true _ (c .if2 .taken)))
+returns-3 c = whole (c .before .before) _ (expect-no _ _ (sym (c .before .all-on-panel .ensures) ∙ not-true _ (c .if2 .taken)))
 
-all-next-requires : tie.Need-all-next-requires
-all-next-requires c κs = search needs
+all-adjacent-requires : tie.Need-all-adjacent-requires
+all-adjacent-requires c κs = search needs
 
 returns-4 : tie.Need-returns-4
-returns-4 c = on (c .before .before) _ (expect-no _ _ (sym (c .before .all-next .ensures) ∙ not-true _ (c .if3 .taken)))
+returns-4 c = on (c .before .before) _ (expect-no _ _ (sym (c .before .all-adjacent .ensures) ∙ not-true _ (c .if3 .taken)))
 
 good-count-requires : tie.Need-good-count-requires
 good-count-requires c κs = search needs
@@ -96,9 +97,9 @@ check-list-spec =
     enum-told
     whole-cells-requires
     returns-2
-    all-on-requires
+    all-on-panel-requires
     returns-3
-    all-next-requires
+    all-adjacent-requires
     returns-4
     good-count-requires
     returns-5

@@ -17,7 +17,7 @@ use Rattle.grid.specs.Bytes.{bytes}
 use Rattle.record.specs.declared.Head.{Head}
 use Rattle.record.specs.declared.ReadBack.{ReadBack}
 use Rattle.record.specs.Format.{headLength, largest, walkFrom}
-use Rattle.record.specs.Write.{allOn}
+use Rattle.list.specs.List.{allOn}
 use Rattle.record.specs.Read.{panelIn, cellsRead, checkRecord, checkRead}
 use Rattle.record.proofs.Laws.{all-on-largest}
 use Rattle.record.proofs.Checks.{GoodRecord, record-good, found-refused, found-record, steps-bound}

@@ -9,17 +9,18 @@ use lib.ListN.{length, drop, getD}
 use denote.Ref.{now}
 use Rattle.grid.proofs.Tests.{and-yes, cond-yes, cond-no}
 use Rattle.grid.specs.Panel.{OnPanel}
+use Rattle.list.specs.List.{allOn}
+use Rattle.list.proofs.Turns.{turn-failed, turn-passed}
 use Rattle.record.specs.declared.Walked.the-variants.{On}
 use Rattle.record.specs.Format.{largest, walkFrom, walkOn}
-use Rattle.record.specs.Write.{allOn}
-use Rattle.record.proofs.Laws.{byte-refused, byte-moves, unknown-off, on-largest, stops, goes-on}
+use Rattle.record.proofs.Laws.{byte-refused, byte-moves, unknown-off, on-largest}
 use Rattle.record.proofs.Lists.{bytes-end, walk-more, length-walk}
 use Rattle.record.proofs.walk.Statement.{statement}
 use Rattle.record.proofs.walk.Tie as tie
 
 abbrev Inv-loop : tie.InvT-loop
 Inv-loop p letters at₀ count₀ i₀ at count i =
-    (i ≤ length letters) × (count ≡ i + 1) × (OnPanel largest at) × (allOn p (walkFrom at₀ letters) ≡ allOn p (walkOn at (drop i letters)))
+    (i ≤ length letters) × (count ≡ i + 1) × (OnPanel largest at) × (allOn p (walkOn at (drop i letters)) ≡ allOn p (walkFrom at₀ letters))
 
 abbrev μ-loop : tie.MeasureT-loop
 μ-loop p letters at₀ count₀ i₀ at count i = length letters - i
@@ -28,7 +29,7 @@ loop-holds : tie.Need-loop-holds Inv-loop μ-loop
 loop-holds c =
     let start = c .before in
     let a = start .args in
-    (omega arith, omega arith, on-largest (a .p) (a .s) (start .pre .0) (start .pre .1), sym (and-yes _ (start .pre .1) refl))
+    (omega arith, omega arith, on-largest (a .p) (a .s) (start .pre .0) (start .pre .1), and-yes _ (start .pre .1) refl)
 
 shared-slice-read-move-by : tie.Need-shared-slice-read-move-by Inv-loop μ-loop
 shared-slice-read-move-by c = omega arith
@@ -51,7 +52,7 @@ returns c =
     let l = now (a .letters) in
     let i = at-loop .loop .i in
     let h = byte-refused (at-loop .loop .at) (getD l i 0) (sym (call .move-by .ensures) ∙ c .enum-told .given .1) in
-    cond-no _ _ (sym (stops _ (at-loop .loop .inv .3) (ap (allOn (a .p)) (walk-more l i (at-loop .loop .at) (at-test .loop-test .taken) refl))
+    cond-no _ _ (sym (turn-failed _ _ (ap (allOn (a .p)) (walk-more l i (at-loop .loop .at) (at-test .loop-test .taken) refl)) (at-loop .loop .inv .3)
     (unknown-off (a .p) (at-loop .loop .at) (getD l i 0) (h .0)))) refl
 
 on-panel-requires : tie.Need-on-panel-requires Inv-loop μ-loop
@@ -67,7 +68,7 @@ returns-2 c =
     let l = now (a .letters) in
     let i = at-loop .loop .i in
     let h = byte-moves (at-loop .loop .at) (getD l i 0) (sym (call .move-by .ensures) ∙ told .before .m .given .1) in
-    cond-no _ _ (sym (stops _ (at-loop .loop .inv .3) (ap (allOn (a .p)) (walk-more l i (at-loop .loop .at) (at-test .loop-test .taken) (h .1)))
+    cond-no _ _ (sym (turn-failed _ _ (ap (allOn (a .p)) (walk-more l i (at-loop .loop .at) (at-test .loop-test .taken) (h .1))) (at-loop .loop .inv .3)
     (sym (c .before .on-panel .ensures) ∙ not-true _ (c .if1 .taken)))) refl
 
 add-count : tie.Need-add-count Inv-loop μ-loop
@@ -94,7 +95,7 @@ loop-again c =
       omega arith,
       omega arith,
       on-largest (a .p) _ (start .pre .0) on,
-      goes-on _ (at-loop .loop .inv .3) (ap (allOn (a .p)) (walk-more l i (at-loop .loop .at) (at-test .loop-test .taken) (h .1))) on,
+      turn-passed _ _ (ap (allOn (a .p)) (walk-more l i (at-loop .loop .at) (at-test .loop-test .taken) (h .1))) (at-loop .loop .inv .3) on,
     )
 
 returns-3 : tie.Need-returns-3 Inv-loop μ-loop
@@ -104,7 +105,7 @@ returns-3 c =
     let l = now (a .letters) in
     let i = at-loop .loop .i in
     let n : at-loop .loop .count ≡ length (walkFrom (a .s) l) = omega (arith, length-walk (a .s) l) in
-    cond-yes _ _ (at-loop .loop .inv .3 ∙ ap (λ k. allOn (a .p) (walkOn (at-loop .loop .at) k)) (bytes-end l i (c .loop-test .left)))
+    cond-yes _ _ (sym (at-loop .loop .inv .3) ∙ ap (λ k. allOn (a .p) (walkOn (at-loop .loop .at) k)) (bytes-end l i (c .loop-test .left)))
     (ap (λ k. On (record { 0 = k })) n)
 
 pub walk-spec : {M : Type 1} → statement M

@@ -9,6 +9,7 @@ use native.Mathlib.Omega.{arith}
 use lib.ListN.{length, take, drop}
 use lib.Dec.{leb}
 use denote.Ref.{now}
+use Rattle.grid.proofs.Facts.{good as is-good-panel, area-small}
 use Rattle.grid.proofs.Tests.{expect-yes, expect-no, after-good, after-refused, answer-good, answer-refused}
 use Rattle.grid.specs.declared.Cell.{Cell}
 use Rattle.grid.specs.declared.Panel.{Panel}
@@ -16,12 +17,14 @@ use Rattle.grid.specs.declared.Check.the-variants.{Good, Refused}
 use Rattle.grid.specs.declared.Refusal.the-variants.{ShortBuffer}
 use Rattle.grid.specs.Panel.{onPanel}
 use Rattle.grid.specs.Bytes.{cellsIn}
+use Rattle.list.specs.List.{allOn, cellAt}
+use Rattle.list.proofs.Cells.{length-cells, cells-next}
 use Rattle.record.specs.declared.Written.{Written}
-use Rattle.record.specs.Format.{headLength, cellAt, headOf, lettersOf, stepsOf}
-use Rattle.record.specs.Write.{allOn, checkList, checkWrite, recordLength}
+use Rattle.record.specs.Format.{headLength, headOf, lettersOf, stepsOf}
+use Rattle.record.specs.Write.{checkList, checkWrite, recordLength}
 use Rattle.record.proofs.Laws.{both}
-use Rattle.record.proofs.Lists.{length-cells, cells-more, steps-and-one, record-made}
-use Rattle.record.proofs.Checks.{GoodList, list-good, area-bound}
+use Rattle.record.proofs.Lists.{steps-and-one, record-made}
+use Rattle.record.proofs.Checks.{GoodList, list-good}
 use Rattle.record.proofs.write.Statement.{statement}
 use Rattle.record.proofs.write.Tie as tie
 
@@ -44,7 +47,7 @@ good : (c : tie.After-enum-told) → GoodList (P c) (cellsIn (L c))
 good c = list-good (P c) (L c) (passed c)
 
 few : (c : tie.After-enum-told) → length (cellsIn (L c)) ≤ 16384
-few c = omega (arith, good c .few, area-bound (P c) (good c .panel))
+few c = omega (arith, good c .few, area-small (is-good-panel (P c) (good c .panel)))
 
 -- the steps are those of the list
 counted : (c : tie.After-steps-of) → c .steps-of .result .0 ≡ stepsOf (cellsIn (L (c .before)))
@@ -55,7 +58,7 @@ counted c =
 
 -- the first cell and the others
 split : (c : tie.After-enum-told) → cellsIn (L c) ≡ cellAt (L c) 0 ∷ cellsIn (drop 2 (L c))
-split c = cells-more (L c) 0 (omega (arith, good c .some, length-cells (L c)))
+split c = cells-next (L c) 0 (omega (arith, good c .some, length-cells (L c)))
 
 first-on : (c : tie.After-enum-told) → onPanel (P c) (cellAt (L c) 0) ≡ true
 first-on c =

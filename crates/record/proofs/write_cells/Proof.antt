@@ -11,7 +11,7 @@ use Rattle.grid.specs.declared.Cell.{Cell}
 use Rattle.grid.specs.Panel.{OnPanel, onPanel}
 use Rattle.grid.specs.Bytes.{bytes}
 use Rattle.record.specs.Format.{largest, moved, walkFrom, walkOn}
-use Rattle.record.specs.Write.{allOn}
+use Rattle.list.specs.List.{allOn}
 use Rattle.grid.proofs.Facts.{on as on-panel-is}
 use Rattle.record.proofs.Laws.{both, byte-refused, byte-moves, unknown-off}
 use Rattle.record.proofs.Lists.{bytes-end, walk-more, length-walk, put-cell, put-done}

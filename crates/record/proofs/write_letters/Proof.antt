@@ -7,7 +7,8 @@ use native.Mathlib.Omega.{arith}
 use lib.ListN.{length, take, drop, length-set}
 use denote.Ref.{now}
 use Rattle.grid.specs.Bytes.{cellsIn}
-use Rattle.record.specs.Format.{headLength, cellAt, letter, lettersOf}
+use Rattle.list.specs.List.{cellAt}
+use Rattle.record.specs.Format.{headLength, letter, lettersOf}
 use Rattle.record.specs.Write.{recordLength}
 use Rattle.record.proofs.Lists.{letters-more, letters-end, length-letters, put-byte, put-done}
 use Rattle.record.proofs.write_letters.Statement.{statement}

@@ -5,7 +5,7 @@ use mathlib.Core.Path.{refl, sym, ap, _∙_}
 use Prim.Native.Nat.{ℕ, _*_}
 use lib.Dec.{leb}
 use Rattle.grid.proofs.Tests.{expect-yes, expect-no, after-good, after-refused}
-use Rattle.ring.proofs.Passed.{panel-good}
+use Rattle.grid.proofs.Passed.{good-panel}
 use Rattle.ring.proofs.check_ring.Statement.{statement}
 use Rattle.ring.proofs.check_ring.Tie as tie
 
@@ -28,7 +28,7 @@ returns-2 : tie.Need-returns-2
 returns-2 c = after-good _ (sym (c .before .before .before .before .check-panel .ensures) ∙ c .before .before .enum-told .given .1) (expect-no _ _ (sym (c .before .two-wide .ensures) ∙ not-true _ (c .if1 .taken)))
 
 ring-count-requires : tie.Need-ring-count-requires
-ring-count-requires c κs = panel-good _ (sym (c .before .before .before .before .check-panel .ensures) ∙ c .before .before .enum-told .given .1)
+ring-count-requires c κs = good-panel _ (sym (c .before .before .before .before .check-panel .ensures) ∙ c .before .before .enum-told .given .1)
 
 cast-if2 : tie.Need-cast-if2
 cast-if2 c = search needs

@@ -6,10 +6,10 @@ use borrow.Author.Tests.{not-true, not-false}
 use mathlib.Core.Path.{_≡_, refl, sym, _∙_}
 use lib.ListN.{length, drop}
 use Rattle.grid.specs.Bytes.{cellsIn}
-use Rattle.judge.specs.List.{allSteps}
-use Rattle.judge.proofs.Passes.{turn-failed, turn-passed, step-turn, step-end}
-use Rattle.judge.proofs.all_adjacent.Statement.{statement}
-use Rattle.judge.proofs.all_adjacent.Tie as tie
+use Rattle.list.specs.List.{allSteps}
+use Rattle.list.proofs.Turns.{turn-failed, turn-passed, step-turn, step-end}
+use Rattle.list.proofs.all_adjacent.Statement.{statement}
+use Rattle.list.proofs.all_adjacent.Tie as tie
 
 abbrev Inv-loop : tie.InvT-loop
 Inv-loop list i₀ i = (i ≤ length list) × (allSteps (cellsIn (drop i list)) ≡ allSteps (cellsIn list))

@@ -6,10 +6,10 @@ use borrow.Author.Tests.{not-true, not-false}
 use mathlib.Core.Path.{_≡_, refl, sym, _∙_}
 use lib.ListN.{length, drop}
 use Rattle.grid.specs.Bytes.{cellsIn}
-use Rattle.judge.specs.List.{allOn}
-use Rattle.judge.proofs.Passes.{turn-failed, turn-passed, on-turn, on-end}
-use Rattle.judge.proofs.all_on_panel.Statement.{statement}
-use Rattle.judge.proofs.all_on_panel.Tie as tie
+use Rattle.list.specs.List.{allOn}
+use Rattle.list.proofs.Turns.{turn-failed, turn-passed, on-turn, on-end}
+use Rattle.list.proofs.all_on_panel.Statement.{statement}
+use Rattle.list.proofs.all_on_panel.Tie as tie
 
 abbrev Inv-loop : tie.InvT-loop
 Inv-loop p list i₀ i = (i ≤ length list) × (allOn p (cellsIn (drop i list)) ≡ allOn p (cellsIn list))

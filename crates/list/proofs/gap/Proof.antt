@@ -2,8 +2,8 @@
 use native.Mathlib.Omega.{arith}
 use Rattle.grid.specs.Panel.{dist}
 use borrow.Author.Needs.{needs}
-use Rattle.judge.proofs.gap.Statement.{statement}
-use Rattle.judge.proofs.gap.Tie as tie
+use Rattle.list.proofs.gap.Statement.{statement}
+use Rattle.list.proofs.gap.Tie as tie
 
 sub-result : tie.Need-sub-result
 sub-result c = search needs

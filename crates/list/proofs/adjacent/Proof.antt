@@ -3,8 +3,8 @@ use Prim.Native.Nat.{_+_}
 use lib.Dec.{eqb}
 use Rattle.grid.specs.Panel.{apart}
 use borrow.Author.Needs.{needs}
-use Rattle.judge.proofs.adjacent.Statement.{statement}
-use Rattle.judge.proofs.adjacent.Tie as tie
+use Rattle.list.proofs.adjacent.Statement.{statement}
+use Rattle.list.proofs.adjacent.Tie as tie
 
 gap-requires : tie.Need-gap-requires
 gap-requires c κs = search needs

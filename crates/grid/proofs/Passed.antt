@@ -1,0 +1,68 @@
+-- What a check that refuses nothing says of each of its tests, taken apart from the front; and the tests that the calls share, as facts.
+use mathlib.Core.Path.{_≡_, refl, sym, ap, subst}
+use mathlib.Core.Logic.{_≢_}
+use mathlib.Core.Bool.{Bool, true, false, not}
+use borrow.Author.Tests.{not-true}
+use Rattle.grid.specs.declared.Panel.{Panel}
+use Rattle.grid.specs.declared.Cell.{Cell}
+use Rattle.grid.specs.declared.Refusal.{Refusal}
+use Rattle.grid.specs.declared.Refusal.the-variants.{Side, EntryOff, ExitOff, SameCell}
+use Rattle.grid.specs.declared.Check.{Check}
+use Rattle.grid.specs.declared.Check.the-variants.{Good as Fine, Refused}
+use Rattle.grid.specs.Panel.{goodPanel, onPanel, OnPanel, sameCell}
+use Rattle.grid.specs.Check.{expect, after, checkPanel, checkEntry, checkOrder}
+use Rattle.grid.proofs.Tests.{expect-yes, after-good}
+use Rattle.grid.proofs.Facts.{Good, good, is-good, on, is-on, same-ne, ne-same}
+
+abbrev IsFine : Check → Type 0
+IsFine Fine = Unit {0}
+IsFine (Refused r) = ⊥
+
+pub expect-passed : (b : Bool) (r : Refusal) (k : Check) → expect b r k ≡ Fine → b ≡ true
+expect-passed true r k e = refl
+expect-passed false r k e = absurd (subst IsFine (sym e) tt)
+
+pub expect-rest : (b : Bool) (r : Refusal) (k : Check) → expect b r k ≡ Fine → k ≡ Fine
+expect-rest true r k e = e
+expect-rest false r k e = absurd (subst IsFine (sym e) tt)
+
+pub after-passed : (c k : Check) → after c k ≡ Fine → c ≡ Fine
+after-passed Fine k e = refl
+after-passed (Refused r) k e = absurd (subst IsFine (sym e) tt)
+
+pub after-rest : (c k : Check) → after c k ≡ Fine → k ≡ Fine
+after-rest Fine k e = e
+after-rest (Refused r) k e = absurd (subst IsFine (sym e) tt)
+
+pub good-panel : (p : Panel) → checkPanel p ≡ Fine → Good p
+good-panel p e = good p (expect-passed (goodPanel p) Side Fine e)
+
+pub good-entry : (p : Panel) (s : Cell) → checkEntry p s ≡ Fine → Good p × OnPanel p s
+good-entry p s e =
+    let here = expect (onPanel p s) EntryOff Fine in
+    (good-panel p (after-passed (checkPanel p) here e), on p s (expect-passed (onPanel p s) EntryOff Fine (after-rest (checkPanel p) here e)))
+
+-- an order whose panel is good and whose terminals are two different cells of it: tests 1 to 4
+pub record GoodOrder (p : Panel) (s t : Cell) : Type 0 where
+  pub panel : Good p
+  pub entry : OnPanel p s
+  pub exit : OnPanel p t
+  pub differ : s ≢ t
+
+pub good-order : (p : Panel) (s t : Cell) → checkOrder p s t ≡ Fine → GoodOrder p s t
+good-order p s t e =
+    let last = expect (not (sameCell s t)) SameCell Fine in
+    let here = expect (onPanel p t) ExitOff last in
+    let front = good-entry p s (after-passed (checkEntry p s) here e) in
+    let back = after-rest (checkEntry p s) here e in
+    record {
+      panel = front .0;
+      entry = front .1;
+      exit = on p t (expect-passed (onPanel p t) ExitOff last back);
+      differ = same-ne s t (not-true (sameCell s t) (expect-passed (not (sameCell s t)) SameCell Fine (expect-rest (onPanel p t) ExitOff last back)));
+    }
+
+pub is-order : {p : Panel} {s t : Cell} → GoodOrder p s t → Fine ≡ checkOrder p s t
+is-order {p} {s} {t} o =
+    after-good _ (sym (after-good _ (sym (expect-yes _ _ (is-good (o .panel)) refl)) (expect-yes _ _ (is-on (o .entry)) refl)))
+    (expect-yes _ _ (is-on (o .exit)) (expect-yes _ _ (ap not (ne-same s t (o .differ))) refl))

@@ -1,0 +1,4 @@
+pub mod Cells
+pub mod Turns
+pub mod Whole
+pub mod Tracks

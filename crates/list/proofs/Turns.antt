@@ -1,0 +1,44 @@
+-- One turn of each loop over the list: the test of the cell at a byte comes before the tests of the cells behind it, and at the end no
+-- test is left. Where the tests from a byte on amount to a, a failed one says that a is false, and a passed one is taken away.
+use Prim.Native.Nat.{ℕ, _+_, _≤_, _<_}
+use native.Mathlib.Omega.{arith}
+use mathlib.Core.Path.{_≡_, refl, sym, ap, _∙_}
+use mathlib.Core.Bool.{Bool, true, false, _&&_}
+use mathlib.Core.List.{List}
+use lib.ListN.{length, drop, getD}
+use Rattle.grid.specs.declared.Panel.{Panel}
+use Rattle.grid.specs.declared.Cell.{Cell}
+use Rattle.grid.specs.Panel.{onPanel, neighbours}
+use Rattle.grid.specs.Bytes.{cellsIn}
+use Rattle.list.specs.List.{allOn, allSteps, cellAt}
+use Rattle.list.proofs.Cells.{cells-next, cells-end, pairs-more, pairs-end}
+
+pub turn-failed : {w a : Bool} (t k : Bool) → w ≡ (t && k) → w ≡ a → t ≡ false → false ≡ a
+turn-failed t k u e f = sym (ap (λ (b : Bool). b && k) f) ∙ sym u ∙ e
+
+pub turn-passed : {w a : Bool} (t k : Bool) → w ≡ (t && k) → w ≡ a → t ≡ true → k ≡ a
+turn-passed t k u e f = sym (ap (λ (b : Bool). b && k) f) ∙ sym u ∙ e
+
+module _ (b : List ℕ) (i : ℕ) where
+  module _ (p : Panel) where
+    pub on-turn : i + 1 < length b → allOn p (cellsIn (drop i b)) ≡ (onPanel p (cellAt b i) && allOn p (cellsIn (drop (i + 2) b)))
+    on-turn h = ap (allOn p) (cells-next b i h)
+
+    pub on-end : length b ≤ i + 1 → allOn p (cellsIn (drop i b)) ≡ true
+    on-end h = ap (allOn p) (cells-end b i h)
+
+  -- the cell after the one at i
+  next-cell : cellAt b (i + 2) ≡ record { x = getD b (i + 2) 0; y = getD b (i + 3) 0 }
+  next-cell = λ j. record { x = getD b (i + 2) 0; y = getD b (e j) 0 }
+    where
+      e : i + 2 + 1 ≡ i + 3
+      e = omega arith
+
+  pub step-turn : i + 3 < length b
+      → allSteps (cellsIn (drop i b)) ≡ (neighbours (cellAt b i) (record { x = getD b (i + 2) 0; y = getD b (i + 3) 0 }) && allSteps (cellsIn (drop (i + 2) b)))
+  step-turn h =
+      pairs-more allSteps (λ a c k. neighbours a c && k) (λ a c r. refl) b i h
+      ∙ ap (λ (c : Cell). neighbours (cellAt b i) c && allSteps (cellsIn (drop (i + 2) b))) next-cell
+
+  pub step-end : length b ≤ i + 3 → allSteps (cellsIn (drop i b)) ≡ true
+  step-end h = pairs-end allSteps true refl (λ a. refl) b i h
