@@ -1,7 +1,6 @@
 -- What the calls answer fits into its place of the packed number: a class is at most 5, and a count at most mn.
 use Prim.Native.Nat.{ℕ, _*_, _≤_, _<_, _^_}
 use native.Mathlib.Omega.{arith}
-use native.Mathlib.Nat.{mul-le-mul}
 use mathlib.Core.Path.{_≡_, refl, subst⁻¹, _∙_}
 use mathlib.Core.Bool.{Bool, true, false, cond}
 use mathlib.Core.List.{List}
@@ -14,25 +13,22 @@ use Rattle.grid.specs.declared.Check.the-variants.{Good, Refused}
 use Rattle.grid.specs.Bytes.{cellsIn}
 use Rattle.grid.specs.declared.Refusal.the-variants.{ShortBuffer}
 use Rattle.grid.specs.Check.{checkOrder, expect, answer}
-use Rattle.grid.proofs.Facts as facts
+use Rattle.grid.proofs.Facts.{area-small}
+use Rattle.grid.proofs.Passed.{after-passed, after-rest, good-order}
 use Rattle.count.specs.declared.ClassCount.{ClassCount}
 use Rattle.count.specs.Count.{area, f1, f2, c2, c0, decided, named, classCount, class, count}
 use Rattle.count.proofs.Laws.{bounds}
 use Rattle.bound.specs.declared.Bounded.{Bounded}
 use Rattle.bound.specs.declared.Bounded.the-variants as bounded
 use Rattle.bound.specs.Bound.{boundOf, numberOf, classOf, countOf}
-use Rattle.bound.proofs.Order.{good-order}
 use Rattle.draw.specs.declared.DrawAnswer.{DrawAnswer}
 use Rattle.draw.specs.declared.DrawAnswer.the-variants as drawn
 use Rattle.draw.specs.Draw as draw
 use Rattle.judge.specs.declared.Judged.{Judged}
 use Rattle.judge.specs.declared.Judged.the-variants as judged
 use Rattle.judge.specs.Judge.{sizesCheck, cellsCheck, judgeCheck, judgeOf, judgedNumber, judgedCount}
-use Rattle.judge.proofs.Checks.{after-passed, after-rest, sized, passed}
+use Rattle.judge.proofs.Checks.{sized, passed}
 use Rattle.host.specs.Host.{packed, packedBound, packedDraw, packedJudge}
-
-area-small : {p : Panel} → facts.Good p → area p ≤ 16384
-area-small g = mul-le-mul (g .widest) (g .highest)
 
 -- ---- Bound
 
@@ -106,7 +102,7 @@ judge-small p s t list room Good e =
     let sizes = sizesCheck p s t (length list) room in
     let cells = cellsCheck p s t (cellsIn list) in
     let z = sized p s t (length list) room (after-passed sizes cells e) in
-    omega (arith, passed p s t (cellsIn list) (after-rest sizes cells e) .few, area-small (facts.good p (z .ordered .sides)))
+    omega (arith, passed p s t (cellsIn list) (after-rest sizes cells e) .few, area-small (z .ordered .panel))
 judge-small p s t list room (Refused r) e = omega arith
 
 module _ (p : Panel) (s t : Cell) (list : List ℕ) (room : ℕ) {j : Judged} (told : j ≡ judgeOf p s t list room) {refusal count : ℕ} (e₁ : refusal ≡ judgedNumber j) (e₂ : count ≡ judgedCount j) where

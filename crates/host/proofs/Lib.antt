@@ -1,2 +1,3 @@
 pub mod Packing
 pub mod Answers
+pub mod Accepted
