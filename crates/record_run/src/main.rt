@@ -337,6 +337,20 @@ fn write_into(list: &[u8], out: &mut [u8], k: usize)
     show_write(128, 128, list, &mut out[0..k]);
 }
 
+fn same(a: &[u8], b: &[u8]) -> bool {
+    if a.len() != b.len() {
+        return false;
+    }
+    let mut i = 0;
+    while i < a.len() {
+        if a[i] != b[i] {
+            return false;
+        }
+        i += 1;
+    }
+    true
+}
+
 // A track over the largest panel, there and back, and buffers a byte too short.
 fn largest() {
     text(b"128 by 128\n");
@@ -348,7 +362,7 @@ fn largest() {
     let mut back = [85u8; 32768];
     read_into(&out, &mut back, 32767);
     read_into(&out, &mut back, 32768);
-    if check::same(&list, &back) {
+    if same(&list, &back) {
         text(b"the same list\n");
     } else {
         text(b"another list\n");
