@@ -1,6 +1,6 @@
 -- Tracks drawn into a buffer: a straight line, and a track drawn behind another one.
 use Prim.Native.Nat.{ℕ, _+_, _-_, _*_, _≤_, _<_}
-use mathlib.Core.Path.{_≡_, refl, sym, ap, _∙_, subst, subst₂}
+use mathlib.Core.Path.{_≡_, refl, sym, ap, _∙_, subst₂}
 use mathlib.Core.List.{List, [], _++_, append-nil}
 use native.Mathlib.Omega.{arith}
 use lib.ListN.{length, take, drop, length-append, length-take, length-drop, drop-of-length-le}
@@ -21,12 +21,12 @@ use Rattle.corner.proofs.Line.{Axis, Way, in-row, in-column, line-track
 
 -- ---- a straight line
 
--- what a line of n cells from p to q asks for, up and down; m + 1 cells have room
-pub ask-up : (p q m : ℕ) {len : ℕ} → p ≤ q → q ≤ 255 → dist p q ≤ m → 2 * (m + 1) ≤ len → (p + (q - p + 1) ≤ 256) × (2 * (q - p + 1) ≤ len)
-ask-up p q m h l k r = let d = dist-up h in (omega arith, omega arith)
+-- what a line of n cells from p towards q asks for, up and down; m + 1 cells have room
+pub ask-up : (p q m : ℕ) {n len : ℕ} → p ≤ q → q ≤ 255 → n ≤ dist p q + 1 → dist p q ≤ m → 2 * (m + 1) ≤ len → (p + n ≤ 256) × (2 * n ≤ len)
+ask-up p q m h l k o r = let d = dist-up h in (omega arith, omega arith)
 
-pub ask-down : (p q m : ℕ) {len : ℕ} → q < p → dist p q ≤ m → 2 * (m + 1) ≤ len → (p - q + 1 ≤ p + 1) × (2 * (p - q + 1) ≤ len)
-ask-down p q m h k r = let l : q ≤ p = omega arith in let d = dist-down l in (omega arith, omega arith)
+pub ask-down : (p q m : ℕ) {n len : ℕ} → q ≤ p → n ≤ dist p q + 1 → dist p q ≤ m → 2 * (m + 1) ≤ len → (n ≤ p + 1) × (2 * n ≤ len)
+ask-down p q m h k o r = let d = dist-down h in (omega arith, omega arith)
 
 pub line-drawn : {e : ℕ → Cell} {p q : ℕ} {g : ℕ → ℕ} {a c : Cell} (A : Axis e) (W : Way p q g) → e p ≡ a → e q ≡ c → (k n : ℕ) {old new : List ℕ}
     → n ≡ dist p q + 1 → k ≡ dist p q + 1 → new ≡ bytes (line (λ i. e (g i)) n) ++ drop (2 * n) old → Drawn (Inside a c) a c k old new
@@ -39,12 +39,6 @@ line-drawn {e} {p} {q} {g} {a} {c} A W s t k n {old} {new} u v w = record {
 
 pub lt-le : {p q : ℕ} → q < p → q ≤ p
 lt-le h = omega arith
-
-pub cells-up : (p q : ℕ) → p ≤ q → q - p + 1 ≡ dist p q + 1
-cells-up p q h = let d = dist-up h in omega arith
-
-pub cells-down : (p q : ℕ) → q < p → p - q + 1 ≡ dist p q + 1
-cells-down p q h = let l : q ≤ p = omega arith in let d = dist-down l in omega arith
 
 -- in a row, and in a column
 pub row-drawn : {a c : Cell} {g : ℕ → ℕ} → Way (a .x) (c .x) g → a .y ≡ c .y → {n : ℕ} {old new : List ℕ} → n ≡ dist (a .x) (c .x) + 1

@@ -1,5 +1,5 @@
 -- A corner track drawn line by line from its corner: what has been drawn, and any track of the rectangle that remains, are together a track of the whole.
-use Prim.Native.Nat.{ℕ, _+_, _-_, _*_, _≤_, _<_}
+use Prim.Native.Nat.{ℕ, _+_, _-_, _*_, _≤_}
 use mathlib.Core.Path.{_≡_, refl, sym, ap, _∙_, subst}
 use mathlib.Core.List.{List, [], _++_, append-assoc}
 use native.Mathlib.Omega.{arith}
@@ -71,16 +71,16 @@ module _ {a b t : Cell} {old : List ℕ} (ready : Ready a b t old) {a' b' : Cell
       rest : drop (at + 2 * k) new ≡ drop (at + 2 * k) old
       rest = sym (drop-drop (2 * k) at new) ∙ ap (drop (2 * k)) (ap (drop at) (d .written) ∙ drop-at (bytes (d .cells)) (drop at old) at size) ∙ drop-drop (2 * k) at old
 
-  pub step : {c a'' b'' : Cell} {n k : ℕ} {part : List ℕ} → Peel a' b' t c a'' b'' n → k ≡ n
-      → Drawn (Inside a' c) a' c k (take (length new - at) (drop at new)) part → Begun a b t old a'' b'' (at + 2 * n) (putMid at (length new - at) new part)
-  step {c} {a''} {b''} {n} {k} {part} p q e = record {
+  pub step : {c a'' b'' : Cell} {n k at' : ℕ} {part : List ℕ} → Peel a' b' t c a'' b'' n → k ≡ n → at' ≡ at + 2 * n
+      → Drawn (Inside a' c) a' c k (take (length new - at) (drop at new)) part → Begun a b t old a'' b'' at' (putMid at (length new - at) new part)
+  step {c} {a''} {b''} {n} {k} {at'} {part} p q u e = record {
     corner = small-inside (d .corner) (d .opposite) (p .rest a'' (first-inside a'' b''));
     opposite = small-inside (d .corner) (d .opposite) (p .rest b'' (last-inside a'' b''));
     target = p .target;
     cells = d .cells ++ e .cells;
-    size = omega (arith, length-append (d .cells) (e .cells), d .size, e .size);
+    size = omega (arith, length-append (d .cells) (e .cells), d .size, e .size, u);
     counts = omega (arith, length-append (d .cells) (e .cells), d .counts, p .counts, e .size);
-    written = behind e ∙ ap (λ (i : ℕ). bytes (d .cells ++ e .cells) ++ drop (at + 2 * i) old) q;
+    written = behind e ∙ ap (λ (i : ℕ). bytes (d .cells ++ e .cells) ++ drop i old) (ap (λ (i : ℕ). at + 2 * i) q ∙ sym u);
     whole = λ m w. subst (TrackIn (Inside a b) a t) (sym (append-assoc (d .cells) (e .cells) m)) (d .whole (e .cells ++ m) (join (p .line) (p .rest) (p .apart) (e .track) (p .beside) w));
   }
 

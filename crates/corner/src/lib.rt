@@ -219,11 +219,11 @@ pub fn corner_track_back(a: Cell, b: Cell, t: Cell, buf: &mut [u8]) -> Cells
     let mut opposite = b;
     let mut at: usize = 2 * (count.0 as usize);
     while !one_line(corner, opposite, t) {
-        let p = peel(corner, opposite, t);
-        at = at - 2 * p.cells;
-        straight(p.end, corner, &mut buf[at..]);
-        corner = p.corner;
-        opposite = p.opposite;
+        let first = peel(corner, opposite, t);
+        at = at - 2 * first.cells;
+        straight(first.end, corner, &mut buf[at..]);
+        corner = first.corner;
+        opposite = first.opposite;
     }
     straight(t, corner, buf);
     count

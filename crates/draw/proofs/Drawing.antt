@@ -1,6 +1,6 @@
 -- Legs drawn one after the other: a prefix is written, then the rest of the buffer is lent to the next drawing. One law serves every plan.
 use Prim.Native.Nat.{ℕ, _+_, _-_, _*_, _≤_}
-use mathlib.Core.Path.{_≡_, refl, sym, ap, _∙_, subst}
+use mathlib.Core.Path.{_≡_, sym, ap, _∙_, subst}
 use mathlib.Core.Bool.{Bool, true, false, cond}
 use mathlib.Core.Logic.{_≢_}
 use mathlib.Core.List.{List, [], _∷_, _++_, append-nil, append-assoc}
@@ -10,7 +10,7 @@ use lib.Seq.{take-at, drop-at, drop-drop}
 use borrow.Rule.Slice.PartMut.{putMid}
 use Rattle.grid.specs.declared.Panel.{Panel}
 use Rattle.grid.specs.declared.Cell.{Cell}
-use Rattle.grid.specs.Panel.{OnPanel, maxSide}
+use Rattle.grid.specs.Panel.{OnPanel}
 use Rattle.grid.specs.Track.{TrackIn}
 use Rattle.grid.specs.Bytes.{bytes}
 use Rattle.grid.proofs.Facts.{Good}
@@ -21,7 +21,7 @@ use Rattle.corner.specs.Drawn as corner
 use Rattle.corner.proofs.Drawn.{part-written, part-long}
 use Rattle.draw.specs.declared.Leg.{Leg}
 use Rattle.draw.specs.declared.Plan.{Plan}
-use Rattle.draw.specs.Leg.{start, stop, legs, legCount, total}
+use Rattle.draw.specs.Leg.{legs, total}
 use Rattle.count.specs.Count.{count}
 use Rattle.draw.specs.Plan.{planOf}
 use Rattle.draw.specs.Drawing.{Each, Drawn, Drawable, Room, Written}

@@ -2,18 +2,18 @@
 -- terminals the row that is found, laid as it is found, has these terminals for its ends. A row laid on the panel is the row's track turned,
 -- mirrored and perhaps reversed, and so a track.
 use Prim.Native.Nat.{ℕ, zero, suc, _+_, _-_, _*_, _≤_, _<_}
-use mathlib.Core.Path.{_≡_, refl, sym, ap, _∙_, subst, subst₂, fun-ext}
+use mathlib.Core.Path.{_≡_, refl, sym, ap, _∙_, subst, subst₂}
 use mathlib.Core.Bool.{Bool, true, false, not, cond, _&&_}
 use mathlib.Core.Logic.{_≢_}
 use mathlib.Core.List.{List, [], _∷_, _++_, map, reverse, reverse-append}
 use native.Mathlib.Omega.{arith}
 use lib.Dec.{eqb, leb, ltb}
-use lib.ListN.{length, drop}
+use lib.ListN.{drop}
 use borrow.Author.Tests.{eqb-true, ltb-true, leb-true}
 use Rattle.grid.specs.declared.Panel.{Panel}
 use Rattle.grid.specs.declared.Cell.{Cell}
-use Rattle.grid.specs.Panel.{OnPanel, onPanel, sameCell, dist, apart, Neighbours, turnedCell}
-use Rattle.grid.specs.Track.{TrackIn, Track}
+use Rattle.grid.specs.Panel.{OnPanel, onPanel, sameCell, dist, apart, turnedCell}
+use Rattle.grid.specs.Track.{Track}
 use Rattle.grid.specs.Bytes.{bytes}
 use Rattle.grid.proofs.Facts.{and-left, and-right, and-both, same-eq, ne-same, is-on, cell-eq}
 use Rattle.grid.proofs.Track.{backwards}

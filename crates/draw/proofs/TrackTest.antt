@@ -8,7 +8,7 @@ use native.Mathlib.Omega.{arith}
 use Rattle.grid.specs.declared.Panel.{Panel}
 use Rattle.grid.specs.declared.Cell.{Cell}
 use Rattle.grid.specs.Panel.{OnPanel, onPanel, sameCell, neighbours}
-use Rattle.grid.specs.Track.{Walk, All, Once, TrackIn, Track}
+use Rattle.grid.specs.Track.{Walk, All, Once, Track}
 use Rattle.grid.proofs.Facts.{and-left, and-right, on, same-eq, same-ne, next}
 use Rattle.draw.proofs.Cases.{equal?}
 

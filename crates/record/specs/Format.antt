@@ -80,6 +80,7 @@ moved c b =
     (cond (eqb b west) (record { x = c .x - 1; y = c .y })
     (record { x = 0; y = 0 }))))
 
+-- one of the four letters
 unfoldable pub known : ℕ → Bool
 known b = eqb b north || (eqb b east || (eqb b south || eqb b west))
 

@@ -97,20 +97,41 @@ fn not_written(m: u32, n: u32, list: &[u8]) {
     show_bytes(&out);
 }
 
-fn write_refusals() {
-    text(b"refusals of Write\n");
+fn bad_sides() {
     not_written(0, 5, &[1, 1, 1, 2]);
     not_written(5, 129, &[1, 1, 1, 2]);
     not_written(5, 4294967295, &[1, 1, 1, 2]);
+}
+
+fn bad_lengths() {
     not_written(2, 2, &[]);
     not_written(2, 2, &[1, 1, 1]);
+}
+
+fn bad_cells() {
     not_written(2, 2, &[1, 1, 1, 3]);
     not_written(2, 2, &[0, 1, 1, 1]);
+}
+
+fn bad_steps() {
     not_written(3, 2, &[1, 1, 3, 1]);
     not_written(3, 2, &[1, 1, 2, 2]);
     not_written(3, 2, &[1, 1, 1, 1]);
+}
+
+fn bad_counts() {
     not_written(2, 2, &[1, 1]);
     not_written(2, 1, &[1, 1, 2, 1, 1, 1]);
+}
+
+fn write_refusals() {
+    text(b"refusals of Write\n");
+    bad_sides();
+    bad_lengths();
+    bad_cells();
+    bad_steps();
+    bad_counts();
+    // A buffer a byte too short.
     not_written(4, 1, &[1, 1, 2, 1, 3, 1, 4, 1]);
     // Two faults: the one tested first.
     not_written(2, 2, &[1, 1, 2, 2, 3, 3]);
@@ -123,25 +144,41 @@ fn try_file(file: &[u8]) {
     show_letters(file);
 }
 
-fn read_refusals() {
-    text(b"refusals of Read and Letters\n");
+fn bad_marks() {
     try_file(&[]);
     try_file(&[0x46]);
     try_file(&[0x46, 0x55, 5, 1, 2, 1, 0, 2, 0x45, 0x45]);
     try_file(&[0x54, 0x46, 5, 1, 2, 1, 0, 2, 0x45, 0x45]);
+}
+
+fn bad_heads() {
     try_file(&[0x46, 0x54, 5, 1, 2, 1, 0]);
     try_file(&[0x46, 0x54, 0, 1, 2, 1, 0, 2, 0x45, 0x45]);
     try_file(&[0x46, 0x54, 5, 129, 2, 1, 0, 2, 0x45, 0x45]);
     try_file(&[0x46, 0x54, 5, 1, 6, 1, 0, 2, 0x45, 0x45]);
     try_file(&[0x46, 0x54, 5, 1, 2, 0, 0, 2, 0x45, 0x45]);
+}
+
+fn bad_step_counts() {
     try_file(&[0x46, 0x54, 5, 1, 2, 1, 0, 0, 0x45, 0x45]);
     try_file(&[0x46, 0x54, 2, 1, 1, 1, 0, 2, 0x45, 0x57]);
     try_file(&[0x46, 0x54, 5, 1, 2, 1, 1, 2, 0x45, 0x45]);
+}
+
+fn bad_letters() {
     try_file(&[0x46, 0x54, 5, 1, 2, 1, 0, 2, 0x45]);
     try_file(&[0x46, 0x54, 5, 1, 2, 1, 0, 2, 0x45, 0x58]);
     try_file(&[0x46, 0x54, 5, 1, 2, 1, 0, 3, 0x4E, 0x45, 0x65]);
     try_file(&[0x46, 0x54, 5, 1, 2, 1, 0, 2, 0x57, 0x57]);
     try_file(&[0x46, 0x54, 5, 1, 2, 1, 0, 2, 0x4E, 0x53]);
+}
+
+fn read_refusals() {
+    text(b"refusals of Read and Letters\n");
+    bad_marks();
+    bad_heads();
+    bad_step_counts();
+    bad_letters();
 }
 
 // Reads into the first k bytes of a buffer.
@@ -300,6 +337,20 @@ fn write_into(list: &[u8], out: &mut [u8], k: usize)
     show_write(128, 128, list, &mut out[0..k]);
 }
 
+fn same(a: &[u8], b: &[u8]) -> bool {
+    if a.len() != b.len() {
+        return false;
+    }
+    let mut i = 0;
+    while i < a.len() {
+        if a[i] != b[i] {
+            return false;
+        }
+        i += 1;
+    }
+    true
+}
+
 // A track over the largest panel, there and back, and buffers a byte too short.
 fn largest() {
     text(b"128 by 128\n");
@@ -311,7 +362,7 @@ fn largest() {
     let mut back = [85u8; 32768];
     read_into(&out, &mut back, 32767);
     read_into(&out, &mut back, 32768);
-    if check::same(&list, &back) {
+    if same(&list, &back) {
         text(b"the same list\n");
     } else {
         text(b"another list\n");

@@ -1,6 +1,6 @@
 -- What a panel and a buffer that pass Ring's checks are known to be.
 use Prim.Native.Nat.{ℕ, _*_, _≤_}
-use mathlib.Core.Path.{_≡_, refl, sym}
+use mathlib.Core.Path.{_≡_, refl}
 use mathlib.Core.Bool.{Bool, true, false}
 use native.Mathlib.Omega.{arith}
 use lib.Dec.{leb}
@@ -8,7 +8,6 @@ use borrow.Author.Tests.{leb-true}
 use Rattle.grid.specs.declared.Panel.{Panel}
 use Rattle.grid.specs.declared.Refusal.{Refusal}
 use Rattle.grid.specs.declared.Refusal.the-variants.{Side, OneWide, ShortBuffer}
-use Rattle.grid.specs.declared.Check.{Check}
 use Rattle.grid.specs.declared.Check.the-variants.{Good as Fine, Refused}
 use Rattle.grid.specs.Panel.{goodPanel}
 use Rattle.grid.specs.Check.{expect, after, checkPanel}

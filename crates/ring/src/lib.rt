@@ -22,15 +22,12 @@ fn two_wide(p: Panel) -> bool
     if 2 <= p.width { 2 <= p.height } else { false }
 }
 
+// mn without its odd cell.
 fn ring_count(p: Panel) -> Cells
     requires { ⌜ Good p ⌝ }
     ensures { λ r. ⌜ r .0 ≡ ringCount p ⌝ }
 {
-    let all = p.width * p.height;
-    if all % 2 == 1 {
-        return Cells(all - 1);
-    }
-    Cells(all)
+    Cells(p.width * p.height / 2 * 2)
 }
 
 // The refusals in order, for a buffer of `size` bytes.
@@ -65,8 +62,8 @@ pub fn ring(p: Panel, buf: &mut [u8]) -> Ringed
         y: p.height,
     };
     let last = Cell { x: 2, y: 1 };
-    let count = corner::corner_track(first, far, last, buf);
-    Ringed::Drawn(count)
+    corner::corner_track(first, far, last, buf);
+    Ringed::Drawn(ring_count(p))
 }
 
 // Document 01's number of the refusal, 0 where there is none.

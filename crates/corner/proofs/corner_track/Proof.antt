@@ -1,10 +1,10 @@
+-- Line by line from the corner: the invariant is `Begun`, the measure the sum of the sides that remain.
 use Prim.Native.Nat.{_+_}
 use mathlib.Core.Path.{sym, _∙_}
 use borrow.Author.Needs.{needs}
 use borrow.Author.Tests.{not-true, not-false}
 use native.Mathlib.Omega.{arith}
 use Rattle.grid.specs.Panel.{dist}
-use Rattle.corner.specs.Corner.{trackCount}
 use Rattle.corner.proofs.First.{only}
 use Rattle.corner.proofs.Drawn.{drawn-long}
 use Rattle.corner.proofs.Forward.{Begun, begun, room, ask-line, ask-last, line-end, step, finish}
@@ -53,7 +53,7 @@ loop-less : tie.Need-loop-less Inv-loop μ-loop
 loop-less c = omega (arith, c .before .before .before .before .before .before .before .peel .ensures .less)
 
 loop-again : tie.Need-loop-again Inv-loop μ-loop
-loop-again c = let p = c .before .before .before .before .before .before .before .peel .ensures in step (c .before .before .before .before .before .before .before .before .before .before .before .before .before .pre) (c .before .before .before .before .before .before .before .before .before .before .loop .inv) p (sym (p .long)) (c .before .before .before .before .before .straight .ensures)
+loop-again c = let p = c .before .before .before .before .before .before .before .peel .ensures in step (c .before .before .before .before .before .before .before .before .before .before .before .before .before .pre) (c .before .before .before .before .before .before .before .before .before .before .loop .inv) p (sym (p .long)) (omega arith) (c .before .before .before .before .before .straight .ensures)
 
 sub-straight-2 : tie.Need-sub-straight-2 Inv-loop μ-loop
 sub-straight-2 c = omega (arith, room (c .before .before .before .before .before .pre) (c .before .before .loop .inv))

@@ -1,10 +1,10 @@
+-- Line by line from the end of the buffer's part: the invariant is `Ended`, the measure the sum of the sides that remain.
 use Prim.Native.Nat.{_+_}
 use mathlib.Core.Path.{refl, sym, _∙_}
 use borrow.Author.Needs.{needs}
 use borrow.Author.Tests.{not-true, not-false}
 use native.Mathlib.Omega.{arith}
 use Rattle.grid.specs.Panel.{dist}
-use Rattle.corner.specs.Corner.{trackCount}
 use Rattle.corner.proofs.First.{only}
 use Rattle.corner.proofs.Drawn.{drawn-long}
 use Rattle.corner.proofs.Backward.{Ended, ended, long, fits, ask-line, ask-last, line-start, put-back, step, finish}

@@ -1,3 +1,4 @@
+-- The line to the left: cell i is the 16-bit number 256 * y + x - i.
 use Prim.Native.Nat.{_-_}
 use native.Mathlib.Omega.{arith}
 use lib.ListN.{length-set}

@@ -1,8 +1,10 @@
 -- Which of the four lines it is; each is a way up or down along a row or a column.
 use borrow.Author.Needs.{needs}
+use Prim.Native.Nat.{_+_, _-_}
 use native.Mathlib.Omega.{arith}
 use Rattle.corner.proofs.Line.{way-up, way-down}
-use Rattle.corner.proofs.Drawn.{ask-up, ask-down, cells-up, cells-down, row-drawn, column-drawn, upright, lt-le}
+use Rattle.corner.proofs.Drawn.{ask-up, ask-down, row-drawn, column-drawn, upright, lt-le}
+use Rattle.corner.proofs.Between.{dist-up, dist-down}
 use Rattle.corner.proofs.straight.Statement.{statement}
 use Rattle.corner.proofs.straight.Tie as tie
 
@@ -19,7 +21,8 @@ cast-right-3 : tie.Need-cast-right-3
 cast-right-3 c = search needs
 
 right-requires : tie.Need-right-requires
-right-requires c κs = ask-up _ _ _ (c .before .if2 .taken) (c .before .before .before .before .pre .1 .0 .across) (omega arith) (c .before .before .before .before .pre .1 .1 .1)
+right-requires c κs =
+    ask-up _ _ _ (c .before .if2 .taken) (c .before .before .before .before .pre .1 .0 .across) (omega (arith, dist-up (c .before .if2 .taken))) (omega arith) (c .before .before .before .before .pre .1 .1 .1)
 
 cast-left : tie.Need-cast-left
 cast-left c = search needs
@@ -37,7 +40,8 @@ cast-left-3 : tie.Need-cast-left-3
 cast-left-3 c = search needs
 
 left-requires : tie.Need-left-requires
-left-requires c κs = ask-down _ _ _ (c .before .if2 .left) (omega arith) (c .before .before .before .before .pre .1 .1 .1)
+left-requires c κs =
+    ask-down _ _ _ (lt-le (c .before .if2 .left)) (omega (arith, dist-down (lt-le (c .before .if2 .left)))) (omega arith) (c .before .before .before .before .pre .1 .1 .1)
 
 cast-down : tie.Need-cast-down
 cast-down c = search needs
@@ -52,7 +56,8 @@ cast-down-3 : tie.Need-cast-down-3
 cast-down-3 c = search needs
 
 down-requires : tie.Need-down-requires
-down-requires c κs = ask-up _ _ _ (c .before .if3 .taken) (c .before .before .before .before .pre .1 .0 .down) (omega arith) (c .before .before .before .before .pre .1 .1 .1)
+down-requires c κs =
+    ask-up _ _ _ (c .before .if3 .taken) (c .before .before .before .before .pre .1 .0 .down) (omega (arith, dist-up (c .before .if3 .taken))) (omega arith) (c .before .before .before .before .pre .1 .1 .1)
 
 cast-up : tie.Need-cast-up
 cast-up c = search needs
@@ -70,31 +75,44 @@ cast-up-3 : tie.Need-cast-up-3
 cast-up-3 c = search needs
 
 up-requires : tie.Need-up-requires
-up-requires c κs = ask-down _ _ _ (c .before .if3 .left) (omega arith) (c .before .before .before .before .pre .1 .1 .1)
+up-requires c κs =
+    ask-down _ _ _ (lt-le (c .before .if3 .left)) (omega (arith, dist-down (lt-le (c .before .if3 .left)))) (omega arith) (c .before .before .before .before .pre .1 .1 .1)
 
 same-length : tie.Need-same-length
 same-length c = search needs
 
 returns : tie.Need-returns
-returns c = row-drawn (way-up (c .before .before .before .before .if2 .taken)) (c .before .before .before .before .before .if1 .taken) (cells-up _ _ (c .before .before .before .before .if2 .taken)) (c .before .before .right .ensures)
+returns c =
+    let g = c .before .before .before .before .before .before .before .args in
+    let h = c .before .before .before .before .if2 .taken in
+    row-drawn (way-up h) (c .before .before .before .before .before .if1 .taken) {n = g .c .x - g .a .x + 1} (omega (arith, dist-up h)) (c .before .before .right .ensures)
 
 same-length-2 : tie.Need-same-length-2
 same-length-2 c = search needs
 
 returns-2 : tie.Need-returns-2
-returns-2 c = row-drawn (way-down (lt-le (c .before .before .before .before .if2 .left))) (c .before .before .before .before .before .if1 .taken) (cells-down _ _ (c .before .before .before .before .if2 .left)) (c .before .before .left .ensures)
+returns-2 c =
+    let g = c .before .before .before .before .before .before .before .args in
+    let h = lt-le (c .before .before .before .before .if2 .left) in
+    row-drawn (way-down h) (c .before .before .before .before .before .if1 .taken) {n = g .a .x - g .c .x + 1} (omega (arith, dist-down h)) (c .before .before .left .ensures)
 
 same-length-3 : tie.Need-same-length-3
 same-length-3 c = search needs
 
 returns-3 : tie.Need-returns-3
-returns-3 c = column-drawn (way-up (c .before .before .before .before .if3 .taken)) (upright (c .before .before .before .before .before .before .before .pre .1 .1 .0) (c .before .before .before .before .before .if1 .left)) (cells-up _ _ (c .before .before .before .before .if3 .taken)) (c .before .before .down .ensures)
+returns-3 c =
+    let g = c .before .before .before .before .before .before .before .args in
+    let h = c .before .before .before .before .if3 .taken in
+    column-drawn (way-up h) (upright (c .before .before .before .before .before .before .before .pre .1 .1 .0) (c .before .before .before .before .before .if1 .left)) {n = g .c .y - g .a .y + 1} (omega (arith, dist-up h)) (c .before .before .down .ensures)
 
 same-length-4 : tie.Need-same-length-4
 same-length-4 c = search needs
 
 returns-4 : tie.Need-returns-4
-returns-4 c = column-drawn (way-down (lt-le (c .before .before .before .before .if3 .left))) (upright (c .before .before .before .before .before .before .before .pre .1 .1 .0) (c .before .before .before .before .before .if1 .left)) (cells-down _ _ (c .before .before .before .before .if3 .left)) (c .before .before .up .ensures)
+returns-4 c =
+    let g = c .before .before .before .before .before .before .before .args in
+    let h = lt-le (c .before .before .before .before .if3 .left) in
+    column-drawn (way-down h) (upright (c .before .before .before .before .before .before .before .pre .1 .1 .0) (c .before .before .before .before .before .if1 .left)) {n = g .a .y - g .c .y + 1} (omega (arith, dist-down h)) (c .before .before .up .ensures)
 
 pub straight-spec : {M : Type 1} → statement M
 straight-spec =

@@ -1,3 +1,4 @@
+-- The line up, cell by cell.
 use Prim.Native.Nat.{_-_}
 use mathlib.Core.Path.{refl}
 use native.Mathlib.Omega.{arith}

@@ -1,12 +1,27 @@
-use borrow.Author.Needs.{needs}
-use mathlib.Core.Path.{refl, sym, ap, _∙_}
+-- A refusal is that of the check, and nothing is written. A good order with room is drawn, and what is drawn is a longest track.
+use mathlib.Core.Path.{_≡_, refl, sym, ap, _∙_}
 use native.Mathlib.Omega.{arith}
 use lib.ListN.{length}
-use Rattle.bound.proofs.Order.{good-order}
+use borrow.Author.Needs.{needs}
+use Rattle.grid.specs.declared.Check.the-variants.{Good}
+use Rattle.grid.specs.Check.{checkOrder}
 use Rattle.count.specs.declared.ClassCount.{ClassCount}
+use Rattle.count.specs.Count.{count}
+use Rattle.bound.proofs.Order.{GoodOrder, good-order}
 use Rattle.draw.proofs.Answer.{refused, short, drawn, at-front}
 use Rattle.draw.proofs.draw.Statement.{statement}
 use Rattle.draw.proofs.draw.Tie as tie
+
+-- the order passed the check
+passed : (c : tie.After-enum-told) → let args = c .before .before .before .before .args in checkOrder (args .p) (args .entry) (args .exit) ≡ Good
+passed c = sym (c .before .before .check-order .ensures) ∙ c .enum-told .given .1
+
+good : (c : tie.After-enum-told) → let args = c .before .before .before .before .args in GoodOrder (args .p) (args .entry) (args .exit)
+good c = let args = c .before .before .before .before .args in good-order (args .p) (args .entry) (args .exit) (passed c)
+
+-- the count that was found
+counted : (c : tie.After-class-count) → let args = c .before .before .before .before .before .args in c .class-count .result .count .0 ≡ count (args .p) (args .entry) (args .exit)
+counted c = ap (λ (k : ClassCount). k .count .0) (c .class-count .ensures)
 
 check-order-requires : tie.Need-check-order-requires
 check-order-requires c κs = search needs
@@ -15,13 +30,15 @@ enum-known-c : tie.Need-enum-known-c
 enum-known-c c = search needs
 
 returns : tie.Need-returns
-returns c = record { answers = refused (c .before .before .before .before .before .args .p) (c .before .before .before .before .before .args .entry) (c .before .before .before .before .before .args .exit) (length (c .before .before .before .before .before .args .buf .now)) (sym (c .before .before .before .check-order .ensures) ∙ c .before .c .given .1); leaves = refl }
+returns c =
+    let args = c .before .before .before .before .before .args in
+    record { answers = refused (args .p) (args .entry) (args .exit) (length (args .buf .now)) (sym (c .before .before .before .check-order .ensures) ∙ c .before .c .given .1); leaves = refl }
 
 enum-told : tie.Need-enum-told
 enum-told c = search needs
 
 class-count-requires : tie.Need-class-count-requires
-class-count-requires c κs = let g = good-order (c .before .before .before .before .args .p) (c .before .before .before .before .args .entry) (c .before .before .before .before .args .exit) (sym (c .before .before .check-order .ensures) ∙ c .enum-told .given .1) in (g .panel, (g .entry, g .exit))
+class-count-requires c κs = let g = good c in (g .panel, (g .entry, g .exit))
 
 cast-if1 : tie.Need-cast-if1
 cast-if1 c = search needs
@@ -30,16 +47,30 @@ mul-if1 : tie.Need-mul-if1
 mul-if1 c = search needs
 
 returns-2 : tie.Need-returns-2
-returns-2 c = record { answers = short (c .before .before .before .before .before .before .before .before .args .p) (c .before .before .before .before .before .before .before .before .args .entry) (c .before .before .before .before .before .before .before .before .args .exit) (length (c .before .before .before .before .before .before .before .before .args .buf .now)) (sym (c .before .before .before .before .before .before .check-order .ensures) ∙ c .before .before .before .before .enum-told .given .1) (ap (λ (k : ClassCount). k .count .0) (c .before .before .before .class-count .ensures)) (c .if1 .taken); leaves = refl }
+returns-2 c =
+    let found = c .before .before .before in
+    let args = found .before .before .before .before .before .args in
+    record { answers = short (args .p) (args .entry) (args .exit) (length (args .buf .now)) (passed (found .before)) (counted found) (c .if1 .taken); leaves = refl }
 
 draw-longest-requires : tie.Need-draw-longest-requires
-draw-longest-requires c κs = let g = good-order (c .before .before .before .before .before .before .before .before .before .args .p) (c .before .before .before .before .before .before .before .before .before .args .entry) (c .before .before .before .before .before .before .before .before .before .args .exit) (sym (c .before .before .before .before .before .before .before .check-order .ensures) ∙ c .before .before .before .before .before .enum-told .given .1) in let e = (ap (λ (k : ClassCount). k .count .0) (c .before .before .before .before .class-count .ensures)) in let h = c .before .if1 .left in (g .panel, (g .entry, (g .exit, (g .differ, omega arith))))
+draw-longest-requires c κs =
+    let found = c .before .before .before .before in
+    let g = good (found .before) in
+    let e = counted found in
+    let h = c .before .if1 .left in
+    (g .panel, (g .entry, (g .exit, (g .differ, omega arith))))
 
 same-length : tie.Need-same-length
 same-length c = search needs
 
 returns-3 : tie.Need-returns-3
-returns-3 c = let g = good-order (c .before .before .before .before .before .before .before .before .before .before .before .before .args .p) (c .before .before .before .before .before .before .before .before .before .before .before .before .args .entry) (c .before .before .before .before .before .before .before .before .before .before .before .before .args .exit) (sym (c .before .before .before .before .before .before .before .before .before .before .check-order .ensures) ∙ c .before .before .before .before .before .before .before .before .enum-told .given .1) in record { answers = drawn (c .before .before .before .before .before .before .before .before .before .before .before .before .args .p) (c .before .before .before .before .before .before .before .before .before .before .before .before .args .entry) (c .before .before .before .before .before .before .before .before .before .before .before .before .args .exit) (length (c .before .before .before .before .before .before .before .before .before .before .before .before .args .buf .now)) (sym (c .before .before .before .before .before .before .before .before .before .before .check-order .ensures) ∙ c .before .before .before .before .before .before .before .before .enum-told .given .1) (ap (λ (k : ClassCount). k .count .0) (c .before .before .before .before .before .before .before .class-count .ensures)) (c .before .before .before .before .if1 .left); leaves = at-front (g .differ) (ap (λ (k : ClassCount). k .count .0) (c .before .before .before .before .before .before .before .class-count .ensures)) (c .before .before .draw-longest .ensures) }
+returns-3 c =
+    let found = c .before .before .before .before .before .before .before in
+    let args = found .before .before .before .before .before .args in
+    record {
+      answers = drawn (args .p) (args .entry) (args .exit) (length (args .buf .now)) (passed (found .before)) (counted found) (c .before .before .before .before .if1 .left);
+      leaves = at-front (good (found .before) .differ) (counted found) (c .before .before .draw-longest .ensures);
+    }
 
 pub draw-spec : {M : Type 1} → statement M
 draw-spec =

@@ -1,16 +1,20 @@
+-- A panel of 3 by 3 is drawn from the table, any other by its plan.
 use borrow.Author.Needs.{needs}
 use Rattle.draw.proofs.ThreeByThree.{is-three, asked-of-three, drawn-on}
 use Rattle.draw.proofs.draw_longest.Statement.{statement}
 use Rattle.draw.proofs.draw_longest.Tie as tie
 
 draw-small-requires : tie.Need-draw-small-requires
-draw-small-requires c κs = asked-of-three _ _ _ (is-three (c .before .before .before .if1 .taken) (c .before .if2 .taken)) (c .before .before .before .before .before .before .pre .1 .0) (c .before .before .before .before .before .before .pre .1 .1 .0) (c .before .before .before .before .before .before .pre .1 .1 .1 .0) (c .before .before .before .before .before .before .pre .1 .1 .1 .1)
+draw-small-requires c κs =
+    let pre = c .before .before .before .before .before .before .pre in
+    asked-of-three _ _ _ (is-three (c .before .before .before .if1 .taken) (c .before .if2 .taken)) (pre .1 .0) (pre .1 .1 .0) (pre .1 .1 .1 .0) (pre .1 .1 .1 .1)
 
 same-length : tie.Need-same-length
 same-length c = search needs
 
 returns : tie.Need-returns
-returns c = drawn-on (is-three (c .before .before .before .before .before .before .if1 .taken) (c .before .before .before .before .if2 .taken)) (c .before .before .draw-small .ensures)
+returns c =
+    drawn-on (is-three (c .before .before .before .before .before .before .if1 .taken) (c .before .before .before .before .if2 .taken)) (c .before .before .draw-small .ensures)
 
 draw-planned-requires : tie.Need-draw-planned-requires
 draw-planned-requires c κs = search needs

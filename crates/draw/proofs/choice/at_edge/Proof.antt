@@ -1,3 +1,4 @@
+-- Each return is the case of the definition that the tests before it lead to; the mirrored one is a plan of moved cells, moved.
 use borrow.Author.Needs.{needs}
 use borrow.Author.Tests.{eq-eqb, ne-eqb, lt-ltb, le-ltb}
 use Rattle.grid.proofs.Tests.{cond-yes, cond-no}
@@ -24,14 +25,19 @@ move-cell-requires-2 : tie.Need-move-cell-requires-2
 move-cell-requires-2 c κs = search needs
 
 edge-split-requires : tie.Need-edge-split-requires
-edge-split-requires c κs = small-as (c .before .move-cell .ensures) (c .move-cell2 .ensures) (small-y (c .before .before .before .before .before .before .before .before .pre))
+edge-split-requires c κs =
+    small-as (c .before .move-cell .ensures) (c .move-cell2 .ensures) (small-y (c .before .before .before .before .before .before .before .before .pre))
 
 move-plan-requires : tie.Need-move-plan-requires
 move-plan-requires c κs = search needs
 
 returns-2 : tie.Need-returns-2
 unfolding atEdge
-returns-2 c = cond-no _ _ (ne-eqb _ _ (c .before .before .before .before .before .before .before .if1 .left)) (cond-yes _ _ (lt-ltb _ _ (c .before .before .before .before .if2 .taken)) (moved-as (mirrorY (c .before .before .before .before .before .before .before .before .before .before .args .n)) (edgeSplit (c .before .before .before .before .before .before .before .before .before .before .args .m) (c .before .before .before .before .before .before .before .before .before .before .args .n)) (c .move-plan .ensures) (c .before .edge-split .ensures) (c .before .before .before .move-cell .ensures) (c .before .before .move-cell2 .ensures)))
+returns-2 c =
+    let args = c .before .before .before .before .before .before .before .before .before .before .args in
+    cond-no _ _ (ne-eqb _ _ (c .before .before .before .before .before .before .before .if1 .left))
+    (cond-yes _ _ (lt-ltb _ _ (c .before .before .before .before .if2 .taken))
+    (moved-as (mirrorY (args .n)) (edgeSplit (args .m) (args .n)) (c .move-plan .ensures) (c .before .edge-split .ensures) (c .before .before .before .move-cell .ensures) (c .before .before .move-cell2 .ensures)))
 
 edge-split-requires-2 : tie.Need-edge-split-requires-2
 edge-split-requires-2 c κs = search needs

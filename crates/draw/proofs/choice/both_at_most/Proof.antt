@@ -1,3 +1,4 @@
+-- The two tests, one after the other, are the two sides of "and".
 use borrow.Author.Tests.{le-leb, lt-leb}
 use mathlib.Core.Path.{refl}
 use Rattle.grid.proofs.Tests.{and-yes, and-no}

@@ -1,3 +1,4 @@
+-- Each return is the case of the definition that the tests before it lead to; the mirrored one is a plan of moved cells, moved.
 use borrow.Author.Needs.{needs}
 use borrow.Author.Tests.{lt-ltb, le-ltb}
 use mathlib.Core.Path.{sym, ap, _∙_}
@@ -44,14 +45,21 @@ move-plan-requires c κs = search needs
 
 returns-2 : tie.Need-returns-2
 unfolding bridged
-returns-2 c = cond-no _ _ (sym (c .before .before .before .before .before .before .before .before .before .both-at-most .ensures) ∙ c .before .before .before .before .before .before .before .before .if1 .left) (cond-yes _ _ (sym (c .before .before .before .before .before .both-at-most2 .ensures) ∙ c .before .before .before .before .if2 .taken) (moved-as (mirrorY (c .before .before .before .before .before .before .before .before .before .before .args .n)) (λ a b. bridge (c .before .before .before .before .before .before .before .before .before .before .args .m) (c .before .before .before .before .before .before .before .before .before .before .args .n) a b (c .before .before .before .before .before .before .before .before .before .before .args .c)) (c .move-plan .ensures) (c .before .bridge2 .ensures) (c .before .before .before .move-cell .ensures) (c .before .before .move-cell2 .ensures)))
+returns-2 c =
+    let args = c .before .before .before .before .before .before .before .before .before .before .args in
+    cond-no _ _ (sym (c .before .before .before .before .before .before .before .before .before .both-at-most .ensures) ∙ c .before .before .before .before .before .before .before .before .if1 .left)
+    (cond-yes _ _ (sym (c .before .before .before .before .before .both-at-most2 .ensures) ∙ c .before .before .before .before .if2 .taken)
+    (moved-as (mirrorY (args .n)) (λ a b. bridge (args .m) (args .n) a b (args .c)) (c .move-plan .ensures) (c .before .bridge2 .ensures) (c .before .before .before .move-cell .ensures) (c .before .before .move-cell2 .ensures)))
 
 turned-split-requires : tie.Need-turned-split-requires
 turned-split-requires c κs = search needs
 
 returns-3 : tie.Need-returns-3
 unfolding bridged
-returns-3 c = cond-no _ _ (sym (c .before .before .before .before .before .before .before .before .before .both-at-most .ensures) ∙ c .before .before .before .before .before .before .before .before .if1 .left) (cond-no _ _ (sym (c .before .before .before .before .before .both-at-most2 .ensures) ∙ c .before .before .before .before .if2 .left) (cond-yes _ _ (lt-ltb _ _ (c .before .if3 .taken)) (c .turned-split .ensures)))
+returns-3 c =
+    cond-no _ _ (sym (c .before .before .before .before .before .before .before .before .before .both-at-most .ensures) ∙ c .before .before .before .before .before .before .before .before .if1 .left)
+    (cond-no _ _ (sym (c .before .before .before .before .before .both-at-most2 .ensures) ∙ c .before .before .before .before .if2 .left)
+    (cond-yes _ _ (lt-ltb _ _ (c .before .if3 .taken)) (c .turned-split .ensures)))
 
 turned-split-requires-2 : tie.Need-turned-split-requires-2
 turned-split-requires-2 c κs = search needs
@@ -61,7 +69,10 @@ reverse-plan-requires c κs = search needs
 
 returns-4 : tie.Need-returns-4
 unfolding bridged
-returns-4 c = cond-no _ _ (sym (c .before .before .before .before .before .before .before .before .before .before .both-at-most .ensures) ∙ c .before .before .before .before .before .before .before .before .before .if1 .left) (cond-no _ _ (sym (c .before .before .before .before .before .before .both-at-most2 .ensures) ∙ c .before .before .before .before .before .if2 .left) (cond-no _ _ (le-ltb _ _ (c .before .before .if3 .left)) (c .reverse-plan .ensures ∙ ap reversedPlan (c .before .turned-split2 .ensures))))
+returns-4 c =
+    cond-no _ _ (sym (c .before .before .before .before .before .before .before .before .before .before .both-at-most .ensures) ∙ c .before .before .before .before .before .before .before .before .before .if1 .left)
+    (cond-no _ _ (sym (c .before .before .before .before .before .before .both-at-most2 .ensures) ∙ c .before .before .before .before .before .if2 .left)
+    (cond-no _ _ (le-ltb _ _ (c .before .before .if3 .left)) (c .reverse-plan .ensures ∙ ap reversedPlan (c .before .turned-split2 .ensures))))
 
 pub bridged-spec : {M : Type 1} → statement M
 bridged-spec =

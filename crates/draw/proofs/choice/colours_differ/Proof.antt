@@ -1,3 +1,4 @@
+-- By the colour of the first cell.
 use borrow.Author.Needs.{needs}
 use mathlib.Core.Path.{sym, ap, _∙_}
 use mathlib.Core.Bool.{not}

@@ -1,3 +1,4 @@
+-- Each return is the case of the definition that the tests before it lead to.
 use borrow.Author.Needs.{needs}
 use mathlib.Core.Path.{refl, sym, _∙_}
 use Rattle.grid.proofs.Tests.{cond-yes, cond-no}
@@ -13,22 +14,30 @@ colours-differ-requires c κs = search needs
 
 returns : tie.Need-returns
 unfolding crossing
-returns c = cond-yes _ _ (sym (c .before .before .before .even-and-differ .ensures) ∙ c .before .before .if1 .taken) (cond-yes _ _ (sym (c .before .colours-differ .ensures) ∙ c .if2 .taken) refl)
+returns c =
+    cond-yes _ _ (sym (c .before .before .before .even-and-differ .ensures) ∙ c .before .before .if1 .taken)
+    (cond-yes _ _ (sym (c .before .colours-differ .ensures) ∙ c .if2 .taken) refl)
 
 returns-2 : tie.Need-returns-2
 unfolding crossing
-returns-2 c = cond-yes _ _ (sym (c .before .before .before .even-and-differ .ensures) ∙ c .before .before .if1 .taken) (cond-no _ _ (sym (c .before .colours-differ .ensures) ∙ c .if2 .left) refl)
+returns-2 c =
+    cond-yes _ _ (sym (c .before .before .before .even-and-differ .ensures) ∙ c .before .before .if1 .taken)
+    (cond-no _ _ (sym (c .before .colours-differ .ensures) ∙ c .if2 .left) refl)
 
 is-free-requires : tie.Need-is-free-requires
 is-free-requires c κs = search needs
 
 returns-3 : tie.Need-returns-3
 unfolding crossing
-returns-3 c = cond-no _ _ (sym (c .before .before .before .even-and-differ .ensures) ∙ c .before .before .if1 .left) (cond-yes _ _ (sym (c .before .is-free .ensures) ∙ c .if3 .taken) refl)
+returns-3 c =
+    cond-no _ _ (sym (c .before .before .before .even-and-differ .ensures) ∙ c .before .before .if1 .left)
+    (cond-yes _ _ (sym (c .before .is-free .ensures) ∙ c .if3 .taken) refl)
 
 returns-4 : tie.Need-returns-4
 unfolding crossing
-returns-4 c = cond-no _ _ (sym (c .before .before .before .even-and-differ .ensures) ∙ c .before .before .if1 .left) (cond-no _ _ (sym (c .before .is-free .ensures) ∙ c .if3 .left) refl)
+returns-4 c =
+    cond-no _ _ (sym (c .before .before .before .even-and-differ .ensures) ∙ c .before .before .if1 .left)
+    (cond-no _ _ (sym (c .before .is-free .ensures) ∙ c .if3 .left) refl)
 
 pub crossing-spec : {M : Type 1} → statement M
 crossing-spec =

@@ -1,3 +1,4 @@
+-- A plan of moved cells, moved.
 use borrow.Author.Needs.{needs}
 use Rattle.grid.specs.Panel.{turnedCell}
 use Rattle.draw.specs.Plan.{split, edgeSplit}
@@ -19,7 +20,9 @@ move-plan-requires c κs = search needs
 
 returns : tie.Need-returns
 unfolding edgeSplit
-returns c = moved-as (turnedCell) (λ a b. split (c .before .before .before .before .args .n) (c .before .before .before .before .args .m) a b (c .before .before .before .before .args .s .y) (c .before .before .before .before .args .m)) (c .move-plan .ensures) (c .before .split .ensures) (c .before .before .before .move-cell .ensures) (c .before .before .move-cell2 .ensures)
+returns c =
+    let args = c .before .before .before .before .args in
+    moved-as (turnedCell) (λ a b. split (args .n) (args .m) a b (args .s .y) (args .m)) (c .move-plan .ensures) (c .before .split .ensures) (c .before .before .before .move-cell .ensures) (c .before .before .move-cell2 .ensures)
 
 pub edge-split-spec : {M : Type 1} → statement M
 edge-split-spec =

@@ -1,3 +1,4 @@
+-- The two tests are the two sides of "and".
 use borrow.Author.Needs.{needs}
 use mathlib.Core.Path.{sym, ap, _∙_}
 use mathlib.Core.Bool.{not}

@@ -1,3 +1,4 @@
+-- Each return is the case of the definition that the tests before it lead to; the mirrored one is a plan of moved cells, moved.
 use borrow.Author.Needs.{needs}
 use borrow.Author.Tests.{eq-eqb, ne-eqb, not-true, not-false}
 use mathlib.Core.Path.{sym, ap, _∙_}
@@ -28,7 +29,8 @@ move-cell-requires-2 : tie.Need-move-cell-requires-2
 move-cell-requires-2 c κs = search needs
 
 at-edge-requires-2 : tie.Need-at-edge-requires-2
-at-edge-requires-2 c κs = small-as (c .before .move-cell .ensures) (c .move-cell2 .ensures) (small-swapped (small-x (c .before .before .before .before .before .before .pre)))
+at-edge-requires-2 c κs =
+    small-as (c .before .move-cell .ensures) (c .move-cell2 .ensures) (small-swapped (small-x (c .before .before .before .before .before .before .pre)))
 
 reverse-plan-requires : tie.Need-reverse-plan-requires
 reverse-plan-requires c κs = search needs
@@ -38,7 +40,11 @@ move-plan-requires c κs = search needs
 
 returns-2 : tie.Need-returns-2
 unfolding fourRows
-returns-2 c = cond-no _ _ (ne-eqb _ _ (c .before .before .before .before .before .before .before .if1 .left)) (cond-yes _ _ (eq-eqb _ _ (c .before .before .before .before .before .if2 .taken)) (moved-as (mirrorX (c .before .before .before .before .before .before .before .before .before .args .m)) (λ a b. reversedPlan (atEdge (c .before .before .before .before .before .before .before .before .before .args .m) (c .before .before .before .before .before .before .before .before .before .args .n) a b)) (c .move-plan .ensures) (c .before .reverse-plan .ensures ∙ ap reversedPlan (c .before .before .at-edge2 .ensures)) (c .before .before .before .before .move-cell .ensures) (c .before .before .before .move-cell2 .ensures)))
+returns-2 c =
+    let args = c .before .before .before .before .before .before .before .before .before .args in
+    cond-no _ _ (ne-eqb _ _ (c .before .before .before .before .before .before .before .if1 .left))
+    (cond-yes _ _ (eq-eqb _ _ (c .before .before .before .before .before .if2 .taken))
+    (moved-as (mirrorX (args .m)) (λ a b. reversedPlan (atEdge (args .m) (args .n) a b)) (c .move-plan .ensures) (c .before .reverse-plan .ensures ∙ ap reversedPlan (c .before .before .at-edge2 .ensures)) (c .before .before .before .before .move-cell .ensures) (c .before .before .before .move-cell2 .ensures)))
 
 odd-and-critical-requires : tie.Need-odd-and-critical-requires
 odd-and-critical-requires c κs = search needs
@@ -48,7 +54,10 @@ inner-split-requires c κs = search needs
 
 returns-3 : tie.Need-returns-3
 unfolding fourRows
-returns-3 c = cond-no _ _ (ne-eqb _ _ (c .before .before .before .before .before .if1 .left)) (cond-no _ _ (ne-eqb _ _ (c .before .before .before .if2 .left)) (cond-no _ _ (sym (c .before .before .odd-and-critical .ensures) ∙ not-true _ (c .before .if3 .taken)) (c .inner-split .ensures)))
+returns-3 c =
+    cond-no _ _ (ne-eqb _ _ (c .before .before .before .before .before .if1 .left))
+    (cond-no _ _ (ne-eqb _ _ (c .before .before .before .if2 .left))
+    (cond-no _ _ (sym (c .before .before .odd-and-critical .ensures) ∙ not-true _ (c .before .if3 .taken)) (c .inner-split .ensures)))
 
 beside-and-odd-requires : tie.Need-beside-and-odd-requires
 beside-and-odd-requires c κs = search needs
@@ -58,7 +67,11 @@ wrapped-requires c κs = search needs
 
 returns-4 : tie.Need-returns-4
 unfolding fourRows
-returns-4 c = cond-no _ _ (ne-eqb _ _ (c .before .before .before .before .before .before .before .if1 .left)) (cond-no _ _ (ne-eqb _ _ (c .before .before .before .before .before .if2 .left)) (cond-yes _ _ (sym (c .before .before .before .before .odd-and-critical .ensures) ∙ not-false _ (c .before .before .before .if3 .left)) (cond-yes _ _ (sym (c .before .before .beside-and-odd .ensures) ∙ c .before .if4 .taken) (c .wrapped .ensures))))
+returns-4 c =
+    cond-no _ _ (ne-eqb _ _ (c .before .before .before .before .before .before .before .if1 .left))
+    (cond-no _ _ (ne-eqb _ _ (c .before .before .before .before .before .if2 .left))
+    (cond-yes _ _ (sym (c .before .before .before .before .odd-and-critical .ensures) ∙ not-false _ (c .before .before .before .if3 .left))
+    (cond-yes _ _ (sym (c .before .before .beside-and-odd .ensures) ∙ c .before .if4 .taken) (c .wrapped .ensures))))
 
 add-bridged : tie.Need-add-bridged
 add-bridged c = search needs
@@ -68,7 +81,11 @@ bridged-requires c κs = search needs
 
 returns-5 : tie.Need-returns-5
 unfolding fourRows
-returns-5 c = cond-no _ _ (ne-eqb _ _ (c .before .before .before .before .before .before .before .before .before .if1 .left)) (cond-no _ _ (ne-eqb _ _ (c .before .before .before .before .before .before .before .if2 .left)) (cond-yes _ _ (sym (c .before .before .before .before .before .before .odd-and-critical .ensures) ∙ not-false _ (c .before .before .before .before .before .if3 .left)) (cond-no _ _ (sym (c .before .before .before .before .beside-and-odd .ensures) ∙ c .before .before .before .if4 .left) (c .bridged .ensures))))
+returns-5 c =
+    cond-no _ _ (ne-eqb _ _ (c .before .before .before .before .before .before .before .before .before .if1 .left))
+    (cond-no _ _ (ne-eqb _ _ (c .before .before .before .before .before .before .before .if2 .left))
+    (cond-yes _ _ (sym (c .before .before .before .before .before .before .odd-and-critical .ensures) ∙ not-false _ (c .before .before .before .before .before .if3 .left))
+    (cond-no _ _ (sym (c .before .before .before .before .beside-and-odd .ensures) ∙ c .before .before .before .if4 .left) (c .bridged .ensures))))
 
 pub four-rows-spec : {M : Type 1} → statement M
 four-rows-spec =

@@ -1,3 +1,4 @@
+-- The two differences are those of the definition.
 use borrow.Author.Needs.{needs}
 use Rattle.draw.proofs.choice.from_corner.Statement.{statement}
 use Rattle.draw.proofs.choice.from_corner.Tie as tie

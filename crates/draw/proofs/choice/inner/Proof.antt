@@ -1,3 +1,4 @@
+-- Each return is the case of the definition that the tests before it lead to; the turned one is a plan of moved cells, moved.
 use borrow.Author.Needs.{needs}
 use borrow.Author.Tests.{eq-eqb, ne-eqb}
 use mathlib.Core.Path.{sym, _∙_}
@@ -30,13 +31,19 @@ move-plan-requires : tie.Need-move-plan-requires
 move-plan-requires c κs = search needs
 
 returns-2 : tie.Need-returns-2
-returns-2 c = cond-no _ _ (ne-eqb _ _ (c .before .before .before .before .before .before .if1 .left)) (cond-yes _ _ (sym (c .before .before .before .before .before .is-steep .ensures) ∙ c .before .before .before .before .if2 .taken) (moved-as (turnedCell) (orderedFour (c .before .before .before .before .before .before .before .args .n) (c .before .before .before .before .before .before .before .args .m)) (c .move-plan .ensures) (c .before .ordered-four .ensures) (c .before .before .before .move-cell .ensures) (c .before .before .move-cell2 .ensures)))
+returns-2 c =
+    let args = c .before .before .before .before .before .before .before .args in
+    cond-no _ _ (ne-eqb _ _ (c .before .before .before .before .before .before .if1 .left))
+    (cond-yes _ _ (sym (c .before .before .before .before .before .is-steep .ensures) ∙ c .before .before .before .before .if2 .taken)
+    (moved-as (turnedCell) (orderedFour (args .n) (args .m)) (c .move-plan .ensures) (c .before .ordered-four .ensures) (c .before .before .before .move-cell .ensures) (c .before .before .move-cell2 .ensures)))
 
 four-rows-requires : tie.Need-four-rows-requires
 four-rows-requires c κs = search needs
 
 returns-3 : tie.Need-returns-3
-returns-3 c = cond-no _ _ (ne-eqb _ _ (c .before .before .before .if1 .left)) (cond-no _ _ (sym (c .before .before .is-steep .ensures) ∙ c .before .if2 .left) (c .four-rows .ensures))
+returns-3 c =
+    cond-no _ _ (ne-eqb _ _ (c .before .before .before .if1 .left))
+    (cond-no _ _ (sym (c .before .before .is-steep .ensures) ∙ c .before .if2 .left) (c .four-rows .ensures))
 
 pub inner-spec : {M : Type 1} → statement M
 inner-spec =

@@ -1,3 +1,4 @@
+-- By the test that the definition of the column makes.
 use borrow.Author.Needs.{needs}
 use borrow.Author.Tests.{lt-ltb, le-ltb}
 use mathlib.Core.Path.{refl, ap, _∙_}
@@ -14,7 +15,12 @@ split-requires c κs = search needs
 
 returns : tie.Need-returns
 unfolding innerSplit
-returns c = c .split .ensures ∙ ap (λ k. split (c .before .before .before .before .args .m) (c .before .before .before .before .args .n) (c .before .before .before .before .args .s) (c .before .before .before .before .args .t) 2 k) (c .before .crossing .ensures) ∙ ap (λ k. split (c .before .before .before .before .args .m) (c .before .before .before .before .args .n) (c .before .before .before .before .args .s) (c .before .before .before .before .args .t) k (crossing (c .before .before .before .before .args .n) (c .before .before .before .before .args .s) (c .before .before .before .before .args .t) k)) (cond-yes 2 (c .before .before .before .before .args .s .x) (lt-ltb _ _ (c .before .before .if1 .taken)) refl)
+returns c =
+    let args = c .before .before .before .before .args in
+    c .split .ensures
+    ∙ ap (λ k. split (args .m) (args .n) (args .s) (args .t) 2 k) (c .before .crossing .ensures)
+    ∙ ap (λ k. split (args .m) (args .n) (args .s) (args .t) k (crossing (args .n) (args .s) (args .t) k))
+    (cond-yes 2 (args .s .x) (lt-ltb _ _ (c .before .before .if1 .taken)) refl)
 
 crossing-requires-2 : tie.Need-crossing-requires-2
 crossing-requires-2 c κs = search needs
@@ -24,7 +30,12 @@ split-requires-2 c κs = search needs
 
 returns-2 : tie.Need-returns-2
 unfolding innerSplit
-returns-2 c = c .split2 .ensures ∙ ap (λ k. split (c .before .before .before .before .args .m) (c .before .before .before .before .args .n) (c .before .before .before .before .args .s) (c .before .before .before .before .args .t) (c .before .before .before .before .args .s .x) k) (c .before .crossing2 .ensures) ∙ ap (λ k. split (c .before .before .before .before .args .m) (c .before .before .before .before .args .n) (c .before .before .before .before .args .s) (c .before .before .before .before .args .t) k (crossing (c .before .before .before .before .args .n) (c .before .before .before .before .args .s) (c .before .before .before .before .args .t) k)) (cond-no 2 (c .before .before .before .before .args .s .x) (le-ltb _ _ (c .before .before .if1 .left)) refl)
+returns-2 c =
+    let args = c .before .before .before .before .args in
+    c .split2 .ensures
+    ∙ ap (λ k. split (args .m) (args .n) (args .s) (args .t) (args .s .x) k) (c .before .crossing2 .ensures)
+    ∙ ap (λ k. split (args .m) (args .n) (args .s) (args .t) k (crossing (args .n) (args .s) (args .t) k))
+    (cond-no 2 (args .s .x) (le-ltb _ _ (c .before .before .if1 .left)) refl)
 
 pub inner-split-spec : {M : Type 1} → statement M
 inner-split-spec =

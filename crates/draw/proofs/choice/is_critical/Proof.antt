@@ -1,3 +1,4 @@
+-- The tests, one after the other, are the parts of "and".
 use borrow.Author.Needs.{needs}
 use mathlib.Core.Path.{sym, ap, _∙_}
 use mathlib.Core.Bool.{not}
@@ -18,10 +19,12 @@ is-black-requires-2 : tie.Need-is-black-requires-2
 is-black-requires-2 c κs = search needs
 
 returns-2 : tie.Need-returns-2
-returns-2 c = and-yes _ (ap not (sym (c .before .before .before .before .is-odd .ensures) ∙ c .before .before .before .if1 .left)) (and-yes _ (sym (c .before .before .is-black .ensures) ∙ c .before .if2 .taken) (ap not (c .is-black2 .ensures)))
+returns-2 c =
+    and-yes _ (ap not (sym (c .before .before .before .before .is-odd .ensures) ∙ c .before .before .before .if1 .left)) (and-yes _ (sym (c .before .before .is-black .ensures) ∙ c .before .if2 .taken) (ap not (c .is-black2 .ensures)))
 
 returns-3 : tie.Need-returns-3
-returns-3 c = and-yes _ (ap not (sym (c .before .before .before .is-odd .ensures) ∙ c .before .before .if1 .left)) (and-no _ (sym (c .before .is-black .ensures) ∙ c .if2 .left))
+returns-3 c =
+    and-yes _ (ap not (sym (c .before .before .before .is-odd .ensures) ∙ c .before .before .if1 .left)) (and-no _ (sym (c .before .is-black .ensures) ∙ c .if2 .left))
 
 pub is-critical-spec : {M : Type 1} → statement M
 is-critical-spec =

@@ -1,3 +1,4 @@
+-- The two tests are the two sides of "or".
 use borrow.Author.Tests.{eq-eqb, ne-eqb}
 use mathlib.Core.Path.{refl}
 use Rattle.bound.proofs.Tests.{or-yes, or-no}

@@ -1,3 +1,4 @@
+-- The two tests are the two sides of "and".
 use borrow.Author.Needs.{needs}
 use mathlib.Core.Path.{sym, _∙_}
 use Rattle.grid.proofs.Tests.{and-yes, and-no}

@@ -1,3 +1,4 @@
+-- By the test; the terminals exchanged, the plan is reversed.
 use borrow.Author.Needs.{needs}
 use borrow.Author.Tests.{lt-ltb, le-ltb}
 use mathlib.Core.Path.{ap, _∙_}

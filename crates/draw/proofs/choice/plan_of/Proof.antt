@@ -1,3 +1,4 @@
+-- By the test; the turned plan is a plan of moved cells, moved.
 use borrow.Author.Needs.{needs}
 use borrow.Author.Tests.{lt-ltb, le-ltb}
 use Rattle.grid.specs.Panel.{turnedCell}
@@ -21,7 +22,10 @@ move-plan-requires c κs = search needs
 
 returns : tie.Need-returns
 unfolding planOf
-returns c = cond-yes _ _ (lt-ltb _ _ (c .before .before .before .before .if1 .taken)) (moved-as (turnedCell) (orderedWide (c .before .before .before .before .before .args .n) (c .before .before .before .before .before .args .m)) (c .move-plan .ensures) (c .before .ordered-wide .ensures) (c .before .before .before .move-cell .ensures) (c .before .before .move-cell2 .ensures))
+returns c =
+    let args = c .before .before .before .before .before .args in
+    cond-yes _ _ (lt-ltb _ _ (c .before .before .before .before .if1 .taken))
+    (moved-as (turnedCell) (orderedWide (args .n) (args .m)) (c .move-plan .ensures) (c .before .ordered-wide .ensures) (c .before .before .before .move-cell .ensures) (c .before .before .move-cell2 .ensures))
 
 ordered-wide-requires-2 : tie.Need-ordered-wide-requires-2
 ordered-wide-requires-2 c κs = search needs

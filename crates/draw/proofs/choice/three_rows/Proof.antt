@@ -1,3 +1,4 @@
+-- Each return is the case of the definition that the tests before it lead to; the mirrored one is a plan of moved cells, moved.
 use borrow.Author.Needs.{needs}
 use borrow.Author.Tests.{eq-eqb, ne-eqb, not-true, not-false}
 use mathlib.Core.Path.{sym, ap, _∙_}
@@ -32,14 +33,20 @@ third-requires : tie.Need-third-requires
 third-requires c κs = search needs
 
 ess-requires : tie.Need-ess-requires
-ess-requires c κs = small-as (c .before .before .move-cell .ensures) (c .before .move-cell2 .ensures) (small-x (c .before .before .before .before .before .before .before .before .pre))
+ess-requires c κs =
+    small-as (c .before .before .move-cell .ensures) (c .before .move-cell2 .ensures) (small-x (c .before .before .before .before .before .before .before .before .pre))
 
 move-plan-requires : tie.Need-move-plan-requires
 move-plan-requires c κs = search needs
 
 returns-2 : tie.Need-returns-2
 unfolding threeRows
-returns-2 c = cond-yes _ _ (sym (c .before .before .before .before .before .before .before .before .before .is-critical .ensures) ∙ not-false _ (c .before .before .before .before .before .before .before .before .if1 .left)) (cond-yes _ _ (eq-eqb _ _ (c .before .before .before .before .before .if2 .taken)) (moved-as (mirrorX (c .before .before .before .before .before .before .before .before .before .before .args .m)) (λ a b. ess (c .before .before .before .before .before .before .before .before .before .before .args .m) a b (third (c .before .before .before .before .before .before .before .before .before .before .args .s) (c .before .before .before .before .before .before .before .before .before .before .args .t))) (c .move-plan .ensures) (c .before .ess .ensures ∙ ap (λ k. ess (c .before .before .before .before .before .before .before .before .before .before .args .m) (c .before .before .before .before .move-cell .result) (c .before .before .before .move-cell2 .result) k) (c .before .before .third .ensures)) (c .before .before .before .before .move-cell .ensures) (c .before .before .before .move-cell2 .ensures)))
+returns-2 c =
+    let args = c .before .before .before .before .before .before .before .before .before .before .args in
+    cond-yes _ _ (sym (c .before .before .before .before .before .before .before .before .before .is-critical .ensures) ∙ not-false _ (c .before .before .before .before .before .before .before .before .if1 .left))
+    (cond-yes _ _ (eq-eqb _ _ (c .before .before .before .before .before .if2 .taken))
+    (moved-as (mirrorX (args .m)) (λ a b. ess (args .m) a b (third (args .s) (args .t))) (c .move-plan .ensures) (c .before .ess .ensures
+    ∙ ap (λ k. ess (args .m) (c .before .before .before .before .move-cell .result) (c .before .before .before .move-cell2 .result) k) (c .before .before .third .ensures)) (c .before .before .before .before .move-cell .ensures) (c .before .before .before .move-cell2 .ensures)))
 
 is-odd-requires : tie.Need-is-odd-requires
 is-odd-requires c κs = search needs
@@ -49,7 +56,10 @@ three-rows-apart-requires-2 c κs = search needs
 
 returns-3 : tie.Need-returns-3
 unfolding threeRows
-returns-3 c = cond-yes _ _ (sym (c .before .before .before .before .before .before .before .is-critical .ensures) ∙ not-false _ (c .before .before .before .before .before .before .if1 .left)) (cond-no _ _ (ne-eqb _ _ (c .before .before .before .if2 .left)) (cond-no _ _ (sym (and-no _ (ap not (sym (c .before .before .is-odd .ensures) ∙ c .before .if3 .taken)))) (c .three-rows-apart2 .ensures)))
+returns-3 c =
+    cond-yes _ _ (sym (c .before .before .before .before .before .before .before .is-critical .ensures) ∙ not-false _ (c .before .before .before .before .before .before .if1 .left))
+    (cond-no _ _ (ne-eqb _ _ (c .before .before .before .if2 .left))
+    (cond-no _ _ (sym (and-no _ (ap not (sym (c .before .before .is-odd .ensures) ∙ c .before .if3 .taken)))) (c .three-rows-apart2 .ensures)))
 
 add-if4 : tie.Need-add-if4
 add-if4 c = search needs
@@ -59,14 +69,20 @@ middle-requires c κs = search needs
 
 returns-4 : tie.Need-returns-4
 unfolding threeRows
-returns-4 c = cond-yes _ _ (sym (c .before .before .before .before .before .before .before .before .before .before .is-critical .ensures) ∙ not-false _ (c .before .before .before .before .before .before .before .before .before .if1 .left)) (cond-no _ _ (ne-eqb _ _ (c .before .before .before .before .before .before .if2 .left)) (cond-yes _ _ (sym (and-yes _ (ap not (sym (c .before .before .before .before .before .is-odd .ensures) ∙ c .before .before .before .before .if3 .left)) (sym (eq-eqb _ _ (c .before .if4 .taken))))) (c .middle .ensures)))
+returns-4 c =
+    cond-yes _ _ (sym (c .before .before .before .before .before .before .before .before .before .before .is-critical .ensures) ∙ not-false _ (c .before .before .before .before .before .before .before .before .before .if1 .left))
+    (cond-no _ _ (ne-eqb _ _ (c .before .before .before .before .before .before .if2 .left))
+    (cond-yes _ _ (sym (and-yes _ (ap not (sym (c .before .before .before .before .before .is-odd .ensures) ∙ c .before .before .before .before .if3 .left)) (sym (eq-eqb _ _ (c .before .if4 .taken))))) (c .middle .ensures)))
 
 three-rows-apart-requires-3 : tie.Need-three-rows-apart-requires-3
 three-rows-apart-requires-3 c κs = search needs
 
 returns-5 : tie.Need-returns-5
 unfolding threeRows
-returns-5 c = cond-yes _ _ (sym (c .before .before .before .before .before .before .before .before .before .before .is-critical .ensures) ∙ not-false _ (c .before .before .before .before .before .before .before .before .before .if1 .left)) (cond-no _ _ (ne-eqb _ _ (c .before .before .before .before .before .before .if2 .left)) (cond-no _ _ (sym (and-yes _ (ap not (sym (c .before .before .before .before .before .is-odd .ensures) ∙ c .before .before .before .before .if3 .left)) (sym (ne-eqb _ _ (c .before .if4 .left))))) (c .three-rows-apart3 .ensures)))
+returns-5 c =
+    cond-yes _ _ (sym (c .before .before .before .before .before .before .before .before .before .before .is-critical .ensures) ∙ not-false _ (c .before .before .before .before .before .before .before .before .before .if1 .left))
+    (cond-no _ _ (ne-eqb _ _ (c .before .before .before .before .before .before .if2 .left))
+    (cond-no _ _ (sym (and-yes _ (ap not (sym (c .before .before .before .before .before .is-odd .ensures) ∙ c .before .before .before .before .if3 .left)) (sym (ne-eqb _ _ (c .before .if4 .left))))) (c .three-rows-apart3 .ensures)))
 
 pub three-rows-spec : {M : Type 1} → statement M
 three-rows-spec =

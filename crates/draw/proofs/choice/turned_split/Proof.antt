@@ -1,3 +1,4 @@
+-- A plan of moved cells, moved.
 use borrow.Author.Needs.{needs}
 use Rattle.grid.specs.Panel.{turnedCell}
 use Rattle.draw.specs.Plan.{innerSplit}
@@ -18,7 +19,9 @@ move-plan-requires : tie.Need-move-plan-requires
 move-plan-requires c κs = search needs
 
 returns : tie.Need-returns
-returns c = moved-as (turnedCell) (innerSplit (c .before .before .before .before .args .n) (c .before .before .before .before .args .m)) (c .move-plan .ensures) (c .before .inner-split .ensures) (c .before .before .before .move-cell .ensures) (c .before .before .move-cell2 .ensures)
+returns c =
+    let args = c .before .before .before .before .args in
+    moved-as (turnedCell) (innerSplit (args .n) (args .m)) (c .move-plan .ensures) (c .before .inner-split .ensures) (c .before .before .before .move-cell .ensures) (c .before .before .move-cell2 .ensures)
 
 pub turned-split-spec : {M : Type 1} → statement M
 turned-split-spec =

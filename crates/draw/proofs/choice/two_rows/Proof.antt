@@ -1,3 +1,4 @@
+-- Each return is the case of the definition that the tests before it lead to.
 use borrow.Author.Needs.{needs}
 use borrow.Author.Tests.{eq-eqb, ne-eqb, lt-ltb, le-ltb}
 use mathlib.Core.Path.{ap, _∙_}
@@ -14,7 +15,10 @@ split-requires c κs = search needs
 
 returns : tie.Need-returns
 unfolding twoRows
-returns c = cond-yes _ _ (eq-eqb _ _ (c .before .if1 .taken)) (c .split .ensures ∙ ap (λ k. split (c .before .before .before .before .before .args .m) 2 (c .before .before .before .before .before .args .s) (c .before .before .before .before .before .args .t) (c .before .before .before .before .before .args .s .x) k) (c .before .before .before .before .less .ensures))
+returns c =
+    let args = c .before .before .before .before .before .args in
+    cond-yes _ _ (eq-eqb _ _ (c .before .if1 .taken)) (c .split .ensures
+    ∙ ap (λ k. split (args .m) 2 (args .s) (args .t) (args .s .x) k) (c .before .before .before .before .less .ensures))
 
 add-if2 : tie.Need-add-if2
 add-if2 c = search needs
@@ -24,7 +28,11 @@ split-requires-2 c κs = search needs
 
 returns-2 : tie.Need-returns-2
 unfolding twoRows
-returns-2 c = cond-no _ _ (ne-eqb _ _ (c .before .before .before .before .if1 .left)) (cond-yes _ _ (lt-ltb _ _ (c .before .if2 .taken)) (c .split2 .ensures ∙ ap (λ k. split (c .before .before .before .before .before .before .before .before .args .m) 2 (c .before .before .before .before .before .before .before .before .args .s) (c .before .before .before .before .before .before .before .before .args .t) (c .before .before .before .before .before .before .before .before .args .s .x) k) (c .before .before .before .before .before .before .before .less .ensures)))
+returns-2 c =
+    let args = c .before .before .before .before .before .before .before .before .args in
+    cond-no _ _ (ne-eqb _ _ (c .before .before .before .before .if1 .left))
+    (cond-yes _ _ (lt-ltb _ _ (c .before .if2 .taken)) (c .split2 .ensures
+    ∙ ap (λ k. split (args .m) 2 (args .s) (args .t) (args .s .x) k) (c .before .before .before .before .before .before .before .less .ensures)))
 
 add-if3 : tie.Need-add-if3
 add-if3 c = search needs
@@ -34,11 +42,17 @@ less-requires-2 c κs = search needs
 
 returns-3 : tie.Need-returns-3
 unfolding twoRows
-returns-3 c = cond-no _ _ (ne-eqb _ _ (c .before .before .before .before .before .before .before .if1 .left)) (cond-no _ _ (le-ltb _ _ (c .before .before .before .before .if2 .left)) (cond-yes _ _ (lt-ltb _ _ (c .before .if3 .taken)) (rw (c .less2 .ensures))))
+returns-3 c =
+    cond-no _ _ (ne-eqb _ _ (c .before .before .before .before .before .before .before .if1 .left))
+    (cond-no _ _ (le-ltb _ _ (c .before .before .before .before .if2 .left))
+    (cond-yes _ _ (lt-ltb _ _ (c .before .if3 .taken)) (rw (c .less2 .ensures))))
 
 returns-4 : tie.Need-returns-4
 unfolding twoRows
-returns-4 c = cond-no _ _ (ne-eqb _ _ (c .before .before .before .before .before .before .if1 .left)) (cond-no _ _ (le-ltb _ _ (c .before .before .before .if2 .left)) (cond-no _ _ (le-ltb _ _ (c .if3 .left)) (rw (c .before .before .before .before .before .before .before .before .before .less .ensures))))
+returns-4 c =
+    cond-no _ _ (ne-eqb _ _ (c .before .before .before .before .before .before .if1 .left))
+    (cond-no _ _ (le-ltb _ _ (c .before .before .before .if2 .left))
+    (cond-no _ _ (le-ltb _ _ (c .if3 .left)) (rw (c .before .before .before .before .before .before .before .before .before .less .ensures))))
 
 pub two-rows-spec : {M : Type 1} → statement M
 two-rows-spec =

@@ -1,3 +1,4 @@
+-- Each return is the case of the definition that the tests before it lead to.
 use borrow.Author.Needs.{needs}
 use borrow.Author.Tests.{eq-eqb, ne-eqb}
 use mathlib.Core.Path.{refl, sym, _∙_}
@@ -25,7 +26,10 @@ from-corner-requires c κs = search needs
 
 returns-3 : tie.Need-returns-3
 unfolding wide
-returns-3 c = cond-no _ _ (ne-eqb _ _ (c .before .before .before .before .if1 .left)) (cond-no _ _ (ne-eqb _ _ (c .before .before .before .if2 .left)) (cond-yes _ _ (sym (c .before .before .is-corner .ensures) ∙ c .before .if3 .taken) (c .from-corner .ensures)))
+returns-3 c =
+    cond-no _ _ (ne-eqb _ _ (c .before .before .before .before .if1 .left))
+    (cond-no _ _ (ne-eqb _ _ (c .before .before .before .if2 .left))
+    (cond-yes _ _ (sym (c .before .before .is-corner .ensures) ∙ c .before .if3 .taken) (c .from-corner .ensures)))
 
 is-corner-requires-2 : tie.Need-is-corner-requires-2
 is-corner-requires-2 c κs = search needs
@@ -35,14 +39,22 @@ from-corner-requires-2 c κs = search needs
 
 returns-4 : tie.Need-returns-4
 unfolding wide
-returns-4 c = cond-no _ _ (ne-eqb _ _ (c .before .before .before .before .before .before .if1 .left)) (cond-no _ _ (ne-eqb _ _ (c .before .before .before .before .before .if2 .left)) (cond-no _ _ (sym (c .before .before .before .before .is-corner .ensures) ∙ c .before .before .before .if3 .left) (cond-yes _ _ (sym (c .before .before .is-corner2 .ensures) ∙ c .before .if4 .taken) (c .from-corner2 .ensures))))
+returns-4 c =
+    cond-no _ _ (ne-eqb _ _ (c .before .before .before .before .before .before .if1 .left))
+    (cond-no _ _ (ne-eqb _ _ (c .before .before .before .before .before .if2 .left))
+    (cond-no _ _ (sym (c .before .before .before .before .is-corner .ensures) ∙ c .before .before .before .if3 .left)
+    (cond-yes _ _ (sym (c .before .before .is-corner2 .ensures) ∙ c .before .if4 .taken) (c .from-corner2 .ensures))))
 
 inner-requires : tie.Need-inner-requires
 inner-requires c κs = search needs
 
 returns-5 : tie.Need-returns-5
 unfolding wide
-returns-5 c = cond-no _ _ (ne-eqb _ _ (c .before .before .before .before .before .before .if1 .left)) (cond-no _ _ (ne-eqb _ _ (c .before .before .before .before .before .if2 .left)) (cond-no _ _ (sym (c .before .before .before .before .is-corner .ensures) ∙ c .before .before .before .if3 .left) (cond-no _ _ (sym (c .before .before .is-corner2 .ensures) ∙ c .before .if4 .left) (c .inner .ensures))))
+returns-5 c =
+    cond-no _ _ (ne-eqb _ _ (c .before .before .before .before .before .before .if1 .left))
+    (cond-no _ _ (ne-eqb _ _ (c .before .before .before .before .before .if2 .left))
+    (cond-no _ _ (sym (c .before .before .before .before .is-corner .ensures) ∙ c .before .before .before .if3 .left)
+    (cond-no _ _ (sym (c .before .before .is-corner2 .ensures) ∙ c .before .if4 .left) (c .inner .ensures))))
 
 pub wide-spec : {M : Type 1} → statement M
 wide-spec =

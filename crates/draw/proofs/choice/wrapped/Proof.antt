@@ -1,3 +1,4 @@
+-- By the test; the mirrored wrap is a plan of moved cells, moved.
 use borrow.Author.Needs.{needs}
 use mathlib.Core.Path.{sym, _∙_}
 use Rattle.grid.proofs.Tests.{cond-yes, cond-no}
@@ -27,7 +28,10 @@ move-plan-requires c κs = search needs
 
 returns : tie.Need-returns
 unfolding wrapped
-returns c = cond-yes _ _ (sym (c .before .before .before .before .before .wraps-below .ensures) ∙ c .before .before .before .before .if1 .taken) (moved-as (mirrorY (c .before .before .before .before .before .before .args .n)) (wrap (c .before .before .before .before .before .before .args .m) (c .before .before .before .before .before .before .args .n)) (c .move-plan .ensures) (c .before .wrap .ensures) (c .before .before .before .move-cell .ensures) (c .before .before .move-cell2 .ensures))
+returns c =
+    let args = c .before .before .before .before .before .before .args in
+    cond-yes _ _ (sym (c .before .before .before .before .before .wraps-below .ensures) ∙ c .before .before .before .before .if1 .taken)
+    (moved-as (mirrorY (args .n)) (wrap (args .m) (args .n)) (c .move-plan .ensures) (c .before .wrap .ensures) (c .before .before .before .move-cell .ensures) (c .before .before .move-cell2 .ensures))
 
 wrap-requires-2 : tie.Need-wrap-requires-2
 wrap-requires-2 c κs = search needs

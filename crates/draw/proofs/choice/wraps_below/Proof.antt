@@ -1,3 +1,4 @@
+-- By the parity of the number of rows.
 use borrow.Author.Needs.{needs}
 use mathlib.Core.Path.{refl, sym, _∙_}
 use Rattle.grid.proofs.Tests.{cond-yes, cond-no}

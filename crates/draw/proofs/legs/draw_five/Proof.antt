@@ -1,3 +1,4 @@
+-- Three legs written, then two behind them.
 use borrow.Author.Needs.{needs}
 use mathlib.Core.List.{[], _∷_}
 use Rattle.draw.proofs.Drawing.{room-first, room-rest, written-rest}
@@ -5,7 +6,7 @@ use Rattle.draw.proofs.legs.draw_five.Statement.{statement}
 use Rattle.draw.proofs.legs.draw_five.Tie as tie
 
 draw-three-requires : tie.Need-draw-three-requires
-draw-three-requires c κs = room-first (c .before .before .args .g ∷ c .before .before .args .h ∷ c .before .before .args .i ∷ []) (c .before .before .args .j ∷ c .before .before .args .l ∷ []) (c .before .before .pre)
+draw-three-requires c κs = let args = c .before .before .args in room-first (args .g ∷ args .h ∷ args .i ∷ []) (args .j ∷ args .l ∷ []) (c .before .before .pre)
 
 mul-at : tie.Need-mul-at
 mul-at c = search needs
@@ -20,7 +21,9 @@ part-draw-two-end : tie.Need-part-draw-two-end
 part-draw-two-end c = search needs
 
 draw-two-requires : tie.Need-draw-two-requires
-draw-two-requires c κs = room-rest (c .before .before .before .before .before .before .args .g ∷ c .before .before .before .before .before .before .args .h ∷ c .before .before .before .before .before .before .args .i ∷ []) (c .before .before .before .before .before .before .args .j ∷ c .before .before .before .before .before .before .args .l ∷ []) (c .before .before .before .before .before .before .pre) (c .before .before .before .draw-three .ensures)
+draw-two-requires c κs =
+    let args = c .before .before .before .before .before .before .args in
+    room-rest (args .g ∷ args .h ∷ args .i ∷ []) (args .j ∷ args .l ∷ []) (c .before .before .before .before .before .before .pre) (c .before .before .before .draw-three .ensures)
 
 add-result : tie.Need-add-result
 add-result c = search needs
@@ -29,7 +32,9 @@ same-length : tie.Need-same-length
 same-length c = search needs
 
 returns : tie.Need-returns
-returns c = written-rest (c .before .before .before .before .before .before .before .before .before .args .g ∷ c .before .before .before .before .before .before .before .before .before .args .h ∷ c .before .before .before .before .before .before .before .before .before .args .i ∷ []) (c .before .before .before .before .before .before .before .before .before .args .j ∷ c .before .before .before .before .before .before .before .before .before .args .l ∷ []) (c .before .before .before .before .before .before .before .before .before .pre) (c .before .before .before .before .before .before .draw-three .ensures) (c .before .before .draw-two .ensures)
+returns c =
+    let args = c .before .before .before .before .before .before .before .before .before .args in
+    written-rest (args .g ∷ args .h ∷ args .i ∷ []) (args .j ∷ args .l ∷ []) (c .before .before .before .before .before .before .before .before .before .pre) (c .before .before .before .before .before .before .draw-three .ensures) (c .before .before .draw-two .ensures)
 
 pub draw-five-spec : {M : Type 1} → statement M
 draw-five-spec =

@@ -1,3 +1,4 @@
+-- By the variant.
 use borrow.Author.Needs.{needs}
 use Rattle.draw.proofs.Drawing.{room-of, written-of}
 use Rattle.draw.proofs.legs.draw_plan.Statement.{statement}

@@ -1,3 +1,4 @@
+-- Two legs written, then one behind them.
 use borrow.Author.Needs.{needs}
 use mathlib.Core.List.{[], _∷_}
 use Rattle.draw.proofs.Drawing.{room-first, room-rest, written-rest}
@@ -5,7 +6,7 @@ use Rattle.draw.proofs.legs.draw_three.Statement.{statement}
 use Rattle.draw.proofs.legs.draw_three.Tie as tie
 
 draw-two-requires : tie.Need-draw-two-requires
-draw-two-requires c κs = room-first (c .before .before .args .g ∷ c .before .before .args .h ∷ []) (c .before .before .args .i ∷ []) (c .before .before .pre)
+draw-two-requires c κs = let args = c .before .before .args in room-first (args .g ∷ args .h ∷ []) (args .i ∷ []) (c .before .before .pre)
 
 mul-at : tie.Need-mul-at
 mul-at c = search needs
@@ -20,7 +21,9 @@ part-draw-leg-end : tie.Need-part-draw-leg-end
 part-draw-leg-end c = search needs
 
 draw-leg-requires : tie.Need-draw-leg-requires
-draw-leg-requires c κs = room-rest (c .before .before .before .before .before .before .args .g ∷ c .before .before .before .before .before .before .args .h ∷ []) (c .before .before .before .before .before .before .args .i ∷ []) (c .before .before .before .before .before .before .pre) (c .before .before .before .draw-two .ensures)
+draw-leg-requires c κs =
+    let args = c .before .before .before .before .before .before .args in
+    room-rest (args .g ∷ args .h ∷ []) (args .i ∷ []) (c .before .before .before .before .before .before .pre) (c .before .before .before .draw-two .ensures)
 
 add-result : tie.Need-add-result
 add-result c = search needs
@@ -29,7 +32,9 @@ same-length : tie.Need-same-length
 same-length c = search needs
 
 returns : tie.Need-returns
-returns c = written-rest (c .before .before .before .before .before .before .before .before .before .args .g ∷ c .before .before .before .before .before .before .before .before .before .args .h ∷ []) (c .before .before .before .before .before .before .before .before .before .args .i ∷ []) (c .before .before .before .before .before .before .before .before .before .pre) (c .before .before .before .before .before .before .draw-two .ensures) (c .before .before .draw-leg .ensures)
+returns c =
+    let args = c .before .before .before .before .before .before .before .before .before .args in
+    written-rest (args .g ∷ args .h ∷ []) (args .i ∷ []) (c .before .before .before .before .before .before .before .before .before .pre) (c .before .before .before .before .before .before .draw-two .ensures) (c .before .before .draw-leg .ensures)
 
 pub draw-three-spec : {M : Type 1} → statement M
 draw-three-spec =

@@ -1,3 +1,4 @@
+-- By the variant: each arm is the clause of the definition.
 use borrow.Author.Needs.{needs}
 use mathlib.Core.Path.{sym, ap}
 use Rattle.draw.specs.Motion.{moved}

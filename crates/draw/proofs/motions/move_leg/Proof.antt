@@ -1,3 +1,4 @@
+-- Each cell of the leg is moved.
 use borrow.Author.Needs.{needs}
 use Rattle.draw.proofs.motions.move_leg.Statement.{statement}
 use Rattle.draw.proofs.motions.move_leg.Tie as tie
@@ -12,7 +13,8 @@ move-cell-requires-3 : tie.Need-move-cell-requires-3
 move-cell-requires-3 c κs = search needs
 
 returns : tie.Need-returns
-returns c = λ i. record { a = c .before .before .move-cell .ensures i; b = c .before .move-cell2 .ensures i; t = c .move-cell3 .ensures i; back = c .before .before .before .args .g .back }
+returns c =
+    λ i. record { a = c .before .before .move-cell .ensures i; b = c .before .move-cell2 .ensures i; t = c .move-cell3 .ensures i; back = c .before .before .before .args .g .back }
 
 pub move-leg-spec : {M : Type 1} → statement M
 move-leg-spec =

@@ -1,3 +1,4 @@
+-- By the variant: each leg is moved, in the same order.
 use borrow.Author.Needs.{needs}
 use mathlib.Core.Path.{sym, ap, _∙_}
 use Rattle.draw.specs.declared.Plan.the-variants.{One, Two, Three, Five}
@@ -55,13 +56,19 @@ returns : tie.Need-returns
 returns c = (λ i. One (c .move-leg .ensures i)) ∙ sym (ap (movedPlan (moved (c .before .before .before .before .args .k))) (c .before .before .p .given .1))
 
 returns-2 : tie.Need-returns-2
-returns-2 c = (λ i. Two (c .before .move-leg2 .ensures i) (c .move-leg3 .ensures i)) ∙ sym (ap (movedPlan (moved (c .before .before .before .before .before .args .k))) (c .before .before .before .p2 .given .1))
+returns-2 c =
+    (λ i. Two (c .before .move-leg2 .ensures i) (c .move-leg3 .ensures i))
+    ∙ sym (ap (movedPlan (moved (c .before .before .before .before .before .args .k))) (c .before .before .before .p2 .given .1))
 
 returns-3 : tie.Need-returns-3
-returns-3 c = (λ i. Three (c .before .before .move-leg4 .ensures i) (c .before .move-leg5 .ensures i) (c .move-leg6 .ensures i)) ∙ sym (ap (movedPlan (moved (c .before .before .before .before .before .before .args .k))) (c .before .before .before .before .p3 .given .1))
+returns-3 c =
+    (λ i. Three (c .before .before .move-leg4 .ensures i) (c .before .move-leg5 .ensures i) (c .move-leg6 .ensures i))
+    ∙ sym (ap (movedPlan (moved (c .before .before .before .before .before .before .args .k))) (c .before .before .before .before .p3 .given .1))
 
 returns-4 : tie.Need-returns-4
-returns-4 c = (λ i. Five (c .before .before .before .before .move-leg7 .ensures i) (c .before .before .before .move-leg8 .ensures i) (c .before .before .move-leg9 .ensures i) (c .before .move-leg10 .ensures i) (c .move-leg11 .ensures i)) ∙ sym (ap (movedPlan (moved (c .before .before .before .before .before .before .before .before .args .k))) (c .before .before .before .before .before .before .p4 .given .1))
+returns-4 c =
+    (λ i. Five (c .before .before .before .before .move-leg7 .ensures i) (c .before .before .before .move-leg8 .ensures i) (c .before .before .move-leg9 .ensures i) (c .before .move-leg10 .ensures i) (c .move-leg11 .ensures i))
+    ∙ sym (ap (movedPlan (moved (c .before .before .before .before .before .before .before .before .args .k))) (c .before .before .before .before .before .before .p4 .given .1))
 
 pub move-plan-spec : {M : Type 1} → statement M
 move-plan-spec =

@@ -1,3 +1,4 @@
+-- By the variant: each leg is reversed, in the other order.
 use borrow.Author.Needs.{needs}
 use mathlib.Core.Path.{sym, ap, _∙_}
 use Rattle.draw.specs.declared.Plan.the-variants.{One, Two, Three, Five}
@@ -57,10 +58,14 @@ returns-2 : tie.Need-returns-2
 returns-2 c = (λ i. Two (c .before .reverse-leg2 .ensures i) (c .reverse-leg3 .ensures i)) ∙ sym (ap (reversedPlan) (c .before .before .before .p2 .given .1))
 
 returns-3 : tie.Need-returns-3
-returns-3 c = (λ i. Three (c .before .before .reverse-leg4 .ensures i) (c .before .reverse-leg5 .ensures i) (c .reverse-leg6 .ensures i)) ∙ sym (ap (reversedPlan) (c .before .before .before .before .p3 .given .1))
+returns-3 c =
+    (λ i. Three (c .before .before .reverse-leg4 .ensures i) (c .before .reverse-leg5 .ensures i) (c .reverse-leg6 .ensures i))
+    ∙ sym (ap (reversedPlan) (c .before .before .before .before .p3 .given .1))
 
 returns-4 : tie.Need-returns-4
-returns-4 c = (λ i. Five (c .before .before .before .before .reverse-leg7 .ensures i) (c .before .before .before .reverse-leg8 .ensures i) (c .before .before .reverse-leg9 .ensures i) (c .before .reverse-leg10 .ensures i) (c .reverse-leg11 .ensures i)) ∙ sym (ap (reversedPlan) (c .before .before .before .before .before .before .p4 .given .1))
+returns-4 c =
+    (λ i. Five (c .before .before .before .before .reverse-leg7 .ensures i) (c .before .before .before .reverse-leg8 .ensures i) (c .before .before .reverse-leg9 .ensures i) (c .before .reverse-leg10 .ensures i) (c .reverse-leg11 .ensures i))
+    ∙ sym (ap (reversedPlan) (c .before .before .before .before .before .before .p4 .given .1))
 
 pub reverse-plan-spec : {M : Type 1} → statement M
 reverse-plan-spec =

@@ -1,3 +1,4 @@
+-- The legs are those of the definition.
 use borrow.Author.Needs.{needs}
 use mathlib.Core.Path.{refl}
 use Rattle.draw.specs.Plan.{bridge}

@@ -1,3 +1,4 @@
+-- The legs are those of the definition, each by its own function.
 use borrow.Author.Needs.{needs}
 use mathlib.Core.Path.{ap, _∙_}
 use Rattle.draw.specs.declared.Plan.the-variants.{Five}
@@ -28,7 +29,10 @@ row-requires-3 c κs = search needs
 
 returns : tie.Need-returns
 unfolding ess
-returns c = λ i. Five (c .before .before .before .before .before .before .row .ensures i) (c .before .before .before .before .round .ensures i) (c .before .before .before .row2 .ensures i) ((c .before .round2 .ensures ∙ ap (λ k. round k 1 (c .before .before .before .before .before .before .before .args .r) (c .before .before .before .before .before .before .before .args .t .y)) (c .before .before .less .ensures)) i) (c .row3 .ensures i)
+returns c =
+    let args = c .before .before .before .before .before .before .before .args in
+    λ i. Five (c .before .before .before .before .before .before .row .ensures i) (c .before .before .before .before .round .ensures i) (c .before .before .before .row2 .ensures i) ((c .before .round2 .ensures
+    ∙ ap (λ k. round k 1 (args .r) (args .t .y)) (c .before .before .less .ensures)) i) (c .row3 .ensures i)
 
 pub ess-spec : {M : Type 1} → statement M
 ess-spec =

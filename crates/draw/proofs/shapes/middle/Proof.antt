@@ -1,3 +1,4 @@
+-- The legs are those of the definition, the differences being so.
 use borrow.Author.Needs.{needs}
 use Rattle.draw.specs.Plan.{middle}
 use Rattle.draw.proofs.shapes.middle.Statement.{statement}

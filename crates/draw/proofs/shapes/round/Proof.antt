@@ -1,3 +1,4 @@
+-- By the row that the columns are entered in.
 use borrow.Author.Needs.{needs}
 use borrow.Author.Tests.{eq-eqb, ne-eqb}
 use Rattle.grid.proofs.Tests.{cond-yes, cond-no}

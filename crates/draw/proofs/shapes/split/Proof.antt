@@ -1,3 +1,4 @@
+-- The legs are those of the definition, the difference being so.
 use borrow.Author.Needs.{needs}
 use Rattle.draw.specs.Plan.{split}
 use Rattle.draw.proofs.shapes.split.Statement.{statement}

@@ -1,3 +1,4 @@
+-- Each return is the case of the definition that the tests before it lead to.
 use borrow.Author.Tests.{eq-eqb, ne-eqb}
 use mathlib.Core.Path.{refl}
 use Rattle.grid.proofs.Tests.{cond-yes, cond-no}

@@ -1,3 +1,4 @@
+-- The row that is found has the terminals for its ends, and its cells as they are laid are a longest track.
 use borrow.Author.Needs.{needs}
 use lib.ListN.{length}
 use Rattle.draw.proofs.ThreeByThree.{found-as, row-fits, small-drawn}
@@ -8,19 +9,25 @@ placing-of-requires : tie.Need-placing-of-requires
 placing-of-requires c κs = search needs
 
 entry-requires : tie.Need-entry-requires
-entry-requires c κs = ((found-as (c .placing-of .ensures) (c .before .before .pre .0) (c .before .before .pre .1 .0) (c .before .before .pre .1 .1 .0)) .row, search needs)
+entry-requires c κs = let pre = c .before .before .pre in ((found-as (c .placing-of .ensures) (pre .0) (pre .1 .0) (pre .1 .1 .0)) .row, search needs)
 
 cast-n : tie.Need-cast-n
 cast-n c = search needs
 
 write-row-requires : tie.Need-write-row-requires
-write-row-requires c κs = let f = (found-as (c .before .before .placing-of .ensures) (c .before .before .before .before .pre .0) (c .before .before .before .before .pre .1 .0) (c .before .before .before .before .pre .1 .1 .0)) in let r = row-fits (length (c .before .before .before .before .args .buf .now)) f (c .before .entry .ensures) (c .before .before .before .before .pre .1 .1 .1) in (f .row, (c .before .entry .ensures, (r .0, r .1)))
+write-row-requires c κs =
+    let pre = c .before .before .before .before .pre in
+    let f = (found-as (c .before .before .placing-of .ensures) (pre .0) (pre .1 .0) (pre .1 .1 .0)) in
+    let r = row-fits (length (c .before .before .before .before .args .buf .now)) f (c .before .entry .ensures) (pre .1 .1 .1) in
+    (f .row, (c .before .entry .ensures, (r .0, r .1)))
 
 same-length : tie.Need-same-length
 same-length c = search needs
 
 returns : tie.Need-returns
-returns c = small-drawn (found-as (c .before .before .before .before .before .placing-of .ensures) (c .before .before .before .before .before .before .before .pre .0) (c .before .before .before .before .before .before .before .pre .1 .0) (c .before .before .before .before .before .before .before .pre .1 .1 .0)) (c .before .before .before .before .entry .ensures) (c .before .before .write-row .ensures)
+returns c =
+    let pre = c .before .before .before .before .before .before .before .pre in
+    small-drawn (found-as (c .before .before .before .before .before .placing-of .ensures) (pre .0) (pre .1 .0) (pre .1 .1 .0)) (c .before .before .before .before .entry .ensures) (c .before .before .write-row .ensures)
 
 pub draw-small-spec : {M : Type 1} → statement M
 draw-small-spec =

@@ -1,3 +1,4 @@
+-- By the flag; 4 less a number of 4 or more is 0.
 use borrow.Author.Needs.{needs}
 use native.Mathlib.Omega.{arith}
 use mathlib.Core.Path.{refl}

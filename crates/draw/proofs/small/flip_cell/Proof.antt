@@ -1,3 +1,4 @@
+-- Each coordinate by itself.
 use borrow.Author.Needs.{needs}
 use Rattle.draw.proofs.small.flip_cell.Statement.{statement}
 use Rattle.draw.proofs.small.flip_cell.Tie as tie

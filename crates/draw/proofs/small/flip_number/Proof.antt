@@ -1,3 +1,4 @@
+-- By the flag.
 use borrow.Author.Needs.{needs}
 use Rattle.grid.proofs.Tests.{cond-yes}
 use Rattle.draw.proofs.small.flip_number.Statement.{statement}

@@ -1,3 +1,4 @@
+-- By the test.
 use borrow.Author.Tests.{eq-eqb, ne-eqb}
 use mathlib.Core.Path.{refl}
 use Rattle.grid.proofs.Tests.{cond-yes, cond-no}

@@ -1,3 +1,4 @@
+-- By the test; the row is that of the turned cells, or of the cells.
 use borrow.Author.Needs.{needs}
 use mathlib.Core.Path.{sym, _∙_}
 use Rattle.grid.proofs.Tests.{cond-yes, cond-no}

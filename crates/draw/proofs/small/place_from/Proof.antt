@@ -1,3 +1,4 @@
+-- The flags are those of the definition, and so are the mirrored cells.
 use borrow.Author.Needs.{needs}
 use mathlib.Core.Path.{_∙_}
 use Rattle.draw.specs.Table.{laid, mirrored, placedFrom}
@@ -18,11 +19,17 @@ flip-cell-requires-2 : tie.Need-flip-cell-requires-2
 flip-cell-requires-2 c κs = search needs
 
 lay-requires : tie.Need-lay-requires
-lay-requires c κs = flip-cell-small (c .before .before .before .is-mirrored .result) (c .before .before .is-mirrored2 .result) (c .before .before .before .before .args .b) (c .flip-cell2 .ensures) (c .before .before .before .before .pre .0) (c .before .before .before .before .pre .1)
+lay-requires c κs =
+    let pre = c .before .before .before .before .pre in
+    flip-cell-small (c .before .before .before .is-mirrored .result) (c .before .before .is-mirrored2 .result) (c .before .before .before .before .args .b) (c .flip-cell2 .ensures) (pre .0) (pre .1)
 
 returns : tie.Need-returns
 unfolding placedFrom
-returns c = c .lay .ensures ∙ (λ i. laid (c .before .before .before .before .is-mirrored .result) (c .before .before .before .is-mirrored2 .result) (c .before .before .flip-cell .ensures i) (c .before .flip-cell2 .ensures i) (c .before .before .before .before .before .args .back)) ∙ (λ i. mirrored (c .before .before .before .before .is-mirrored .ensures i) (c .before .before .before .is-mirrored2 .ensures i) (c .before .before .before .before .before .args .a) (c .before .before .before .before .before .args .b) (c .before .before .before .before .before .args .back))
+returns c =
+    let args = c .before .before .before .before .before .args in
+    c .lay .ensures
+    ∙ (λ i. laid (c .before .before .before .before .is-mirrored .result) (c .before .before .before .is-mirrored2 .result) (c .before .before .flip-cell .ensures i) (c .before .flip-cell2 .ensures i) (args .back))
+    ∙ (λ i. mirrored (c .before .before .before .before .is-mirrored .ensures i) (c .before .before .before .is-mirrored2 .ensures i) (args .a) (args .b) (args .back))
 
 pub place-from-spec : {M : Type 1} → statement M
 place-from-spec =

@@ -1,3 +1,4 @@
+-- By the numbers of 2 in the two terminals.
 use borrow.Author.Needs.{needs}
 use borrow.Author.Tests.{lt-ltb, le-ltb}
 use mathlib.Core.Path.{sym, _∙_}
@@ -18,14 +19,16 @@ place-from-requires c κs = search needs
 
 returns : tie.Need-returns
 unfolding placing
-returns c = cond-yes _ _ ((λ i. ltb (sym (c .before .before .before .count-twos .ensures) i) (sym (c .before .before .count-twos2 .ensures) i)) ∙ lt-ltb _ _ (c .before .if1 .taken)) (c .place-from .ensures)
+returns c =
+    cond-yes _ _ ((λ i. ltb (sym (c .before .before .before .count-twos .ensures) i) (sym (c .before .before .count-twos2 .ensures) i)) ∙ lt-ltb _ _ (c .before .if1 .taken)) (c .place-from .ensures)
 
 place-from-requires-2 : tie.Need-place-from-requires-2
 place-from-requires-2 c κs = search needs
 
 returns-2 : tie.Need-returns-2
 unfolding placing
-returns-2 c = cond-no _ _ ((λ i. ltb (sym (c .before .before .before .count-twos .ensures) i) (sym (c .before .before .count-twos2 .ensures) i)) ∙ le-ltb _ _ (c .before .if1 .left)) (c .place-from2 .ensures)
+returns-2 c =
+    cond-no _ _ ((λ i. ltb (sym (c .before .before .before .count-twos .ensures) i) (sym (c .before .before .count-twos2 .ensures) i)) ∙ le-ltb _ _ (c .before .if1 .left)) (c .place-from2 .ensures)
 
 pub placing-of-spec : {M : Type 1} → statement M
 placing-of-spec =

@@ -1,3 +1,4 @@
+-- By the flag.
 use borrow.Author.Needs.{needs}
 use mathlib.Core.Path.{refl}
 use Rattle.grid.proofs.Tests.{cond-yes}

@@ -1,4 +1,5 @@
 use Prim.Native.Nat.{_-_}
+-- The loop keeps that the first i cells of the row, as it is laid, are written; each turn writes the next one.
 use native.Mathlib.Omega.{arith}
 use lib.ListN.{length-set}
 use Rattle.corner.proofs.Written.{Written, none, more, whole}
@@ -20,7 +21,10 @@ position-of-requires : tie.Need-position-of-requires Inv-loop μ-loop
 position-of-requires c κs = c .loop-test .taken
 
 x-at-requires : tie.Need-x-at-requires Inv-loop μ-loop
-x-at-requires c κs = (c .before .before .before .before .pre .0, in-row (c .before .before .before .before .args .p .back) (c .before .before .before .before .args .n) (c .before .before .loop .i) (c .position-of .ensures) (c .before .loop-test .taken) (c .before .before .before .before .pre .1 .1 .0))
+x-at-requires c κs =
+    let args = c .before .before .before .before .args in
+    let pre = c .before .before .before .before .pre in
+    (pre .0, in-row (args .p .back) (args .n) (c .before .before .loop .i) (c .position-of .ensures) (c .before .loop-test .taken) (pre .1 .1 .0))
 
 mul-buf : tie.Need-mul-buf Inv-loop μ-loop
 mul-buf c = omega arith
@@ -29,7 +33,10 @@ slice-write-buf : tie.Need-slice-write-buf Inv-loop μ-loop
 slice-write-buf c = omega arith
 
 y-at-requires : tie.Need-y-at-requires Inv-loop μ-loop
-y-at-requires c κs = (c .before .before .before .before .before .pre .0, in-row (c .before .before .before .before .before .args .p .back) (c .before .before .before .before .before .args .n) (c .before .before .before .loop .i) (c .before .position-of .ensures) (c .before .before .loop-test .taken) (c .before .before .before .before .before .pre .1 .1 .0))
+y-at-requires c κs =
+    let args = c .before .before .before .before .before .args in
+    let pre = c .before .before .before .before .before .pre in
+    (pre .0, in-row (args .p .back) (args .n) (c .before .before .before .loop .i) (c .before .position-of .ensures) (c .before .before .loop-test .taken) (pre .1 .1 .0))
 
 mul-buf-2 : tie.Need-mul-buf-2 Inv-loop μ-loop
 mul-buf-2 c = omega arith
@@ -47,7 +54,10 @@ loop-less : tie.Need-loop-less Inv-loop μ-loop
 loop-less c = omega arith
 
 loop-again : tie.Need-loop-again Inv-loop μ-loop
-loop-again c = more _ _ _ (c .before .before .before .before .loop .buf) (c .before .before .before .before .loop .i) _ _ (c .before .before .before .before .loop .inv) (c .before .before .before .before .before .before .pre .1 .1 .1) (c .before .before .before .loop-test .taken) (placed-at (λ k. k .x) (c .before .before .before .before .before .before .args .p) (c .before .before .before .before .loop .i) (c .before .x-at .ensures) (c .before .before .position-of .ensures) (c .before .before .before .before .before .before .pre .1 .0)) (placed-at (λ k. k .y) (c .before .before .before .before .before .before .args .p) (c .before .before .before .before .loop .i) (c .y-at .ensures) (c .before .before .position-of .ensures) (c .before .before .before .before .before .before .pre .1 .0))
+loop-again c =
+    let args = c .before .before .before .before .before .before .args in
+    let pre = c .before .before .before .before .before .before .pre in
+    more _ _ _ (c .before .before .before .before .loop .buf) (c .before .before .before .before .loop .i) _ _ (c .before .before .before .before .loop .inv) (pre .1 .1 .1) (c .before .before .before .loop-test .taken) (placed-at (λ k. k .x) (args .p) (c .before .before .before .before .loop .i) (c .before .x-at .ensures) (c .before .before .position-of .ensures) (pre .1 .0)) (placed-at (λ k. k .y) (args .p) (c .before .before .before .before .loop .i) (c .y-at .ensures) (c .before .before .position-of .ensures) (pre .1 .0))
 
 same-length : tie.Need-same-length Inv-loop μ-loop
 same-length c = c .before .loop .inv .long

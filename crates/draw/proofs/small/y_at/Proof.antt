@@ -1,3 +1,4 @@
+-- By the flag: a turned cell has x for y.
 use borrow.Author.Needs.{needs}
 use mathlib.Core.Path.{ap, _∙_}
 use mathlib.Core.Bool.{true, false}
@@ -19,7 +20,10 @@ flip-byte-requires : tie.Need-flip-byte-requires
 flip-byte-requires c κs = search needs
 
 returns : tie.Need-returns
-returns c = c .flip-byte .ensures ∙ ap (flip (c .before .before .before .args .p .down)) (c .before .entry .ensures) ∙ at-y (c .before .before .before .args .p) (rowCell (c .before .before .before .args .p .row) (c .before .before .before .args .j)) true (c .before .before .if1 .taken)
+returns c =
+    let args = c .before .before .before .args in
+    c .flip-byte .ensures
+    ∙ ap (flip (args .p .down)) (c .before .entry .ensures) ∙ at-y (args .p) (rowCell (args .p .row) (args .j)) true (c .before .before .if1 .taken)
 
 mul-entry-2 : tie.Need-mul-entry-2
 mul-entry-2 c = search needs
@@ -34,7 +38,10 @@ flip-byte-requires-2 : tie.Need-flip-byte-requires-2
 flip-byte-requires-2 c κs = search needs
 
 returns-2 : tie.Need-returns-2
-returns-2 c = c .flip-byte2 .ensures ∙ ap (flip (c .before .before .before .args .p .down)) (c .before .entry2 .ensures) ∙ at-y (c .before .before .before .args .p) (rowCell (c .before .before .before .args .p .row) (c .before .before .before .args .j)) false (c .before .before .if1 .left)
+returns-2 c =
+    let args = c .before .before .before .args in
+    c .flip-byte2 .ensures
+    ∙ ap (flip (args .p .down)) (c .before .entry2 .ensures) ∙ at-y (args .p) (rowCell (args .p .row) (args .j)) false (c .before .before .if1 .left)
 
 pub y-at-spec : {M : Type 1} → statement M
 y-at-spec =
