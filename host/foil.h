@@ -5,7 +5,7 @@
  * exit, each a neighbour of the one before, none twice. A cell list is bytes: x then y for each cell.
  *
  * Link with libhost.a, the archive that `rt staticlib host` writes to target/staticlib. The calls keep
- * no state, call nothing but memset, and may be made from several threads at once on different buffers.
+ * no state, call nothing but memcpy and memset, and may be made from several threads at once on different buffers.
  * Any numbers may be passed: what is wrong is refused, and nothing is written outside the buffers.
  *
  * A buffer is a pointer and its length in bytes. Where the length is 0 the pointer may be null; it is
