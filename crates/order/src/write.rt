@@ -1,0 +1,1 @@
+// Writes text into a buffer, each part behind the one before.
