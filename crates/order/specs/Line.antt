@@ -24,12 +24,16 @@ largest = 4294967295
 
 -- ---- the form
 
--- an order's line and what is behind it: m, n, entry x, entry y, exit x, exit y, one blank between, a line feed after
+-- a number in base ten, the byte e behind it, and the rest
+abbrev pub fieldOf : ℕ → ℕ → List ℕ → List ℕ
+fieldOf n e rest = decimal n ++ e ∷ rest
+
+-- an order's line, and the rest: m, n, entry x, entry y, exit x, exit y, one blank between, a line feed after
 abbrev pub lineOf : Panel → Cell → Cell → List ℕ → List ℕ
 lineOf p s t rest =
-    decimal (p .width) ++ blank ∷ decimal (p .height) ++ blank ∷
-    decimal (s .x) ++ blank ∷ decimal (s .y) ++ blank ∷
-    decimal (t .x) ++ blank ∷ decimal (t .y) ++ lineFeed ∷ rest
+    fieldOf (p .width) blank (fieldOf (p .height) blank
+    (fieldOf (s .x) blank (fieldOf (s .y) blank
+    (fieldOf (t .x) blank (fieldOf (t .y) lineFeed rest)))))
 
 -- ---- how it is read
 

@@ -2,8 +2,7 @@
 use Prim.Native.Nat.{ℕ, _+_, _*_, _-_}
 use mathlib.Core.List.{List, [], _∷_, _++_}
 use lib.ListN.{length, take, drop}
-use Rattle.order.specs.Decimal.{decimal}
-use Rattle.order.specs.Line.{blank, lineFeed}
+use Rattle.order.specs.Line.{blank, lineFeed, fieldOf}
 
 -- "class cells steps squares" and a line feed
 abbrev pub heading : List ℕ
@@ -17,7 +16,7 @@ refusedWord = 114 ∷ 101 ∷ 102 ∷ 117 ∷ 115 ∷ 101 ∷ 100 ∷ blank ∷ 
 
 -- the line `refused N`
 abbrev pub refusedText : ℕ → List ℕ
-refusedText n = refusedWord ++ decimal n ++ lineFeed ∷ []
+refusedText n = refusedWord ++ fieldOf n lineFeed []
 
 -- the squares of a track of so many cells, in hundredths: 100 for each cell
 unfoldable pub squaresOf : ℕ → ℕ
@@ -27,9 +26,9 @@ squaresOf cells = 100 * cells
 abbrev pub answerText : ℕ → ℕ → List ℕ → List ℕ
 answerText class cells letters =
     heading ++
-    decimal class ++ blank ∷ decimal cells ++ blank ∷ decimal (cells - 1) ++ blank ∷ decimal (squaresOf cells) ++ lineFeed ∷
-    letters ++ lineFeed ∷ []
+    fieldOf class blank (fieldOf cells blank (fieldOf (cells - 1) blank (fieldOf (squaresOf cells) lineFeed
+    (letters ++ lineFeed ∷ []))))
 
 -- a buffer with a text put at a place of it
 unfoldable pub put : List ℕ → ℕ → List ℕ → List ℕ
-put out at text = take at out ++ text ++ drop (at + length text) out
+put out at text = take at out ++ (text ++ drop (at + length text) out)
