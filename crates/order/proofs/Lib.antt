@@ -1,3 +1,4 @@
 pub mod Lines
 pub mod Decimals
 pub mod Form
+pub mod Puts
