@@ -1,5 +1,5 @@
 -- Texts put into a buffer: one byte, one text behind another, and the buffer's length.
-use Prim.Native.Nat.{ℕ, _+_, _/_, _%_, _≤_, _<_}
+use Prim.Native.Nat.{ℕ, _+_, _-_, _/_, _%_, _≤_, _<_}
 use mathlib.Core.Path.{_≡_, refl, sym, ap, subst, _∙_}
 use mathlib.Core.List.{List, [], _∷_, _++_, append-assoc}
 use native.Mathlib.Omega.{arith}
@@ -8,8 +8,8 @@ use native.Mathlib.Nat.{add-zero}
 use lib.ListN.{length, take, drop, set, getD, length-append, length-drop, take-append-drop}
 use lib.Seq.{take-suc, set-split, take-at, drop-append-add, drop-drop, length-take-le}
 use Rattle.order.specs.Decimal.{digit, decimal}
-use Rattle.order.specs.Line.{fieldOf}
-use Rattle.order.specs.Text.{put, Put}
+use Rattle.order.specs.Line.{blank, lineFeed, fieldOf}
+use Rattle.order.specs.Text.{put, Put, squaresOf, countsText}
 use Rattle.order.proofs.Decimals.{decimal-small, decimal-more}
 
 module _ (out : List ℕ) (at : ℕ) where
@@ -46,24 +46,26 @@ module _ (out : List ℕ) (at : ℕ) where
   unfolding put
   put-none = sym (take-append-drop at out) ∙ ap (λ (k : ℕ). take at out ++ drop k out) (sym (add-zero at))
 
-  -- a text behind another
-  pub puts-both : (t u : List ℕ) {mid after : List ℕ} {k next : ℕ} → at + length (t ++ u) ≤ length out
-                  → Put out at t mid k → Put mid k u after next → Put out at (t ++ u) after next
-  puts-both t u h f g = record {
-      bytes = g .bytes ∙ (λ i. put (f .bytes i) (f .end i) u) ∙ put-both t u h;
-      end = omega (arith, length-append t u, f .end, g .end);
-    }
-
-  -- there is room for the first, and then for the second
-  pub room-first : (t u : List ℕ) → at + length (t ++ u) ≤ length out → at + length t ≤ length out
-  room-first t u h = omega (arith, length-append t u)
-
-  pub room : (t u : List ℕ) {mid : List ℕ} {k : ℕ} → at + length (t ++ u) ≤ length out → Put out at t mid k → k + length u ≤ length mid
-  room t u h f = omega (arith, length-append t u, f .end, ap length (f .bytes) ∙ length-put t (omega (arith, length-append t u)))
-
   -- the same text, told otherwise
   pub puts-is : {t u : List ℕ} {after : List ℕ} {next : ℕ} → t ≡ u → Put out at t after next → Put out at u after next
   puts-is {after = after} {next = next} e f = subst (λ (t : List ℕ). Put out at t after next) e f
+
+-- a whole of two texts: there is room for the first, and then for the second; both put are the whole
+module _ (out : List ℕ) (at : ℕ) (t u : List ℕ) {whole : List ℕ} (e : t ++ u ≡ whole) (fits : at + length whole ≤ length out) where
+  sum : length t + length u ≡ length whole
+  sum = sym (length-append t u) ∙ ap length e
+
+  pub room-first : at + length t ≤ length out
+  room-first = omega (arith, sum)
+
+  pub room : {mid : List ℕ} {k : ℕ} → Put out at t mid k → k + length u ≤ length mid
+  room f = omega (arith, sum, f .end, ap length (f .bytes) ∙ length-put out at t room-first)
+
+  pub puts-both : {mid after : List ℕ} {k next : ℕ} → Put out at t mid k → Put mid k u after next → Put out at whole after next
+  puts-both f g = record {
+      bytes = g .bytes ∙ (λ i. put (f .bytes i) (f .end i) u) ∙ put-both out at t u (omega (arith, ap length e)) ∙ ap (put out at) e;
+      end = omega (arith, sum, f .end, g .end);
+    }
 
 -- one byte more of a text
 pub put-next : (out : List ℕ) (at : ℕ) (t : List ℕ) (i : ℕ) → i < length t → at + length t ≤ length out
@@ -84,6 +86,14 @@ put-next out at t i h g =
 pub field-and : (n e : ℕ) (rest : List ℕ) → fieldOf n e [] ++ rest ≡ fieldOf n e rest
 field-and n e rest = append-assoc (decimal n) (e ∷ []) rest
 
+pub two-and : (a b e : ℕ) (rest : List ℕ) → fieldOf a blank (fieldOf b e []) ++ rest ≡ fieldOf a blank (fieldOf b e rest)
+two-and a b e rest = append-assoc (decimal a) (blank ∷ fieldOf b e []) rest ∙ ap (λ (l : List ℕ). decimal a ++ blank ∷ l) (field-and b e rest)
+
+-- the line of counts is two numbers and two numbers
+pub counts-and : (class cells : ℕ) {steps squares : ℕ} → steps ≡ cells - 1 → squares ≡ squaresOf cells
+                 → fieldOf class blank (fieldOf cells blank []) ++ fieldOf steps blank (fieldOf squares lineFeed []) ≡ countsText class cells
+counts-and class cells e f = two-and class cells blank _ ∙ (λ i. fieldOf class blank (fieldOf cells blank (fieldOf (e i) blank (fieldOf (f i) lineFeed []))))
+
 module _ (out : List ℕ) (at n : ℕ) (fits : at + length (decimal n) ≤ length out) where
   module _ (h : n < 10) where
     pub room-one : at + 1 ≤ length out
@@ -93,15 +103,12 @@ module _ (out : List ℕ) (at n : ℕ) (fits : at + length (decimal n) ≤ lengt
     puts-one f = puts-is out at (sym (decimal-small n h)) f
 
   module _ (h : 10 ≤ n) where
-    both : at + length (decimal (n / 10) ++ (digit (n % 10) ∷ [])) ≤ length out
-    both = omega (arith, ap length (decimal-more n h))
-
     pub room-digits : at + length (decimal (n / 10)) ≤ length out
-    room-digits = omega (arith, both, length-append (decimal (n / 10)) (digit (n % 10) ∷ []))
+    room-digits = room-first out at (decimal (n / 10)) (digit (n % 10) ∷ []) (sym (decimal-more n h)) fits
 
     pub room-last : {mid : List ℕ} {k : ℕ} → Put out at (decimal (n / 10)) mid k → k + 1 ≤ length mid
-    room-last f = room out at (decimal (n / 10)) (digit (n % 10) ∷ []) both f
+    room-last f = room out at (decimal (n / 10)) (digit (n % 10) ∷ []) (sym (decimal-more n h)) fits f
 
     pub puts-last : {mid after : List ℕ} {k next : ℕ} → Put out at (decimal (n / 10)) mid k → Put mid k (digit (n % 10) ∷ []) after next
                     → Put out at (decimal n) after next
-    puts-last f g = puts-is out at (sym (decimal-more n h)) (puts-both out at (decimal (n / 10)) (digit (n % 10) ∷ []) both f g)
+    puts-last f g = puts-both out at (decimal (n / 10)) (digit (n % 10) ∷ []) (sym (decimal-more n h)) fits f g

@@ -1,3 +1,4 @@
+use mathlib.Core.Path.{refl}
 use mathlib.Core.List.{[]}
 use native.Mathlib.Omega.{arith}
 use denote.Ref.{now}
@@ -30,7 +31,7 @@ same-length c = search needs
 
 -- src/write.rt:56:1
 returns : tie.Need-returns
-returns c = let s = c .before .before .before .before .before .before .before .before .before .before in puts-both (now (s .args .out)) 0 refusedWord (fieldOf (s .args .n) lineFeed []) (omega (arith, s .pre)) (c .before .before .before .before .before .before .put-bytes .ensures) (c .before .before .put-field .ensures)
+returns c = let s = c .before .before .before .before .before .before .before .before .before .before in puts-both (now (s .args .out)) 0 refusedWord (fieldOf (s .args .n) lineFeed []) refl (omega (arith, s .pre)) (c .before .before .before .before .before .before .put-bytes .ensures) (c .before .before .put-field .ensures)
 
 pub put-refused-spec : {M : Type 1} → statement M
 put-refused-spec =
