@@ -60,8 +60,5 @@ good-order p s t e =
       panel = e₁ .0;
       entry = e₁ .1;
       exit = on p t (test (onPanel p t) ExitOff last e₂);
-      differ = same-ne s t (unnot (sameCell s t) (test (not (sameCell s t)) SameCell Passed e₃));
+      differ = same-ne s t (not-true (sameCell s t) (test (not (sameCell s t)) SameCell Passed e₃));
     }
-  where
-    unnot : (b : Bool) → not b ≡ true → b ≡ false
-    unnot b h = not-true b h

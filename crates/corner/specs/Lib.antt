@@ -1,1 +1,4 @@
 pub mod Corner
+pub mod Line
+pub mod Peel
+pub mod Drawn

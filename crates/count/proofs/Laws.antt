@@ -30,6 +30,15 @@ and-swap true false = refl
 and-swap false true = refl
 and-swap false false = refl
 
+-- C0 of an area's parity and two colours
+colours-swap : (o a b : Bool) → cond o (not a && not b) (cond a (not b) b) ≡ cond o (not b && not a) (cond b (not a) a)
+colours-swap o true true = refl
+colours-swap true true false = refl
+colours-swap false true false = refl
+colours-swap true false true = refl
+colours-swap false false true = refl
+colours-swap o false false = refl
+
 -- what holds of both branches holds of the choice
 choice {ℓ} : {A : Type ℓ} (P : A → Type 0) (b : Bool) (x y : A) → (b ≡ true → P x) → (b ≡ false → P y) → P (cond b x y)
 choice P true x y f g = f refl
@@ -121,15 +130,7 @@ f3-right p s t h = none (eqb (p .height) 3) (not (odd (p .width))) (black s) (no
 
 c0-swap : (p : Panel) (s t : Cell) → c0 p s t ≡ c0 p t s
 unfolding c0
-c0-swap p s t = swap (odd (area p)) (black s) (black t)
-  where
-    swap : (o a b : Bool) → cond o (not a && not b) (cond a (not b) b) ≡ cond o (not b && not a) (cond b (not a) a)
-    swap o true true = refl
-    swap true true false = refl
-    swap false true false = refl
-    swap true false true = refl
-    swap false false true = refl
-    swap o false false = refl
+c0-swap p s t = colours-swap (odd (area p)) (black s) (black t)
 
 c2-column : (p : Panel) (s t : Cell) → s .x ≡ t .x → c2 p s t ≡ c2 p t s
 unfolding c2
@@ -191,15 +192,7 @@ plain a b d = cond (odd a && (b && d)) (a - 2) (cond (cond (odd a) (not b && not
 
 plain-swap : (a : ℕ) (b d : Bool) → plain a b d ≡ plain a d b
 unfolding plain
-plain-swap a b d = swap (odd a) b d
-  where
-    swap : (o b d : Bool) → cond (o && (b && d)) (a - 2) (cond (cond o (not b && not d) (cond b (not d) d)) a (a - 1)) ≡ cond (o && (d && b)) (a - 2) (cond (cond o (not d && not b) (cond d (not b) b)) a (a - 1))
-    swap o true true = refl
-    swap true true false = refl
-    swap false true false = refl
-    swap true false true = refl
-    swap false false true = refl
-    swap o false false = refl
+plain-swap a b d = λ i. cond (odd a && and-swap b d i) (a - 2) (cond (colours-swap (odd a) b d i) a (a - 1))
 
 -- two different cells of a panel that is not tall, the left one first
 record Ordered (p : Panel) (s t : Cell) : Type 0 where

@@ -5,4 +5,4 @@ pub mod Ends
 pub mod Colour
 pub mod Strip
 pub mod Rows
-pub mod NoLonger
+pub mod AtMost

@@ -1,5 +1,6 @@
 -- Two branches, as in the definition; a good panel turned is good, and its cells turned are on it.
 use borrow.Author.Tests.{lt-ltb, le-ltb}
+use native.Mathlib.Omega.{arith}
 use mathlib.Core.Path.{_≡_, _∙_, subst⁻¹, sym, subst₂}
 use Rattle.grid.specs.declared.Panel.{Panel}
 use Rattle.grid.specs.declared.Cell.{Cell}
@@ -28,18 +29,26 @@ turn-cell-requires-2 : tie.Need-turn-cell-requires-2
 turn-cell-requires-2 c κs = search needs
 
 name-terminals-requires : tie.Need-name-terminals-requires
-name-terminals-requires c κs = (good-turned (c .before .before .turn-panel .ensures) (c .before .before .before .before .before .pre .0), (on-turned (c .before .before .turn-panel .ensures) (c .before .turn-cell .ensures) (c .before .before .before .before .before .pre .1 .0), on-turned (c .before .before .turn-panel .ensures) (c .turn-cell2 .ensures) (c .before .before .before .before .before .pre .1 .1)))
+name-terminals-requires c κs =
+    let panel = c .before .before .turn-panel .ensures in
+    let pre = c .before .before .before .before .before .pre in
+    (good-turned panel (pre .0), (on-turned panel (c .before .turn-cell .ensures) (pre .1 .0), on-turned panel (c .turn-cell2 .ensures) (pre .1 .1)))
 
 returns : tie.Need-returns
 unfolding classCount
-returns c = cond-yes _ _ (lt-ltb _ _ (c .before .before .before .before .if1 .taken)) (c .name-terminals .ensures ∙ (λ i. named (c .before .before .before .turn-panel .ensures i) (c .before .before .turn-cell .ensures i) (c .before .turn-cell2 .ensures i)))
+returns c =
+    let start = c .before .before .before .before .before .before in
+    cond-yes _ _ (lt-ltb (start .args .p .width) (start .args .p .height) (omega (arith, c .before .before .before .before .if1 .taken)))
+    (c .name-terminals .ensures ∙ (λ i. named (c .before .before .before .turn-panel .ensures i) (c .before .before .turn-cell .ensures i) (c .before .turn-cell2 .ensures i)))
 
 name-terminals-requires-2 : tie.Need-name-terminals-requires-2
 name-terminals-requires-2 c κs = search needs
 
 returns-2 : tie.Need-returns-2
 unfolding classCount
-returns-2 c = cond-no _ _ (le-ltb _ _ (c .before .if1 .left)) (c .name-terminals2 .ensures)
+returns-2 c =
+    let start = c .before .before .before in
+    cond-no _ _ (le-ltb (start .args .p .width) (start .args .p .height) (omega (arith, c .before .if1 .left))) (c .name-terminals2 .ensures)
 
 pub class-count-spec : {M : Type 1} → statement M
 class-count-spec =

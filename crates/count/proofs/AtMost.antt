@@ -1,0 +1,214 @@
+-- A track has at most the cells of the count, and as many as the count in parity. Class by class, for terminals named by x: one row, two rows and F3 have their own files; a track has at most mn cells,
+-- with two black ends on an odd panel two fewer (one black cell more than white ones, where the panel has one fewer), and one fewer where the parity of its length is not that of mn.
+-- A track reversed or turned is a track, which gives the other names and the tall panels.
+use Prim.Native.Nat.{ℕ, _+_, _-_, _*_, _/_, _%_, _≤_, _<_, max}
+use mathlib.Core.Path.{_≡_, refl, sym, ap, _∙_}
+use mathlib.Core.Logic.{_≢_}
+use mathlib.Core.Bool.{Bool, true, false, cond, not, _&&_, _||_}
+use mathlib.Core.List.{List, reverse, map}
+use native.Mathlib.Omega.{arith}
+use lib.ListN.{length, length-reverse, length-map}
+use lib.Dec.{ltb, eqb}
+use borrow.Author.Tests.{eqb-true, eqb-false, leb-true, ltb-true, ltb-false, not-true}
+use Rattle.grid.specs.declared.Panel.{Panel}
+use Rattle.grid.specs.declared.Cell.{Cell}
+use Rattle.grid.specs.Panel.{OnPanel, black, turned, turnedCell}
+use Rattle.grid.specs.Track.{Walk, All, Track}
+use Rattle.grid.proofs.Facts.{and-left, and-right, cell-eq}
+use Rattle.grid.proofs.Track.{all-map, backwards}
+use Rattle.grid.proofs.Moves.{turning, moved}
+use Rattle.count.specs.declared.ClassCount.{ClassCount}
+use Rattle.count.specs.Count.{area, odd, f1, f2, f3, c2, c0, decided, named, classCount, count}
+use Rattle.count.specs.Longest.{NoLonger, ifBlack, weight}
+use Rattle.count.proofs.Ends.{first-in, last-in}
+use Rattle.count.proofs.Pigeon.{InColumns, at-most-area}
+use Rattle.count.proofs.Colour.{bit, row-two, odd-bit, black-bit, walk-black, at-most-black}
+use Rattle.count.proofs.Strip.{strip}
+use Rattle.count.proofs.Rows.{one-row, two-rows}
+
+-- ---- a definition by cases
+
+by-cond : (P : ClassCount → Type 0) (b : Bool) {x y : ClassCount} → (b ≡ true → P x) → (b ≡ false → P y) → P (cond b x y)
+by-cond P true f g = f refl
+by-cond P false f g = g refl
+
+-- the two parts of "and", the two cases of "or"
+both : (a b : Bool) → (a && b) ≡ true → (a ≡ true) × (b ≡ true)
+both a b e = (and-left a b e, and-right a b e)
+
+either {ℓ} : {A : Type ℓ} (a b : Bool) → (a || b) ≡ true → (a ≡ true → A) → (b ≡ true → A) → A
+either true b e f g = f refl
+either false b e f g = g e
+
+-- ---- parities
+
+-- C0 is the lines on which mn and the black ends make an odd number, but for two black ends on an odd panel
+c0-parity : (o a b : Bool) → (o && (a && b)) ≡ false → (bit o + (bit a + bit b)) % 2 ≡ bit (cond o (not a && not b) (cond a (not b) b))
+c0-parity true true true e = absurd (omega (arith, ap bit e))
+c0-parity true true false e = refl
+c0-parity true false true e = refl
+c0-parity true false false e = refl
+c0-parity false true true e = refl
+c0-parity false true false e = refl
+c0-parity false false true e = refl
+c0-parity false false false e = refl
+
+one-row-black : (c : Cell) → c .y ≡ 1 → ifBlack c ≡ (c .x + 1) % 2
+unfolding ifBlack
+one-row-black c h = omega arith
+
+two-rows-black : (s t : Cell) → s .y + t .y ≡ 3 → (ifBlack s + ifBlack t + (s .x + t .x)) % 2 ≡ 1
+unfolding ifBlack
+two-rows-black s t h = go (s .x) (s .y) (t .x) (t .y) h
+  where
+    go : (a b c d : ℕ) → b + d ≡ 3 → ((a + b) % 2 + (c + d) % 2 + (a + c)) % 2 ≡ 1
+    go a b c d h = omega arith
+
+or-false : (a b : Bool) → (a || b) ≡ false → a ≡ false
+or-false true b e = e
+or-false false b e = refl
+
+-- ---- class by class
+
+-- at most k cells, and as many as k in parity
+abbrev Fits : List Cell → ℕ → Type 0
+Fits l k = (length l ≤ k) × ((length l + k) % 2 ≡ 0)
+
+module _ (p : Panel) (s t : Cell) (ne : s ≢ t) {l : List Cell} (r : Track p s t l) where
+  on-s : OnPanel p s
+  on-s = first-in (r .walk) (r .within)
+
+  on-t : OnPanel p t
+  on-t = last-in (r .walk) (r .within)
+
+  rows : (n : ℕ) → p .height ≡ n → All (InColumns 0 (p .width) n) l
+  rows n e = all-map (λ c o. record { left = o .left; right = omega arith; top = o .top; bottom = omega arith }) (r .within)
+
+  ends : 2 * weight ifBlack l + 1 ≡ length l + ifBlack s + ifBlack t
+  ends = walk-black (r .walk)
+
+  f1-bound : s .x ≤ t .x → f1 p s t ≡ true → Fits l (t .x - s .x + 1)
+  unfolding f1
+  f1-bound h e =
+      let n : p .height ≡ 1 = eqb-true _ _ (and-left _ _ e) in
+      let i : s .y ≡ 1 = omega (arith, on-s) in
+      let j : t .y ≡ 1 = omega (arith, on-t) in
+      let x : s .x ≢ t .x = λ q. ne (cell-eq q (i ∙ sym j)) in
+      (one-row (p .width) (omega arith) (r .walk) (r .once) (rows 1 n), parity (s .x) (t .x) (length l) _ _ _ (one-row-black s i) (one-row-black t j) h ends)
+    where
+      parity : (a b k w d e : ℕ) → d ≡ (a + 1) % 2 → e ≡ (b + 1) % 2 → a ≤ b → 2 * w + 1 ≡ k + d + e → (k + (b - a + 1)) % 2 ≡ 0
+      parity a b k w d e p q h i = omega arith
+
+  f2-bound : f2 p s t ≡ true → Fits l (max (s .x + t .x) (2 * p .width - (s .x + t .x) + 2))
+  unfolding f2
+  f2-bound e =
+      let (n, c) = both _ _ e in
+      either _ _ c
+      (λ x. let q : s .x ≡ t .x = eqb-true _ _ x in bound (eqb-true _ _ n) (λ y. ne (cell-eq q y)) (omega arith) (omega arith))
+      (λ x. let (y, d) = both _ _ x in let q : s .x + 1 ≡ t .x = eqb-true _ _ y in bound (eqb-true _ _ n) (eqb-false _ _ (not-true _ d)) (omega arith) (omega arith))
+    where
+      parity : (a m k w d e : ℕ) → (d + e + a) % 2 ≡ 1 → a ≤ 2 * m → 2 * w + 1 ≡ k + d + e → (k + max a (2 * m - a + 2)) % 2 ≡ 0
+      parity a m k w d e p q h = omega arith
+
+      bound : p .height ≡ 2 → s .y ≢ t .y → s .x ≤ t .x → t .x ≤ s .x + 1 → Fits l (max (s .x + t .x) (2 * p .width - (s .x + t .x) + 2))
+      bound n h i j = (
+        two-rows (p .width) h i j (r .walk) (r .once) (rows 2 n),
+        parity (s .x + t .x) (p .width) (length l) _ _ _ (two-rows-black s t (omega (arith, on-s, on-t))) (omega (arith, on-s, on-t)) ends,
+      )
+
+  f3-bound : f3 p s t ≡ true → Fits l (area p - 2)
+  unfolding f3
+  f3-bound e =
+      let (n, e1) = both (eqb (p .height) 3) _ e in
+      let (even, e2) = both (not (odd (p .width))) _ e1 in
+      let (bs, e3) = both (black s) _ e2 in
+      let (wt, x) = both (not (black t)) _ e3 in
+      let h : p .height ≡ 3 = eqb-true _ _ n in
+      let o : p .width % 2 ≢ 1 = eqb-false _ _ (not-true _ even) in
+      let d : ifBlack s ≡ 1 = black-bit s ∙ ap bit bs in
+      let g : ifBlack t ≡ 0 = black-bit t ∙ ap bit (not-true (black t) wt) in
+      let column : s .x + (s .x + 1) % 2 < t .x = either _ _ x (λ y. far (leb-true _ _ y)) (λ y. let (q, z) = both _ _ y in near d (eqb-true _ _ q) (eqb-true _ _ (both _ _ z .0))) in
+      let a : area p ≡ p .width * 3 = ap (λ (k : ℕ). p .width * k) h in
+      let k = strip (s .x + (s .x + 1) % 2) (p .width) (omega arith) (omega arith) (omega arith) column d g (r .walk) (r .once) (rows 3 h) in
+      two-less (p .width / 2) (area p) (length l) (weight ifBlack l) (omega arith) (omega arith) (omega (arith, ends))
+    where
+      -- the first odd column from s on is left of t
+      far : s .x + 2 ≤ t .x → s .x + (s .x + 1) % 2 < t .x
+      far h = omega arith
+
+      near : ifBlack s ≡ 1 → s .x + 1 ≡ t .x → s .y ≡ 2 → s .x + (s .x + 1) % 2 < t .x
+      near d h two = omega (arith, row-two s two)
+
+      two-less : (m a k w : ℕ) → a ≡ 2 * m * 3 → k + 2 ≤ a → 2 * w ≡ k → (k ≤ a - 2) × ((k + (a - 2)) % 2 ≡ 0)
+      two-less m a k w e h i = omega arith
+
+  odd-bound : (odd (area p) && (black s && black t)) ≡ true → Fits l (area p - 2)
+  odd-bound e =
+      let (o, c) = both (odd (area p)) _ e in
+      let (bs, bt) = both (black s) (black t) c in
+      two-less (area p) (length l) (weight ifBlack l) _ _ (eqb-true _ _ o) (black-bit s ∙ ap bit bs) (black-bit t ∙ ap bit bt) ends (at-most-black p (r .once) (r .within))
+    where
+      two-less : (a k w d e : ℕ) → a % 2 ≡ 1 → d ≡ 1 → e ≡ 1 → 2 * w + 1 ≡ k + d + e → w ≤ a / 2 → (k ≤ a - 2) × ((k + (a - 2)) % 2 ≡ 0)
+      two-less a k w d e o p q h i = omega arith
+
+  c2-bound : c2 p s t ≡ true → Fits l (area p - 2)
+  unfolding c2
+  c2-bound e = either _ _ e odd-bound f3-bound
+
+  -- the other classes: C0 decides the parity of the length
+  rest-parity : c2 p s t ≡ false → (area p % 2 + (ifBlack s + ifBlack t)) % 2 ≡ bit (c0 p s t)
+  unfolding c2 c0
+  rest-parity e = (λ i. (odd-bit (area p) i + (black-bit s i + black-bit t i)) % 2) ∙ (c0-parity (odd (area p)) (black s) (black t) (or-false _ _ e))
+
+  c0-bound : c2 p s t ≡ false → c0 p s t ≡ true → Fits l (area p)
+  c0-bound e f = (at-most-area p (r .once) (r .within), parity (area p) (length l) _ _ _ (rest-parity e ∙ ap bit f) ends)
+    where
+      parity : (a k w d e : ℕ) → (a % 2 + (d + e)) % 2 ≡ 1 → 2 * w + 1 ≡ k + d + e → (k + a) % 2 ≡ 0
+      parity a k w d e h i = omega arith
+
+  c1-bound : c2 p s t ≡ false → c0 p s t ≡ false → Fits l (area p - 1)
+  c1-bound e f = one-less (area p) (length l) _ _ _ (rest-parity e ∙ ap bit f) ends (at-most-area p (r .once) (r .within)) (some-cell (r .walk))
+    where
+      some-cell : {s t : Cell} {l : List Cell} → Walk s t l → 1 ≤ length l
+      some-cell Walk.end = omega arith
+      some-cell (Walk.step n w) = omega arith
+
+      one-less : (a k w d e : ℕ) → (a % 2 + (d + e)) % 2 ≡ 0 → 2 * w + 1 ≡ k + d + e → k ≤ a → 1 ≤ k → (k ≤ a - 1) × ((k + (a - 1)) % 2 ≡ 0)
+      one-less a k w d e h i j g = omega arith
+
+-- ---- the theorem
+
+abbrev Bounds : Panel → Cell → Cell → ClassCount → Type 0
+Bounds p s t c = (l : List Cell) → Track p s t l → Fits l (c .count .0)
+
+-- terminals named so that s's x is not the larger
+decided-bound : (p : Panel) (s t : Cell) → s ≢ t → s .x ≤ t .x → Bounds p s t (decided p s t)
+unfolding decided
+decided-bound p s t ne h =
+    by-cond (Bounds p s t) (f1 p s t) (λ e l r. omega (arith, f1-bound p s t ne r h e))
+    (λ _. by-cond (Bounds p s t) (f2 p s t) (λ e l r. omega (arith, f2-bound p s t ne r e))
+    (λ _. by-cond (Bounds p s t) (c2 p s t) (λ e l r. omega (arith, c2-bound p s t ne r e))
+    (λ e. by-cond (Bounds p s t) (c0 p s t) (λ f l r. omega (arith, c0-bound p s t ne r e f))
+    (λ f l r. omega (arith, c1-bound p s t ne r e f)))))
+
+named-bound : (p : Panel) (s t : Cell) → s ≢ t → Bounds p s t (named p s t)
+unfolding named
+named-bound p s t ne =
+    by-cond (Bounds p s t) (ltb (t .x) (s .x))
+    (λ e l r. let h : t .x < s .x = ltb-true _ _ e in omega (arith, decided-bound p t s (λ q. ne (sym q)) (omega arith) (reverse l) (backwards r), length-reverse l))
+    (λ e. decided-bound p s t ne (ltb-false _ _ e))
+
+count-bound : (p : Panel) (s t : Cell) → s ≢ t → Bounds p s t (classCount p s t)
+unfolding classCount
+count-bound p s t ne =
+    by-cond (Bounds p s t) (ltb (p .width) (p .height))
+    (λ e l r. omega (arith, named-bound (turned p) (turnedCell s) (turnedCell t) (λ q. ne (ap turnedCell q)) (map turnedCell l) (moved (turning p) r), length-map l turnedCell))
+    (λ e. named-bound p s t ne)
+
+-- every track between two different cells has at most the count's cells
+pub no-longer : (p : Panel) (s t : Cell) → s ≢ t → NoLonger p s t (count p s t)
+no-longer p s t ne l r = omega (arith, count-bound p s t ne l r)
+
+-- and as many as the count in parity: what it leaves out of the count is even
+pub same-parity : (p : Panel) (s t : Cell) → s ≢ t → (l : List Cell) → Track p s t l → (length l + count p s t) % 2 ≡ 0
+same-parity p s t ne l r = (count-bound p s t ne l r) .1

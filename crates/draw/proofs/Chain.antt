@@ -1,0 +1,187 @@
+-- A chain of legs: each on the panel, in rectangles that are apart, each starting beside the end of the one before. Its corner tracks, one after
+-- the other, are a track from its start to its end, and their cells add up. So a plan that is good shows that a track of its size exists.
+use Prim.Native.Nat.{ℕ, _+_, _≤_, _<_, min, max}
+use mathlib.Core.Path.{_≡_, refl, sym, ap, _∙_, subst}
+use mathlib.Core.Bool.{Bool, true, false, not}
+use mathlib.Core.List.{List, [], _∷_, _++_, append-nil}
+use native.Mathlib.Omega.{arith}
+use native.Mathlib.Nat.{add-assoc, add-comm}
+use lib.ListN.{length, length-append}
+use Rattle.grid.specs.declared.Panel.{Panel}
+use Rattle.grid.specs.declared.Cell.{Cell}
+use Rattle.grid.specs.Panel.{OnPanel, Neighbours}
+use Rattle.grid.specs.Track.{TrackIn, Track}
+use Rattle.grid.proofs.Facts.{beside-sym}
+use Rattle.grid.proofs.Track.{join, widen, backwards}
+use Rattle.corner.specs.Corner.{Inside, trackCount}
+use Rattle.draw.specs.declared.Leg.{Leg}
+use Rattle.draw.specs.declared.Plan.{Plan}
+use Rattle.draw.specs.Leg.{start, stop, legs, legCount, total, reversedLeg, reversedPlan}
+
+-- ---- a leg from s to t on the panel
+
+pub record LegFrom (p : Panel) (g : Leg) (s t : Cell) : Type 0 where
+  pub corner : OnPanel p (g .a)
+  pub opposite : OnPanel p (g .b)
+  pub target : Inside (g .a) (g .b) (g .t)
+  pub from : start g ≡ s
+  pub to : stop g ≡ t
+
+-- a rectangle with its corners on the panel lies on it
+pub inside-on : {p : Panel} {a b c : Cell} → OnPanel p a → OnPanel p b → Inside a b c → OnPanel p c
+inside-on p q i = record {
+  left = let h = i .left in omega (arith, p .left, q .left);
+  right = let h = i .right in omega (arith, p .right, q .right);
+  top = let h = i .top in omega (arith, p .top, q .top);
+  bottom = let h = i .bottom in omega (arith, p .bottom, q .bottom);
+}
+
+-- ---- two legs' rectangles on either side of a line between columns or rows
+
+pub data Sep (g h : Leg) : Type 0 where
+  on-left : (k : ℕ) → g .a .x ≤ k → g .b .x ≤ k → k < h .a .x → k < h .b .x → Sep g h
+  on-right : (k : ℕ) → k < g .a .x → k < g .b .x → h .a .x ≤ k → h .b .x ≤ k → Sep g h
+  above : (k : ℕ) → g .a .y ≤ k → g .b .y ≤ k → k < h .a .y → k < h .b .y → Sep g h
+  below : (k : ℕ) → k < g .a .y → k < g .b .y → h .a .y ≤ k → h .b .y ≤ k → Sep g h
+
+pub sep-sym : {g h : Leg} → Sep g h → Sep h g
+sep-sym (on-left k p q r s) = on-right k r s p q
+sep-sym (on-right k p q r s) = on-left k r s p q
+sep-sym (above k p q r s) = below k r s p q
+sep-sym (below k p q r s) = above k r s p q
+
+-- between two numbers, seen from a bound on both
+below-max : {a b c k : ℕ} → a ≤ k → b ≤ k → c ≤ max a b → c ≤ k
+below-max p q r = omega arith
+
+above-min : {a b c k : ℕ} → k < a → k < b → min a b ≤ c → k < c
+above-min p q r = omega arith
+
+cross : {c k : ℕ} → c ≤ k → k < c → ⊥
+cross p q = omega arith
+
+pub sep-apart : {g h : Leg} → Sep g h → (c : Cell) → Inside (g .a) (g .b) c → Inside (h .a) (h .b) c → ⊥
+sep-apart (on-left k p q r s) c i j = cross (below-max p q (i .right)) (above-min r s (j .left))
+sep-apart (on-right k p q r s) c i j = cross (below-max r s (j .right)) (above-min p q (i .left))
+sep-apart (above k p q r s) c i j = cross (below-max p q (i .bottom)) (above-min r s (j .top))
+sep-apart (below k p q r s) c i j = cross (below-max r s (j .bottom)) (above-min p q (i .top))
+
+pub data Each (P : Leg → Type 0) : List Leg → Type 0 where
+  none : Each P []
+  more : {g : Leg} {l : List Leg} → P g → Each P l → Each P (g ∷ l)
+
+-- ---- chains
+
+pub data Chain (p : Panel) : Cell → Cell → List Leg → Type 0 where
+  one : {s t : Cell} {g : Leg} → LegFrom p g s t → Chain p s t (g ∷ [])
+  more : {s u v t : Cell} {g : Leg} {l : List Leg} → LegFrom p g s u → Neighbours u v → Each (Sep g) l → Chain p v t l → Chain p s t (g ∷ l)
+
+-- the legs' tracks, one after the other
+pub data Drawn : List Leg → List Cell → Type 0 where
+  none : Drawn [] []
+  more : {g : Leg} {l : List Leg} {c d : List Cell} → TrackIn (Inside (g .a) (g .b)) (start g) (stop g) c → Drawn l d → Drawn (g ∷ l) (c ++ d)
+
+-- a cell of some leg's rectangle
+data Among : List Leg → Cell → Type 0 where
+  here : {g : Leg} {l : List Leg} {c : Cell} → Inside (g .a) (g .b) c → Among (g ∷ l) c
+  later : {g : Leg} {l : List Leg} {c : Cell} → Among l c → Among (g ∷ l) c
+
+sep-among : {g : Leg} {l : List Leg} {c : Cell} → Each (Sep g) l → Inside (g .a) (g .b) c → Among l c → ⊥
+sep-among (Each.more s e) i (Among.here j) = sep-apart s _ i j
+sep-among (Each.more s e) i (Among.later m) = sep-among e i m
+
+among-on : {p : Panel} {s t c : Cell} {l : List Leg} → Chain p s t l → Among l c → OnPanel p c
+among-on (Chain.one f) (Among.here i) = inside-on (f .corner) (f .opposite) i
+among-on (Chain.one f) (Among.later m) = elim m [ ]
+among-on (Chain.more f n e r) (Among.here i) = inside-on (f .corner) (f .opposite) i
+among-on (Chain.more f n e r) (Among.later m) = among-on r m
+
+-- a leg's track with its ends named
+renamed : {p : Panel} {g : Leg} {s t : Cell} {c : List Cell} → LegFrom p g s t → TrackIn (Inside (g .a) (g .b)) (start g) (stop g) c → TrackIn (Inside (g .a) (g .b)) s t c
+renamed {g = g} {s = s} {c = c} f r = subst (λ (u : Cell). TrackIn (Inside (g .a) (g .b)) s u c) (f .to) (subst (λ (u : Cell). TrackIn (Inside (g .a) (g .b)) u (stop g) c) (f .from) r)
+
+among-track : {p : Panel} {s t : Cell} {l : List Leg} {c : List Cell} → Chain p s t l → Drawn l c → TrackIn (Among l) s t c
+among-track {s = s} {t = t} (Chain.one {g = g} f) (Drawn.more {c = c} r Drawn.none) =
+    subst (λ (k : List Cell). TrackIn (Among (g ∷ [])) s t k) (sym (append-nil c)) (widen (λ d i. Among.here i) (renamed f r))
+among-track (Chain.more f n e h) (Drawn.more r d) =
+    join (λ c i. Among.here i) (λ c m. Among.later m) (λ c i m. sep-among e i m) (renamed f r) n (among-track h d)
+
+-- the tracks of a chain's legs make one track on the panel
+pub chain-track : {p : Panel} {s t : Cell} {l : List Leg} {c : List Cell} → Chain p s t l → Drawn l c → Track p s t c
+chain-track h d = widen (λ c m. among-on h m) (among-track h d)
+
+-- ---- a plan of k cells from s to t
+
+pub record Plans (p : Panel) (s t : Cell) (k : ℕ) (q : Plan) : Type 0 where
+  pub chain : Chain p s t (legs q)
+  pub size : total (legs q) ≡ k
+
+-- ---- a chain walked the other way
+
+revLegs : List Leg → List Leg
+revLegs [] = []
+revLegs (g ∷ l) = revLegs l ++ (reversedLeg g ∷ [])
+
+each-append : {P : Leg → Type 0} {l k : List Leg} → Each P l → Each P k → Each P (l ++ k)
+each-append Each.none b = b
+each-append (Each.more p a) b = Each.more p (each-append a b)
+
+chain-end : {p : Panel} {s u v t : Cell} {g : Leg} {l : List Leg} → Chain p s u l → Neighbours u v → Each (λ h. Sep h g) l → LegFrom p g v t → Chain p s t (l ++ (g ∷ []))
+chain-end (Chain.one f) n (Each.more s Each.none) h = Chain.more f n (Each.more s Each.none) (Chain.one h)
+chain-end (Chain.more f m e r) n (Each.more s a) h = Chain.more f m (each-append e (Each.more s Each.none)) (chain-end r n a h)
+
+rev-start : (g : Leg) → start (reversedLeg g) ≡ stop g
+rev-start g = go (g .back)
+  where
+    go : (b : Bool) → start (reversedLeg (record { a = g .a; b = g .b; t = g .t; back = b })) ≡ stop (record { a = g .a; b = g .b; t = g .t; back = b })
+    go true = refl
+    go false = refl
+
+rev-stop : (g : Leg) → stop (reversedLeg g) ≡ start g
+rev-stop g = go (g .back)
+  where
+    go : (b : Bool) → stop (reversedLeg (record { a = g .a; b = g .b; t = g .t; back = b })) ≡ start (record { a = g .a; b = g .b; t = g .t; back = b })
+    go true = refl
+    go false = refl
+
+leg-back : {p : Panel} {g : Leg} {s t : Cell} → LegFrom p g s t → LegFrom p (reversedLeg g) t s
+leg-back {g = g} f = record { corner = f .corner; opposite = f .opposite; target = f .target; from = rev-start g ∙ f .to; to = rev-stop g ∙ f .from }
+
+sep-back : {g h : Leg} → Sep g h → Sep (reversedLeg h) (reversedLeg g)
+sep-back (on-left k p q r s) = on-right k r s p q
+sep-back (on-right k p q r s) = on-left k r s p q
+sep-back (above k p q r s) = below k r s p q
+sep-back (below k p q r s) = above k r s p q
+
+each-back : {g : Leg} {l : List Leg} → Each (Sep g) l → Each (λ h. Sep h (reversedLeg g)) (revLegs l)
+unfolding revLegs
+each-back Each.none = Each.none
+each-back (Each.more s e) = each-append (each-back e) (Each.more (sep-back s) Each.none)
+
+chain-back : {p : Panel} {s t : Cell} {l : List Leg} → Chain p s t l → Chain p t s (revLegs l)
+unfolding revLegs
+chain-back (Chain.one f) = Chain.one (leg-back f)
+chain-back (Chain.more f n e r) = chain-end (chain-back r) (beside-sym n) (each-back e) (leg-back f)
+
+rev-plan : (q : Plan) → legs (reversedPlan q) ≡ revLegs (legs q)
+unfolding revLegs
+rev-plan (Plan.One g) = refl
+rev-plan (Plan.Two g h) = refl
+rev-plan (Plan.Three g h i) = refl
+rev-plan (Plan.Five g h i j k) = refl
+
+total-append : (l k : List Leg) → total (l ++ k) ≡ total l + total k
+total-append [] k = let z : total k ≡ 0 + total k = omega arith in z
+total-append (g ∷ l) k = ap (λ (n : ℕ). legCount g + n) (total-append l k) ∙ sym (add-assoc (legCount g) (total l) (total k))
+
+total-rev : (l : List Leg) → total (revLegs l) ≡ total l
+unfolding revLegs
+total-rev [] = refl
+total-rev (g ∷ l) = total-append (revLegs l) (reversedLeg g ∷ []) ∙ (let h = total-rev l in omega arith)
+
+-- the plan exchanged: from t to s
+pub exchanged : {p : Panel} {s t : Cell} {k : ℕ} {q : Plan} → Plans p s t k q → Plans p t s k (reversedPlan q)
+exchanged {p} {s} {t} {k} {q} h = record {
+  chain = subst (λ (l : List Leg). Chain p t s l) (sym (rev-plan q)) (chain-back (h .chain));
+  size = ap total (rev-plan q) ∙ total-rev (legs q) ∙ h .size;
+}

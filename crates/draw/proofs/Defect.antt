@@ -1,0 +1,133 @@
+-- The counts of plans in blocks. A block of even area loses a cell where the track's ends have one colour, a block of odd area where
+-- they have two; what the whole panel loses (`defect`) is put in the same terms, and is the same for the panel turned, mirrored, and exchanged.
+use Prim.Native.Nat.{ℕ, _+_, _-_, _*_, _≤_, _<_, _%_}
+use mathlib.Core.Path.{_≡_, refl, sym, ap, _∙_}
+use mathlib.Core.Logic.{⊎-elim}
+use mathlib.Core.Bool.{Bool, true, false, cond, not, _&&_, Bool·beq}
+use native.Mathlib.Omega.{arith}
+use native.Mathlib.Nat.{add-comm, mul-comm, mul-le-mul}
+use lib.Dec.{eqb}
+use borrow.Author.Tests.{eqb-true}
+use Rattle.grid.specs.declared.Panel.{Panel}
+use Rattle.grid.specs.declared.Cell.{Cell}
+use Rattle.grid.specs.Panel.{black, dist, turnedCell}
+use Rattle.corner.specs.Corner.{cornerCount, trackCount}
+use Rattle.count.specs.Count.{odd, area, f1, f2, f3, decided}
+use Rattle.draw.specs.Leg.{mirrorX, mirrorY}
+use Rattle.draw.specs.Plan.{differ}
+use Rattle.draw.proofs.Cases.{less?}
+use Rattle.draw.proofs.Decided.{decided-odd, decided-even, not-f1, not-f2}
+use Rattle.draw.proofs.Size.{count-block, block-loss}
+use Rattle.draw.proofs.Parity.{two, three, four, same, bit, mod-bit, odd-sum, odd-product, odd-rest, odd-dist, colour}
+
+-- ---- a block
+
+-- whether a block of w by h loses a cell, its ends having two colours or not
+abbrev pub loss : Bool → Bool → Bool → Bool
+loss w h d = differ (w && h) (not d)
+
+loss-odd : (w h d : ℕ) → odd (w * h + d + 1) ≡ loss (odd w) (odd h) (odd d)
+loss-odd w h d =
+    odd-sum (w * h + d) 1 ∙ ap (λ (z : Bool). differ z true) (odd-sum (w * h) d ∙ ap (λ (z : Bool). differ z (odd d)) (odd-product w h))
+    ∙ same _ _ (two (λ a b. Bool·beq (differ (differ a b) true) (differ a (not b))) refl (odd w && odd h) (odd d))
+
+pub distance-odd : (a t : Cell) → odd (dist (a .x) (t .x) + dist (a .y) (t .y)) ≡ differ (black a) (black t)
+distance-odd a t =
+    odd-sum (dist (a .x) (t .x)) (dist (a .y) (t .y)) ∙ (λ i. differ (odd-dist (a .x) (t .x) i) (odd-dist (a .y) (t .y) i))
+    ∙ same _ _ (four (λ a b c d. Bool·beq (differ (differ a b) (differ c d)) (differ (differ a c) (differ b d))) refl (odd (a .x)) (odd (t .x)) (odd (a .y)) (odd (t .y)))
+    ∙ (λ i. differ (sym (colour a) i) (sym (colour t) i))
+
+dist-pos : (a b c d : ℕ) → (a ≡ b → c ≡ d → ⊥) → 0 < dist a b + dist c d
+unfolding dist
+dist-pos a b c d h = ⊎-elim (λ z. z) (λ z. absurd (h (omega arith) (omega arith))) (less? 0 (dist a b + dist c d))
+
+area-some : (w h : ℕ) → 2 ≤ w → 2 ≤ h → 4 ≤ w * h
+area-some w h p q = mul-le-mul p q
+
+-- a corner track in a block, its target not its corner
+pub block-size : (a b t : Cell) (w h : ℕ) → dist (a .x) (b .x) + 1 ≡ w → dist (a .y) (b .y) + 1 ≡ h → 2 ≤ w → 2 ≤ h → (a .x ≡ t .x → a .y ≡ t .y → ⊥) → trackCount a b t + bit (loss (odd w) (odd h) (differ (black a) (black t))) ≡ w * h
+unfolding trackCount
+block-size a b t w h e f p q r =
+    let dx = dist (a .x) (t .x) in
+    let dy = dist (a .y) (t .y) in
+    let count = (λ i. cornerCount (e i) (f i) dx dy) ∙ count-block w h dx dy p q (dist-pos (a .x) (t .x) (a .y) (t .y) r) in
+    let lost = mod-bit (w * h + (dx + dy) + 1) ∙ ap bit (loss-odd w h (dx + dy) ∙ ap (λ (z : Bool). loss (odd w) (odd h) z) (distance-odd a t)) in
+    (λ i. count i + sym lost i) ∙ block-loss w h (dx + dy) (let z = area-some w h p q in omega arith)
+
+-- ---- the panel
+
+-- how many cells of m by n a longest track between cells of colours s and t leaves out
+abbrev pub defect : Bool → Bool → Bool → Bool → ℕ
+defect m n s t = cond (m && n) (bit s + bit t) (bit (not (differ s t)))
+
+pub record Fits (m n : ℕ) (s t : Cell) (k : ℕ) : Type 0 where
+  pub fits : k + defect (odd m) (odd n) (black s) (black t) ≡ m * n
+
+pub fits-exchanged : {m n : ℕ} {s t : Cell} {k : ℕ} → Fits m n s t k → Fits m n t s k
+fits-exchanged {m} {n} {s} {t} {k} h = record {
+  fits = ap (λ (z : ℕ). k + z) (eqb-true _ _ (four (λ m n s t. eqb (defect m n t s) (defect m n s t)) refl (odd m) (odd n) (black s) (black t))) ∙ h .fits;
+}
+
+pub black-turned : (c : Cell) → black (turnedCell c) ≡ black c
+black-turned c = ap odd (add-comm (c .y) (c .x))
+
+pub fits-turned : {m n : ℕ} {s t : Cell} {k : ℕ} → Fits m n s t k → Fits n m (turnedCell s) (turnedCell t) k
+fits-turned {m} {n} {s} {t} {k} h = record {
+  fits = (λ i. k + defect (odd n) (odd m) (black-turned s i) (black-turned t i))
+      ∙ ap (λ (z : ℕ). k + z) (eqb-true _ _ (four (λ m n s t. eqb (defect n m s t) (defect m n s t)) refl (odd m) (odd n) (black s) (black t)))
+      ∙ h .fits ∙ mul-comm m n;
+}
+
+-- a number counted from the other end
+odd-flipped : (m a b : ℕ) → a ≤ m → differ (odd (m + 1 - a)) (odd b) ≡ differ (not (odd m)) (differ (odd a) (odd b))
+odd-flipped m a b p =
+    ap (λ (z : Bool). differ z (odd b)) (odd-rest (m + 1 - a) a (m + 1) (omega arith) ∙ ap (λ (z : Bool). differ z (odd a)) (odd-sum m 1))
+    ∙ same _ _ (three (λ m a b. Bool·beq (differ (differ (differ m true) a) b) (differ (not m) (differ a b))) refl (odd m) (odd a) (odd b))
+
+pub black-mirrored : (m : ℕ) (c : Cell) → c .x ≤ m → black (mirrorX m c) ≡ differ (not (odd m)) (black c)
+black-mirrored m c p = colour (mirrorX m c) ∙ odd-flipped m (c .x) (c .y) p ∙ ap (λ (z : Bool). differ (not (odd m)) z) (sym (colour c))
+
+pub fits-mirrored : {m n : ℕ} {s t : Cell} {k : ℕ} → s .x ≤ m → t .x ≤ m → Fits m n s t k → Fits m n (mirrorX m s) (mirrorX m t) k
+fits-mirrored {m} {n} {s} {t} {k} p q h = record {
+  fits = (λ i. k + defect (odd m) (odd n) (black-mirrored m s p i) (black-mirrored m t q i))
+      ∙ ap (λ (z : ℕ). k + z) (eqb-true _ _ (four (λ m n s t. eqb (defect m n (differ (not m) s) (differ (not m) t)) (defect m n s t)) refl (odd m) (odd n) (black s) (black t)))
+      ∙ h .fits;
+}
+
+-- mirroring in y is mirroring in x between two turns
+pub fits-flipped : {m n : ℕ} {s t : Cell} {k : ℕ} → s .y ≤ n → t .y ≤ n → Fits m n s t k → Fits m n (mirrorY n s) (mirrorY n t) k
+fits-flipped p q h = fits-turned (fits-mirrored p q (fits-turned h))
+
+pub black-flipped : (n : ℕ) (c : Cell) → c .y ≤ n → black (mirrorY n c) ≡ differ (not (odd n)) (black c)
+black-flipped n c p = sym (black-turned (mirrorY n c)) ∙ black-mirrored n (turnedCell c) p ∙ ap (λ (z : Bool). differ (not (odd n)) z) (black-turned c)
+
+-- ---- document 01's count
+
+-- where the colours are equal
+same-colours : (a b : ℕ) → bit (not (differ (odd a) (odd b))) ≡ (a + b + 1) % 2
+same-colours a b =
+    sym (mod-bit (a + b + 1) ∙ ap bit (odd-sum (a + b) 1 ∙ ap (λ (z : Bool). differ z true) (odd-sum a b) ∙ same _ _ (two (λ a b. Bool·beq (differ (differ a b) true) (not (differ a b))) refl (odd a) (odd b))))
+
+pub fits-decided : (p : Panel) (s t : Cell) → 3 ≤ p .width → 3 ≤ p .height → f3 p s t ≡ false → Fits (p .width) (p .height) s t ((decided p s t) .count .0)
+fits-decided p s t wide high no3 = go (odd (area p)) refl
+  where
+    no1 : f1 p s t ≡ false
+    no1 = not-f1 p s t (λ e. omega arith)
+
+    no2 : f2 p s t ≡ false
+    no2 = not-f2 p s t (λ e. omega arith)
+
+    big : 4 ≤ area p
+    big = area-some (p .width) (p .height) (omega arith) (omega arith)
+
+    by-area : (k : ℕ) (b : Bool) → odd (area p) ≡ b → k + defect (odd (p .width)) (odd (p .height)) (black s) (black t) ≡ k + cond b (bit (black s) + bit (black t)) (bit (not (differ (black s) (black t))))
+    by-area k b e = ap (λ (z : Bool). k + cond z (bit (black s) + bit (black t)) (bit (not (differ (black s) (black t))))) (sym (odd-product (p .width) (p .height)) ∙ e)
+
+    go : (b : Bool) → odd (area p) ≡ b → Fits (p .width) (p .height) s t ((decided p s t) .count .0)
+    go true e = record {
+      fits = by-area _ true e ∙ (λ i. (decided p s t) .count .0 + (sym (mod-bit (s .x + s .y)) i + sym (mod-bit (t .x + t .y)) i))
+          ∙ decided-odd p s t no1 no2 (mod-bit (area p) ∙ ap bit e) no3 (omega (arith, big));
+    }
+    go false e = record {
+      fits = by-area _ false e ∙ ap (λ (z : ℕ). (decided p s t) .count .0 + z) (same-colours (s .x + s .y) (t .x + t .y)) ∙ decided-even p s t no1 no2 (mod-bit (area p) ∙ ap bit e) no3 (omega (arith, big));
+    }

@@ -1,0 +1,22 @@
+-- Coordinates of cells laid on the 3 by 3 panel, as the code computes them.
+use Prim.Native.Nat.{ℕ, _≤_}
+use mathlib.Core.Path.{_≡_, sym, ap, subst⁻¹}
+use mathlib.Core.Bool.{Bool, true, false, cond}
+use native.Mathlib.Omega.{arith}
+use Rattle.grid.specs.declared.Cell.{Cell}
+use Rattle.grid.specs.Panel.{turnedCell}
+use Rattle.draw.specs.declared.Placing.{Placing}
+use Rattle.draw.specs.Table.{flip, flipCell, place}
+
+pub at-x : (p : Placing) (c : Cell) (b : Bool) → p .turn ≡ b → flip (p .across) ((cond b (turnedCell c) c) .x) ≡ (place p c) .x
+at-x p c b e = ap (λ (k : Bool). flip (p .across) ((cond k (turnedCell c) c) .x)) (sym e)
+
+pub at-y : (p : Placing) (c : Cell) (b : Bool) → p .turn ≡ b → flip (p .down) ((cond b (turnedCell c) c) .y) ≡ (place p c) .y
+at-y p c b e = ap (λ (k : Bool). flip (p .down) ((cond k (turnedCell c) c) .y)) (sym e)
+
+flip-small : (on : Bool) (a : ℕ) → a ≤ 4 → flip on a ≤ 4
+flip-small true a h = omega arith
+flip-small false a h = h
+
+pub flip-cell-small : {v : Cell} (x y : Bool) (b : Cell) → v ≡ flipCell x y b → b .x ≤ 4 → b .y ≤ 4 → (v .x ≤ 4) × (v .y ≤ 4)
+flip-cell-small x y b e h k = subst⁻¹ (λ (v : Cell). (v .x ≤ 4) × (v .y ≤ 4)) e (flip-small x (b .x) h, flip-small y (b .y) k)

@@ -1,0 +1,30 @@
+-- Theorem 4.1 of document 000, apart from any code: between two different cells of a panel a track with exactly the count's cells exists, and
+-- no track has more.
+use mathlib.Core.Path.{_≡_}
+use mathlib.Core.Logic.{_≢_}
+use mathlib.Core.List.{List}
+use lib.ListN.{length}
+use Rattle.grid.specs.declared.Panel.{Panel}
+use Rattle.grid.specs.declared.Cell.{Cell}
+use Rattle.grid.specs.Panel.{OnPanel}
+use Rattle.grid.specs.Track.{Track}
+use Rattle.count.specs.Count.{count}
+use Rattle.count.specs.Longest.{NoLonger}
+use Rattle.count.proofs.AtMost.{no-longer}
+use Rattle.draw.proofs.Wide.{plan-good}
+use Rattle.draw.proofs.Exists.{plan-track}
+
+pub reached : (p : Panel) (s t : Cell) → OnPanel p s → OnPanel p t → s ≢ t → (l : List Cell) × (Track p s t l × (length l ≡ count p s t))
+reached p s t os ot d = plan-track (plan-good p s t os ot d)
+
+-- the longest tracks from s to t have count p s t cells
+pub record Longest (p : Panel) (s t : Cell) : Type 0 where
+  pub cells : List Cell
+  pub track : Track p s t cells
+  pub size : length cells ≡ count p s t
+  pub none-longer : NoLonger p s t (count p s t)
+
+pub theorem-4-1 : (p : Panel) (s t : Cell) → OnPanel p s → OnPanel p t → s ≢ t → Longest p s t
+theorem-4-1 p s t os ot d =
+    let r = reached p s t os ot d in
+    record { cells = r .0; track = r .1 .0; size = r .1 .1; none-longer = no-longer p s t d }

@@ -1,0 +1,21 @@
+use borrow.Author.Needs.{needs}
+use Rattle.draw.proofs.choice.from_corner.Statement.{statement}
+use Rattle.draw.proofs.choice.from_corner.Tie as tie
+
+add-less : tie.Need-add-less
+add-less c = search needs
+
+less-requires : tie.Need-less-requires
+less-requires c κs = search needs
+
+add-less-2 : tie.Need-add-less-2
+add-less-2 c = search needs
+
+less-requires-2 : tie.Need-less-requires-2
+less-requires-2 c κs = search needs
+
+returns : tie.Need-returns
+returns c = rw (c .before .less .ensures, c .less2 .ensures)
+
+pub from-corner-spec : {M : Type 1} → statement M
+from-corner-spec = tie.close (tie.spec add-less less-requires add-less-2 less-requires-2 returns)

@@ -1,0 +1,5 @@
+pub mod Leg
+pub mod Plan
+pub mod Motion
+pub mod Table
+pub mod Draw

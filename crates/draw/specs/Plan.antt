@@ -1,0 +1,160 @@
+-- Which plan is drawn, for m columns and n rows: the pure namesakes of the code's choosing functions. No promise of Draw rests on this file.
+use Prim.Native.Nat.{ℕ, _+_, _-_, _%_}
+use mathlib.Core.Bool.{Bool, true, false, cond, not, _&&_, _||_}
+use lib.Dec.{leb, ltb, eqb}
+use Rattle.grid.specs.declared.Cell.{Cell}
+use Rattle.grid.specs.Panel.{black, sameCell, turnedCell}
+use Rattle.count.specs.Count.{odd}
+use Rattle.draw.specs.declared.Leg.{Leg}
+use Rattle.draw.specs.declared.Plan.{Plan}
+use Rattle.draw.specs.declared.Plan.the-variants.{One, Two, Three, Five}
+use Rattle.draw.specs.Leg.{cell, forth, back, movedPlan, mirrorX, mirrorY, reversedPlan}
+
+-- ---- the plans
+
+-- two blocks, columns 1 to c and c + 1 to m, joined by the edge from (c, j) to (c + 1, j), j being row 1 or n
+unfoldable pub split : ℕ → ℕ → Cell → Cell → ℕ → ℕ → Plan
+split m n s t c j = Two (back (cell c j) (cell 1 (n + 1 - j)) s) (forth (cell (c + 1) j) (cell m (n + 1 - j)) t)
+
+-- the rows from 3 on split after column c, joined by rows 1 and 2
+unfoldable pub bridge : ℕ → ℕ → Cell → Cell → ℕ → Plan
+bridge m n s t c = Three (back (cell 1 3) (cell c n) s) (forth (cell 1 2) (cell m 1) (cell m 2)) (forth (cell m 3) (cell (c + 1) n) t)
+
+-- once around t, the right neighbour of s
+unfoldable pub wrap : ℕ → ℕ → Cell → Cell → Plan
+wrap m n s t =
+    Five
+    (forth s (cell 1 1) (cell (s .x) 1))
+    (forth (cell (s .x + 1) 1) (cell m (s .y - 1)) (cell m (s .y - 1)))
+    (forth (cell m (s .y)) (cell (s .x + 2) n) (cell (s .x + 2) (s .y + 2)))
+    (back (cell (s .x + 1) (s .y + 1)) (cell 1 n) (cell (s .x + 1) (s .y + 2)))
+    (forth t t t)
+
+-- three rows: the columns from x to far, entered in row r and left in row q
+unfoldable pub round : ℕ → ℕ → ℕ → ℕ → Leg
+round x far r q = cond (eqb r 2) (back (cell x q) (cell far (4 - q)) (cell x r)) (forth (cell x r) (cell far (4 - r)) (cell x q))
+
+-- three rows, all different: along s's row, around on the right, back in the row r, around on the left, along t's row
+unfoldable pub ess : ℕ → Cell → Cell → ℕ → Plan
+ess m s t r =
+    Five
+    (forth s (cell (t .x) (s .y)) (cell (t .x) (s .y)))
+    (round (t .x + 1) m (s .y) r)
+    (forth (cell (t .x) r) (cell (s .x) r) (cell (s .x) r))
+    (round (s .x - 1) 1 r (t .y))
+    (forth (cell (s .x) (t .y)) t t)
+
+-- three rows: two blocks joined in row 2
+unfoldable pub middle : ℕ → Cell → Cell → Plan
+middle m s t = Two (forth s (cell 1 (4 - s .y)) (cell (s .x) 2)) (back t (cell m (4 - t .y)) (cell (t .x) 2))
+
+-- ---- the tests
+
+abbrev pub differ : Bool → Bool → Bool
+differ a b = cond a (not b) b
+
+-- m even, s black, t white, s being the left one
+abbrev pub critical : ℕ → Cell → Cell → Bool
+critical m s t = not (odd m) && (black s && not (black t))
+
+-- the edge from (c, j) to (c + 1, j) leaves both terminals out
+abbrev pub free : ℕ → ℕ → Cell → Cell → Bool
+free c j s t = not (sameCell (cell c j) s) && not (sameCell (cell (c + 1) j) t)
+
+-- further apart in rows than in columns, s not right of t
+abbrev pub steep : Cell → Cell → Bool
+steep s t = cond (ltb (t .x + s .y) (s .x + t .y)) true (ltb (t .x + t .y) (s .x + s .y))
+
+abbrev pub corner : ℕ → ℕ → Cell → Bool
+corner m n c = (eqb (c .x) 1 || eqb (c .x) m) && (eqb (c .y) 1 || eqb (c .y) n)
+
+-- ---- which plan
+
+unfoldable pub twoRows : ℕ → Cell → Cell → Plan
+twoRows m s t =
+    cond (eqb (s .y) (t .y)) (split m 2 s t (s .x) (3 - s .y))
+    (cond (ltb (s .x + 1) (t .x)) (split m 2 s t (s .x) (3 - s .y))
+    (cond (ltb m (s .x + t .x)) (One (back t (cell 1 (3 - t .y)) s))
+    (One (forth s (cell m (3 - s .y)) t))))
+
+-- the third of the rows 1, 2 and 3
+abbrev pub third : Cell → Cell → ℕ
+third s t = 6 - (s .y + t .y)
+
+unfoldable pub threeRowsApart : ℕ → Cell → Cell → Plan
+threeRowsApart m s t = cond (steep s t) (ess m s t (third s t)) (split m 3 s t (s .x) (cond (free (s .x) 1 s t) 1 3))
+
+unfoldable pub threeRows : ℕ → Cell → Cell → Plan
+threeRows m s t =
+    cond (critical m s t)
+    (cond (eqb (s .x) (t .x)) (movedPlan (mirrorX m) (ess m (mirrorX m s) (mirrorX m t) (third s t)))
+    (cond (not (odd (s .x)) && eqb (s .x + 1) (t .x)) (middle m s t)
+    (threeRowsApart m s t)))
+    (threeRowsApart m s t)
+
+unfoldable pub wrapped : ℕ → ℕ → Cell → Cell → Plan
+wrapped m n s t =
+    cond (cond (odd n) (eqb (s .y + 1) n) (odd (s .y)))
+    (movedPlan (mirrorY n) (wrap m n (mirrorY n s) (mirrorY n t)))
+    (wrap m n s t)
+
+-- the row that a split after column c crosses in
+unfoldable pub crossing : ℕ → Cell → Cell → ℕ → ℕ
+crossing n s t c =
+    cond (not (odd n) && differ (black s) (black t))
+    (cond (differ (black (cell c 1)) (black s)) 1 n)
+    (cond (free c 1 s t) 1 n)
+
+abbrev pub innerColumn : Cell → ℕ
+innerColumn s = cond (ltb (s .x) 2) 2 (s .x)
+
+unfoldable pub innerSplit : ℕ → ℕ → Cell → Cell → Plan
+innerSplit m n s t = split m n s t (innerColumn s) (crossing n s t (innerColumn s))
+
+-- s in column 1, t in column 2, t below s: split by rows, over the last column
+unfoldable pub edgeSplit : ℕ → ℕ → Cell → Cell → Plan
+edgeSplit m n s t = movedPlan turnedCell (split n m (turnedCell s) (turnedCell t) (s .y) m)
+
+unfoldable pub atEdge : ℕ → ℕ → Cell → Cell → Plan
+atEdge m n s t =
+    cond (eqb (s .y) (t .y)) (wrapped m n s t)
+    (cond (ltb (t .y) (s .y)) (movedPlan (mirrorY n) (edgeSplit m n (mirrorY n s) (mirrorY n t)))
+    (edgeSplit m n s t))
+
+-- m even, n odd, s black, t white
+unfoldable pub bridged : ℕ → ℕ → Cell → Cell → ℕ → Plan
+bridged m n s t c =
+    cond (leb 3 (s .y) && leb 3 (t .y)) (bridge m n s t c)
+    (cond (leb (s .y + 2) n && leb (t .y + 2) n) (movedPlan (mirrorY n) (bridge m n (mirrorY n s) (mirrorY n t) c))
+    (cond (ltb (s .y) (t .y)) (movedPlan turnedCell (innerSplit n m (turnedCell s) (turnedCell t)))
+    (reversedPlan (movedPlan turnedCell (innerSplit n m (turnedCell t) (turnedCell s))))))
+
+-- four rows or more, s left of t and no further from it in rows than in columns
+unfoldable pub fourRows : ℕ → ℕ → Cell → Cell → Plan
+fourRows m n s t =
+    cond (eqb (t .x) 2) (atEdge m n s t)
+    (cond (eqb (s .x + 1) m) (movedPlan (mirrorX m) (reversedPlan (atEdge m n (mirrorX m t) (mirrorX m s))))
+    (cond (odd n && critical m s t)
+    (cond (eqb (s .x + 1) (t .x) && odd (s .x)) (wrapped m n s t) (bridged m n s t (s .x + s .x % 2)))
+    (innerSplit m n s t)))
+
+-- the terminals named so that s is not right of t
+unfoldable pub orderedFour : ℕ → ℕ → Cell → Cell → Plan
+orderedFour m n s t = cond (ltb (t .x) (s .x)) (reversedPlan (fourRows m n t s)) (fourRows m n s t)
+
+-- m not less than n, s not right of t
+unfoldable pub wide : ℕ → ℕ → Cell → Cell → Plan
+wide m n s t =
+    cond (eqb n 1) (One (forth s t t))
+    (cond (eqb n 2) (twoRows m s t)
+    (cond (corner m n s) (One (forth s (cell (m + 1 - s .x) (n + 1 - s .y)) t))
+    (cond (corner m n t) (One (back t (cell (m + 1 - t .x) (n + 1 - t .y)) s))
+    (cond (eqb n 3) (threeRows m s t)
+    (cond (steep s t) (movedPlan turnedCell (orderedFour n m (turnedCell s) (turnedCell t)))
+    (fourRows m n s t))))))
+
+unfoldable pub orderedWide : ℕ → ℕ → Cell → Cell → Plan
+orderedWide m n s t = cond (ltb (t .x) (s .x)) (reversedPlan (wide m n t s)) (wide m n s t)
+
+unfoldable pub planOf : ℕ → ℕ → Cell → Cell → Plan
+planOf m n s t = cond (ltb m n) (movedPlan turnedCell (orderedWide n m (turnedCell s) (turnedCell t))) (orderedWide m n s t)

@@ -1,0 +1,127 @@
+// Draw: a longest track between two cells, as a plan of corner tracks.
+use choice::plan_of;
+use grid::{Cell, Cells, Check, Panel, Refusal};
+use legs::draw_plan;
+use small::draw_small;
+ghost use mathlib.Core.Path.{_≡_};
+ghost use mathlib.Core.Logic.{_≢_};
+ghost use Prim.Native.Nat.{_≤_, _*_};
+ghost use lib.ListN.{length};
+ghost use Rattle.grid.specs.Panel.{OnPanel};
+ghost use Rattle.grid.proofs.Facts.{Good};
+ghost use Rattle.corner.specs.Drawn.{Drawn};
+ghost use Rattle.count.specs.Count.{count};
+ghost use Rattle.draw.specs.Draw.{Draws, numberOf, countOf};
+
+mod choice;
+mod legs;
+mod motions;
+mod shapes;
+mod small;
+
+// A leg of a track: the corner track from the corner `a` of a rectangle to its cell `t`, `b` being
+// the opposite corner; walked from `t` to `a` where `back` is set.
+pub struct Leg {
+    pub a: Cell,
+    pub b: Cell,
+    pub t: Cell,
+    pub back: bool,
+}
+
+// A chain of legs in disjoint rectangles, each starting beside the end of the one before.
+pub enum Plan {
+    One(Leg),
+    Two(Leg, Leg),
+    Three(Leg, Leg, Leg),
+    Five(Leg, Leg, Leg, Leg, Leg),
+}
+
+// How a plan is moved: turned, or mirrored so that x, or y, becomes the number less it.
+pub enum Motion {
+    Turn,
+    MirrorX(u32),
+    MirrorY(u32),
+}
+
+// How a row of the 3 by 3 panel's table is laid for two terminals: turned, then mirrored in x
+// (`across`) and in y (`down`), and walked from its end where `back` is set.
+pub struct Placing {
+    pub row: usize,
+    pub turn: bool,
+    pub across: bool,
+    pub down: bool,
+    pub back: bool,
+}
+
+// What Draw answers.
+pub enum DrawAnswer {
+    Refused(Refusal),
+    Drawn(Cells),
+}
+
+// Draws by a plan.
+fn draw_planned(p: Panel, s: Cell, t: Cell, buf: &mut [u8])
+    requires { ⌜ Good p ⌝ }
+    requires { ⌜ OnPanel p s ⌝ }
+    requires { ⌜ OnPanel p t ⌝ }
+    requires { ⌜ s ≢ t ⌝ }
+    requires { ⌜ 2 * count p s t ≤ length (now buf) ⌝ }
+    ensures { λ _. ⌜ Drawn (OnPanel p) s t (count p s t) (now (buf .entry)) (now (buf .exit)) ⌝ }
+{
+    let plan = plan_of(p.width, p.height, s, t);
+    draw_plan(plan, buf);
+}
+
+// Draws a longest track between two different cells of a panel, where there is room for it.
+fn draw_longest(p: Panel, s: Cell, t: Cell, buf: &mut [u8])
+    requires { ⌜ Good p ⌝ }
+    requires { ⌜ OnPanel p s ⌝ }
+    requires { ⌜ OnPanel p t ⌝ }
+    requires { ⌜ s ≢ t ⌝ }
+    requires { ⌜ 2 * count p s t ≤ length (now buf) ⌝ }
+    ensures { λ _. ⌜ Drawn (OnPanel p) s t (count p s t) (now (buf .entry)) (now (buf .exit)) ⌝ }
+{
+    if p.width == 3 {
+        if p.height == 3 {
+            draw_small(s, t, buf);
+            return;
+        }
+    }
+    draw_planned(p, s, t, buf);
+}
+
+// The call.
+pub fn draw(p: Panel, entry: Cell, exit: Cell, buf: &mut [u8]) -> DrawAnswer
+    ensures { λ r. ⌜ Draws p entry exit (now (buf .entry)) (now (buf .exit)) r ⌝ }
+{
+    let c = grid::check_order(p, entry, exit);
+    if let Check::Refused(r) = c {
+        return DrawAnswer::Refused(r);
+    }
+    let found = bound::class_count(p, entry, exit);
+    let cells = found.count;
+    if buf.len() < 2 * (cells.0 as usize) {
+        return DrawAnswer::Refused(Refusal::ShortBuffer);
+    }
+    draw_longest(p, entry, exit, buf);
+    DrawAnswer::Drawn(cells)
+}
+
+// An answer's number, 0 where nothing is refused, and its count, 0 where refused.
+pub fn number_of(a: DrawAnswer) -> u32
+    ensures { λ r. ⌜ r ≡ numberOf a ⌝ }
+{
+    match a {
+        DrawAnswer::Refused(r) => grid::number_of(r),
+        DrawAnswer::Drawn(_) => 0,
+    }
+}
+
+pub fn count_of(a: DrawAnswer) -> Cells
+    ensures { λ r. ⌜ r .0 ≡ countOf a ⌝ }
+{
+    match a {
+        DrawAnswer::Refused(_) => Cells(0),
+        DrawAnswer::Drawn(cells) => cells,
+    }
+}
