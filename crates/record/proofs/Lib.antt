@@ -1,0 +1,5 @@
+pub mod Laws
+pub mod Lists
+pub mod Checks
+pub mod Directions
+pub mod Records

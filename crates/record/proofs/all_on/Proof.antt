@@ -1,0 +1,79 @@
+-- The invariant: the cells from i on decide the test of the whole list.
+use borrow.Author.Needs.{needs}
+use borrow.Author.Tests.{not-true, not-false}
+use Prim.Native.Nat.{_-_, _≤_}
+use mathlib.Core.Path.{_≡_, refl, sym, ap, _∙_}
+use native.Mathlib.Omega.{arith}
+use lib.ListN.{length, drop}
+use denote.Ref.{now}
+use Rattle.grid.specs.Panel.{onPanel}
+use Rattle.grid.specs.Bytes.{cellsIn}
+use Rattle.record.specs.Write.{allOn}
+use Rattle.record.proofs.Laws.{stops, goes-on}
+use Rattle.record.proofs.Lists.{cells-more, cells-end}
+use Rattle.record.proofs.all_on.Statement.{statement}
+use Rattle.record.proofs.all_on.Tie as tie
+
+abbrev Inv-loop : tie.InvT-loop
+Inv-loop p list i₀ i = (i ≤ length list) × (allOn p (cellsIn list) ≡ allOn p (cellsIn (drop i list)))
+
+abbrev μ-loop : tie.MeasureT-loop
+μ-loop p list i₀ i = length list - i
+
+loop-holds : tie.Need-loop-holds Inv-loop μ-loop
+loop-holds c = (omega arith, refl)
+
+add-loop : tie.Need-add-loop Inv-loop μ-loop
+add-loop c = omega arith
+
+cell-at-requires : tie.Need-cell-at-requires Inv-loop μ-loop
+cell-at-requires c κs = omega arith
+
+on-panel-requires : tie.Need-on-panel-requires Inv-loop μ-loop
+on-panel-requires c κs = search needs
+
+returns : tie.Need-returns Inv-loop μ-loop
+returns c =
+    let at-test = c .before .before .before in
+    let at-loop = at-test .before in
+    let a = at-loop .before .before .args in
+    stops _ (at-loop .loop .inv .1) (ap (allOn (a .p)) (cells-more (now (a .list)) (at-loop .loop .i) (at-test .loop-test .taken)))
+    (ap (onPanel (a .p)) (sym (c .before .before .cell-at .ensures)) ∙ sym (c .before .on-panel .ensures) ∙ not-true _ (c .if1 .taken))
+
+add-i : tie.Need-add-i Inv-loop μ-loop
+add-i c = omega arith
+
+loop-less : tie.Need-loop-less Inv-loop μ-loop
+loop-less c = omega arith
+
+loop-again : tie.Need-loop-again Inv-loop μ-loop
+loop-again c =
+    let at-test = c .before .before .before in
+    let at-loop = at-test .before in
+    let a = at-loop .before .before .args in (
+      omega arith,
+      goes-on _ (at-loop .loop .inv .1) (ap (allOn (a .p)) (cells-more (now (a .list)) (at-loop .loop .i) (at-test .loop-test .taken)))
+          (ap (onPanel (a .p)) (sym (c .before .before .cell-at .ensures)) ∙ sym (c .before .on-panel .ensures) ∙ not-false _ (c .if1 .left)),
+    )
+
+returns-2 : tie.Need-returns-2 Inv-loop μ-loop
+returns-2 c =
+    let at-loop = c .before in
+    let a = at-loop .before .before .args in
+    sym (at-loop .loop .inv .1 ∙ ap (allOn (a .p)) (cells-end (now (a .list)) (at-loop .loop .i) (c .loop-test .left)))
+
+pub all-on-spec : {M : Type 1} → statement M
+all-on-spec =
+    tie.close
+    (tie.spec
+    Inv-loop
+    μ-loop
+    loop-holds
+    add-loop
+    cell-at-requires
+    on-panel-requires
+    returns
+    add-i
+    loop-less
+    loop-again
+    returns-2)

@@ -1,0 +1,3 @@
+pub mod Format
+pub mod Write
+pub mod Read

@@ -1,0 +1,329 @@
+// Tries Write, Read and Letters. A line `write` gives the refusal's number (0: none) and the bytes written; a line
+// `read` the number, the panel, the cells and the record's length; a line `letters` what Letters hands back; a
+// line `bytes` a buffer after a call.
+use grid::Panel;
+use libc::STDOUT_FILENO;
+ghost use Prim.Native.Nat.{_≤_, _<_, _+_};
+ghost use lib.ListN.{length};
+
+fn text(s: &[u8]) {
+    io::write_all(STDOUT_FILENO, s);
+}
+
+fn number(k: u32) {
+    io::print_decimal(STDOUT_FILENO, k as u64);
+}
+
+fn spaced(k: u32) {
+    text(b" ");
+    number(k);
+}
+
+fn end_line() {
+    text(b"\n");
+}
+
+fn wide(b: u8) -> u32 {
+    b as u32
+}
+
+fn show_bytes(s: &[u8]) {
+    text(b"bytes");
+    let mut i = 0;
+    while i < s.len() {
+        spaced(wide(s[i]));
+        i += 1;
+    }
+    end_line();
+}
+
+fn show_write(m: u32, n: u32, list: &[u8], out: &mut [u8]) {
+    let p = Panel {
+        width: m,
+        height: n,
+    };
+    let w = record::write(p, list, out);
+    text(b"write");
+    spaced(record::write_number(w));
+    spaced(record::bytes_written(w));
+    end_line();
+}
+
+fn show_read(file: &[u8], list: &mut [u8]) {
+    let r = record::read(file, list);
+    let p = record::panel_given(r);
+    text(b"read");
+    spaced(record::read_number(r));
+    spaced(p.width);
+    spaced(p.height);
+    spaced(record::cells_given(r).0);
+    spaced(record::length_given(r));
+    end_line();
+}
+
+fn show_letters(file: &[u8]) {
+    text(b"letters ");
+    text(record::letters(file));
+    end_line();
+}
+
+// A record of the list, its letters, and the list again; the bytes behind both stay as they were.
+fn there_and_back(m: u32, n: u32, list: &[u8]) {
+    let mut out = [170u8; 20];
+    show_write(m, n, list, &mut out);
+    show_bytes(&out);
+    show_letters(&out);
+    let mut back = [85u8; 20];
+    show_read(&out, &mut back);
+    show_bytes(&back);
+}
+
+fn round_trips() {
+    text(b"round trips\n");
+    there_and_back(5, 1, &[2, 1, 3, 1, 4, 1]);
+    there_and_back(
+        3,
+        3,
+        &[3, 3, 3, 2, 3, 1, 2, 1, 2, 2, 2, 3, 1, 3, 1, 2, 1, 1],
+    );
+    // A list may revisit cells.
+    there_and_back(2, 2, &[1, 1, 1, 2, 1, 1, 2, 1]);
+}
+
+// A list that is not written: the buffer stays as it was.
+fn not_written(m: u32, n: u32, list: &[u8]) {
+    let mut out = [170u8; 10];
+    show_write(m, n, list, &mut out);
+    show_bytes(&out);
+}
+
+fn write_refusals() {
+    text(b"refusals of Write\n");
+    not_written(0, 5, &[1, 1, 1, 2]);
+    not_written(5, 129, &[1, 1, 1, 2]);
+    not_written(5, 4294967295, &[1, 1, 1, 2]);
+    not_written(2, 2, &[]);
+    not_written(2, 2, &[1, 1, 1]);
+    not_written(2, 2, &[1, 1, 1, 3]);
+    not_written(2, 2, &[0, 1, 1, 1]);
+    not_written(3, 2, &[1, 1, 3, 1]);
+    not_written(3, 2, &[1, 1, 2, 2]);
+    not_written(3, 2, &[1, 1, 1, 1]);
+    not_written(2, 2, &[1, 1]);
+    not_written(2, 1, &[1, 1, 2, 1, 1, 1]);
+    not_written(4, 1, &[1, 1, 2, 1, 3, 1, 4, 1]);
+    // Two faults: the one tested first.
+    not_written(2, 2, &[1, 1, 2, 2, 3, 3]);
+}
+
+// What Read and Letters say of a file.
+fn try_file(file: &[u8]) {
+    let mut list = [85u8; 8];
+    show_read(file, &mut list);
+    show_letters(file);
+}
+
+fn read_refusals() {
+    text(b"refusals of Read and Letters\n");
+    try_file(&[]);
+    try_file(&[0x46]);
+    try_file(&[0x46, 0x55, 5, 1, 2, 1, 0, 2, 0x45, 0x45]);
+    try_file(&[0x54, 0x46, 5, 1, 2, 1, 0, 2, 0x45, 0x45]);
+    try_file(&[0x46, 0x54, 5, 1, 2, 1, 0]);
+    try_file(&[0x46, 0x54, 0, 1, 2, 1, 0, 2, 0x45, 0x45]);
+    try_file(&[0x46, 0x54, 5, 129, 2, 1, 0, 2, 0x45, 0x45]);
+    try_file(&[0x46, 0x54, 5, 1, 6, 1, 0, 2, 0x45, 0x45]);
+    try_file(&[0x46, 0x54, 5, 1, 2, 0, 0, 2, 0x45, 0x45]);
+    try_file(&[0x46, 0x54, 5, 1, 2, 1, 0, 0, 0x45, 0x45]);
+    try_file(&[0x46, 0x54, 2, 1, 1, 1, 0, 2, 0x45, 0x57]);
+    try_file(&[0x46, 0x54, 5, 1, 2, 1, 1, 2, 0x45, 0x45]);
+    try_file(&[0x46, 0x54, 5, 1, 2, 1, 0, 2, 0x45]);
+    try_file(&[0x46, 0x54, 5, 1, 2, 1, 0, 2, 0x45, 0x58]);
+    try_file(&[0x46, 0x54, 5, 1, 2, 1, 0, 3, 0x4E, 0x45, 0x65]);
+    try_file(&[0x46, 0x54, 5, 1, 2, 1, 0, 2, 0x57, 0x57]);
+    try_file(&[0x46, 0x54, 5, 1, 2, 1, 0, 2, 0x4E, 0x53]);
+}
+
+// Reads into the first k bytes of a buffer.
+fn read_into(file: &[u8], list: &mut [u8], k: usize)
+    requires { ⌜ k ≤ length (now list) ⌝ }
+{
+    show_read(file, &mut list[0..k]);
+}
+
+fn read_short(file: &[u8], k: usize)
+    requires { ⌜ k ≤ 8 ⌝ }
+{
+    let mut list = [85u8; 8];
+    read_into(file, &mut list, k);
+    show_bytes(&list);
+}
+
+// A buffer that is empty, one that is a byte too short, and one just long enough; bytes after the record.
+fn buffers() {
+    text(b"buffers\n");
+    let file = [0x46, 0x54, 5, 1, 2, 1, 0, 2, 0x45, 0x45, 0x4E, 0x00];
+    read_short(&file, 0);
+    read_short(&file, 5);
+    read_short(&file, 6);
+    show_letters(&file);
+}
+
+// The number that Read gives for the first n bytes of a file.
+fn read_prefix(file: &[u8], n: usize)
+    requires { ⌜ n ≤ length (now file) ⌝ }
+{
+    let mut list = [85u8; 8];
+    number(record::read_number(record::read(&file[0..n], &mut list)));
+    text(b" ");
+}
+
+fn prefixes(file: &[u8]) {
+    text(b"prefixes\n");
+    let mut n = 0;
+    while n <= file.len() {
+        read_prefix(file, n);
+        n += 1;
+    }
+    end_line();
+}
+
+// One more, up to a number that no tally here comes near.
+fn one_more(k: u32) -> u32 {
+    if k < 1000000 { k + 1 } else { k }
+}
+
+// Reads a file, and counts its answer.
+fn count_answer(file: &[u8], tally: &mut [u32]) {
+    let mut list = [85u8; 20];
+    let k = record::read_number(record::read(file, &mut list)) as usize;
+    if k < tally.len() {
+        tally[k] = one_more(tally[k]);
+    }
+}
+
+// Reads a file with one byte changed, and counts its answer.
+fn try_value(file: &mut [u8], i: usize, v: u8, tally: &mut [u32])
+    requires { ⌜ i < length (now file) ⌝ }
+{
+    let old = file[i];
+    if v != old {
+        file[i] = v;
+        count_answer(file, tally);
+        file[i] = old;
+    }
+}
+
+fn try_values(file: &mut [u8], i: usize, tally: &mut [u32])
+    requires { ⌜ i < length (now file) ⌝ }
+{
+    let mut v: u32 = 0;
+    while v < 256 {
+        try_value(file, i, (v % 256) as u8, tally);
+        v += 1;
+    }
+}
+
+fn try_bytes(file: &mut [u8], tally: &mut [u32]) {
+    let mut i = 0;
+    while i < file.len() {
+        try_values(file, i, tally);
+        i += 1;
+    }
+}
+
+fn show_tally(tally: &[u32]) {
+    let mut i = 0;
+    while i < tally.len() {
+        number(tally[i]);
+        text(b" ");
+        i += 1;
+    }
+    end_line();
+}
+
+// Every byte of a record changed to every other value: how many of the files get the number 0, 1, and so on.
+fn changed_bytes() {
+    text(b"changed bytes\n");
+    let mut file = [
+        0x46,
+        0x54,
+        3,
+        3,
+        3,
+        3,
+        0,
+        8,
+        0x4E,
+        0x4E,
+        0x57,
+        0x53,
+        0x53,
+        0x57,
+        0x4E,
+        0x4E,
+    ];
+    let mut tally = [0u32; 18];
+    try_bytes(&mut file, &mut tally);
+    show_tally(&tally);
+}
+
+// Cell i of a track over 128 by 128, row by row, to and fro.
+fn column(i: usize) -> u8 {
+    let x = (i % 128) as u8;
+    if i / 128 % 2 == 0 { x + 1 } else { 128 - x }
+}
+
+fn row(i: usize) -> u8 {
+    (i / 128 % 128) as u8 + 1
+}
+
+fn put(list: &mut [u8], i: usize, x: u8, y: u8)
+    requires { ⌜ i + 1 < length (now list) ⌝ }
+{
+    list[i] = x;
+    list[i + 1] = y;
+}
+
+fn snake(list: &mut [u8]) {
+    let mut i = 0;
+    while i + 1 < list.len() {
+        put(list, i, column(i / 2), row(i / 2));
+        i += 2;
+    }
+}
+
+// Writes into the first k bytes of a buffer.
+fn write_into(list: &[u8], out: &mut [u8], k: usize)
+    requires { ⌜ k ≤ length (now out) ⌝ }
+{
+    show_write(128, 128, list, &mut out[0..k]);
+}
+
+// A track over the largest panel, there and back, and buffers a byte too short.
+fn largest() {
+    text(b"128 by 128\n");
+    let mut list = [0u8; 32768];
+    snake(&mut list);
+    let mut out = [170u8; 16391];
+    write_into(&list, &mut out, 16390);
+    write_into(&list, &mut out, 16391);
+    let mut back = [85u8; 32768];
+    read_into(&out, &mut back, 32767);
+    read_into(&out, &mut back, 32768);
+    if check::same(&list, &back) {
+        text(b"the same list\n");
+    } else {
+        text(b"another list\n");
+    }
+}
+
+fn main() {
+    round_trips();
+    write_refusals();
+    read_refusals();
+    buffers();
+    prefixes(&[0x46, 0x54, 5, 1, 2, 1, 0, 2, 0x45, 0x45]);
+    changed_bytes();
+    largest();
+}
