@@ -1,6 +1,14 @@
 // One order line in, the text that `foil` prints out, on slices.
+use bound::Bounded;
+use count::ClassCount;
 use grid::Cell;
 use grid::Panel;
+use grid::Refusal;
+use grid::steps_of;
+use record::HEAD;
+use write::put_answer;
+use write::put_refused;
+ghost use mathlib.Core.Path.{_≡_};
 
 mod read;
 mod write;
@@ -17,4 +25,51 @@ pub enum Number {
 pub enum Line {
     Other,
     Order(Panel, Cell, Cell),
+}
+
+// Bytes enough for the cells of any track, for its record, and for the text of any order.
+pub const CELLS: usize = 32768;
+pub const RECORD: usize = 16391;
+pub const TEXT: usize = 16512;
+
+fn cell_buffer() -> [u8; 32768] {
+    [0; 32768]
+}
+
+fn record_buffer() -> [u8; 16391] {
+    [0; 16391]
+}
+
+// The answer for a track, whose letters are taken from its record.
+fn put_track(p: Panel, found: ClassCount, list: &[u8], out: &mut [u8]) -> usize {
+    let mut file = record_buffer();
+    record::write(p, list, &mut file);
+    let steps = steps_of(found.count);
+    let end = HEAD + steps.0 as usize;
+    put_answer(found.class, found.count, &file[HEAD..end], out)
+}
+
+// The answer for a good order.
+fn answer_found(p: Panel, s: Cell, t: Cell, found: ClassCount, out: &mut [u8]) -> usize {
+    let mut cells = cell_buffer();
+    draw::draw(p, s, t, &mut cells);
+    let end = 2 * (found.count.0 as usize);
+    put_track(p, found, &cells[..end], out)
+}
+
+fn answer_order(p: Panel, s: Cell, t: Cell, out: &mut [u8]) -> usize {
+    let b = bound::bound(p, s, t);
+    match b {
+        Bounded::Refused(r) => put_refused(grid::number_of(r), out),
+        Bounded::Found(found) => answer_found(p, s, t, found, out),
+    }
+}
+
+// The text for an input, at the front of the buffer, and its number of bytes.
+pub fn answer(input: &[u8], out: &mut [u8; 16512]) -> usize {
+    let line = read_line(input);
+    match line {
+        Line::Other => put_refused(grid::number_of(Refusal::UnknownByte), out),
+        Line::Order(p, s, t) => answer_order(p, s, t, out),
+    }
 }
