@@ -42,9 +42,16 @@ abbrev pub ChosenFor : Line → List Cell → Type 0
 ChosenFor Other l = Unit {0}
 ChosenFor (Order p s t) l = Chosen (boundOf p s t) p s t l
 
--- the first k bytes of the buffer are the text of the input, and the bytes behind stay
-pub record Answers (input old new : List ℕ) (k : ℕ) : Type 0 where
+-- for some list of cells that is chosen so, its text is the first k bytes of the buffer, and the bytes behind stay
+pub record Printed (Choice : List Cell → Type 0) (text : List Cell → List ℕ) (old new : List ℕ) (k : ℕ) : Type 0 where
   pub track : List Cell
-  pub chosen : ChosenFor (lineIn input) track
-  pub bytes : new ≡ textOf (lineIn input) track ++ drop k old
-  pub size : k ≡ length (textOf (lineIn input) track)
+  pub chosen : Choice track
+  pub bytes : new ≡ text track ++ drop k old
+  pub size : k ≡ length (text track)
+
+-- the promise for an answer of Bound, and for every input
+abbrev pub AnswersBound : Bounded → Panel → Cell → Cell → List ℕ → List ℕ → ℕ → Type 0
+AnswersBound b p s t old new k = Printed (Chosen b p s t) (boundText b) old new k
+
+abbrev pub Answers : List ℕ → List ℕ → List ℕ → ℕ → Type 0
+Answers input old new k = Printed (ChosenFor (lineIn input)) (textOf (lineIn input)) old new k
