@@ -17,6 +17,7 @@ use Rattle.corner.specs.Corner.{Inside, trackCount}
 use Rattle.draw.specs.declared.Leg.{Leg}
 use Rattle.draw.specs.declared.Plan.{Plan}
 use Rattle.draw.specs.Leg.{start, stop, legs, legCount, total, reversedLeg, reversedPlan}
+pub use Rattle.draw.specs.Drawing.{Each, Drawn}
 
 -- ---- a leg from s to t on the panel
 
@@ -66,20 +67,11 @@ sep-apart (on-right k p q r s) c i j = cross (below-max r s (j .right)) (above-m
 sep-apart (above k p q r s) c i j = cross (below-max p q (i .bottom)) (above-min r s (j .top))
 sep-apart (below k p q r s) c i j = cross (below-max r s (j .bottom)) (above-min p q (i .top))
 
-pub data Each (P : Leg → Type 0) : List Leg → Type 0 where
-  none : Each P []
-  more : {g : Leg} {l : List Leg} → P g → Each P l → Each P (g ∷ l)
-
 -- ---- chains
 
 pub data Chain (p : Panel) : Cell → Cell → List Leg → Type 0 where
   one : {s t : Cell} {g : Leg} → LegFrom p g s t → Chain p s t (g ∷ [])
   more : {s u v t : Cell} {g : Leg} {l : List Leg} → LegFrom p g s u → Neighbours u v → Each (Sep g) l → Chain p v t l → Chain p s t (g ∷ l)
-
--- the legs' tracks, one after the other
-pub data Drawn : List Leg → List Cell → Type 0 where
-  none : Drawn [] []
-  more : {g : Leg} {l : List Leg} {c d : List Cell} → TrackIn (Inside (g .a) (g .b)) (start g) (stop g) c → Drawn l d → Drawn (g ∷ l) (c ++ d)
 
 -- a cell of some leg's rectangle
 data Among : List Leg → Cell → Type 0 where

@@ -2,6 +2,7 @@
 use Prim.Native.Nat.{ℕ, _+_, _-_, _*_, _≤_}
 use mathlib.Core.Path.{_≡_, refl, sym, ap, _∙_, subst}
 use mathlib.Core.Bool.{Bool, true, false, cond}
+use mathlib.Core.Logic.{_≢_}
 use mathlib.Core.List.{List, [], _∷_, _++_, append-nil, append-assoc}
 use native.Mathlib.Omega.{arith}
 use lib.ListN.{length, take, drop, length-append, length-drop}
@@ -15,32 +16,17 @@ use Rattle.grid.specs.Bytes.{bytes}
 use Rattle.grid.proofs.Facts.{Good}
 use Rattle.grid.proofs.Bytes.{bytes-append, length-bytes}
 use Rattle.corner.specs.Corner.{Inside, trackCount}
-use Rattle.corner.specs.Drawn.{Small, Ready} 
+use Rattle.corner.specs.Drawn.{Small, Ready}
 use Rattle.corner.specs.Drawn as corner
 use Rattle.corner.proofs.Drawn.{part-written, part-long}
 use Rattle.draw.specs.declared.Leg.{Leg}
 use Rattle.draw.specs.declared.Plan.{Plan}
 use Rattle.draw.specs.Leg.{start, stop, legs, legCount, total}
-use Rattle.draw.proofs.Chain.{LegFrom, Each, Chain, Drawn, Plans, chain-track}
-
--- a leg whose coordinates are bytes, with its target in its rectangle
-pub record Drawable (g : Leg) : Type 0 where
-  pub corner : Small (g .a)
-  pub opposite : Small (g .b)
-  pub inside : Inside (g .a) (g .b) (g .t)
-
--- legs to draw, and room for their cells
-pub record Room (l : List Leg) (buf : List ℕ) : Type 0 where
-  pub each : Each Drawable l
-  pub room : 2 * total l ≤ length buf
-
--- the r cells of the legs' tracks, one after the other, stand at the front of the buffer, which is the old one behind them
-pub record Written (l : List Leg) (r : ℕ) (old new : List ℕ) : Type 0 where
-  pub count : r ≡ total l
-  pub cells : List Cell
-  pub drawn : Drawn l cells
-  pub size : length cells ≡ r
-  pub content : new ≡ bytes cells ++ drop (2 * r) old
+use Rattle.count.specs.Count.{count}
+use Rattle.draw.specs.Plan.{planOf}
+use Rattle.draw.specs.Drawing.{Each, Drawn, Drawable, Room, Written}
+use Rattle.draw.proofs.Chain.{LegFrom, Chain, Plans, chain-track}
+use Rattle.draw.proofs.Wide.{plan-good}
 
 -- ---- one leg
 
@@ -120,27 +106,32 @@ module _ (l k : List Leg) {old : List ℕ} (room : Room (l ++ k) old) where
       where
         front-part : take (2 * r) mid ≡ bytes (w .cells)
         front-part = ap (take (2 * r)) (w .content) ∙ take-at (bytes (w .cells)) (drop (2 * r) old) (2 * r) bytes-size
+
         tail : drop (2 * r) mid ≡ drop (2 * r) old
         tail = ap (drop (2 * r)) (w .content) ∙ drop-at (bytes (w .cells)) (drop (2 * r) old) (2 * r) bytes-size
-        ahead : 2 * q + 2 * r ≡ 2 * r + 2 * q
-        ahead = omega arith
-        twice : 2 * q + 2 * r ≡ 2 * (r + q)
+
+        twice : 2 * r + 2 * q ≡ 2 * (r + q)
         twice = omega arith
+
         behind : drop (2 * r + 2 * q) mid ≡ drop (2 * (r + q)) old
-        behind = sym (drop-drop (2 * q) (2 * r) mid ∙ ap (λ (n : ℕ). drop n mid) ahead) ∙ ap (drop (2 * q)) tail ∙ drop-drop (2 * q) (2 * r) old ∙ ap (λ (n : ℕ). drop n old) twice
+        behind = sym (drop-drop (2 * q) (2 * r) mid) ∙ ap (drop (2 * q)) tail ∙ drop-drop (2 * q) (2 * r) old ∙ ap (λ (n : ℕ). drop n old) twice
 
 -- ---- a good plan
 
 -- a leg of a good panel is drawable
 leg-drawable : {p : Panel} {g : Leg} {s t : Cell} → Good p → LegFrom p g s t → Drawable g
-leg-drawable h f = record { corner = byte (f .corner); opposite = byte (f .opposite); inside = f .target }
+leg-drawable {p} h f = record { corner = byte (f .corner); opposite = byte (f .opposite); inside = f .target }
   where
-    byte : {c : Cell} → OnPanel _ c → Small c
+    byte : {c : Cell} → OnPanel p c → Small c
     byte o = record { across = let e = o .right in omega (arith, h .widest); down = let e = o .bottom in omega (arith, h .highest) }
 
 chain-drawable : {p : Panel} {s t : Cell} {l : List Leg} → Good p → Chain p s t l → Each Drawable l
 chain-drawable h (Chain.one f) = Each.more (leg-drawable h f) Each.none
 chain-drawable h (Chain.more f n e r) = Each.more (leg-drawable h f) (chain-drawable h r)
+
+-- the plan that the code chooses
+pub chosen : (p : Panel) (s t : Cell) {q : Plan} → OnPanel p s → OnPanel p t → s ≢ t → q ≡ planOf (p .width) (p .height) s t → Plans p s t (count p s t) q
+chosen p s t os ot d e = subst (λ (q : Plan). Plans p s t (count p s t) q) (sym e) (plan-good p s t os ot d)
 
 pub plan-room : {p : Panel} {s t : Cell} {k : ℕ} {q : Plan} {buf : List ℕ} → Good p → Plans p s t k q → 2 * k ≤ length buf → Room (legs q) buf
 plan-room h g r = record { each = chain-drawable h (g .chain); room = omega (arith, g .size) }
@@ -149,3 +140,10 @@ pub plan-drawn : {p : Panel} {s t : Cell} {k r : ℕ} {q : Plan} {old new : List
 plan-drawn {old = old} g w =
     let e = w .count ∙ g .size in
     record { cells = w .cells; size = w .size ∙ e; track = chain-track (g .chain) (w .drawn); written = w .content ∙ ap (λ (n : ℕ). bytes (w .cells) ++ drop (2 * n) old) e }
+
+-- a plan by its variant
+pub room-of : {p q : Plan} {buf : List ℕ} → p ≡ q → Room (legs p) buf → Room (legs q) buf
+room-of {buf = buf} e r = subst (λ (k : Plan). Room (legs k) buf) e r
+
+pub written-of : {p q : Plan} {r : ℕ} {old new : List ℕ} → p ≡ q → Written (legs q) r old new → Written (legs p) r old new
+written-of {r = r} {old = old} {new = new} e w = subst (λ (k : Plan). Written (legs k) r old new) (sym e) w

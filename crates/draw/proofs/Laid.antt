@@ -1,12 +1,12 @@
 -- Coordinates of cells laid on the 3 by 3 panel, as the code computes them.
-use Prim.Native.Nat.{ℕ, _≤_}
-use mathlib.Core.Path.{_≡_, sym, ap, subst⁻¹}
+use Prim.Native.Nat.{ℕ, _≤_, _<_}
+use mathlib.Core.Path.{_≡_, sym, ap, _∙_, subst⁻¹}
 use mathlib.Core.Bool.{Bool, true, false, cond}
 use native.Mathlib.Omega.{arith}
 use Rattle.grid.specs.declared.Cell.{Cell}
 use Rattle.grid.specs.Panel.{turnedCell}
 use Rattle.draw.specs.declared.Placing.{Placing}
-use Rattle.draw.specs.Table.{flip, flipCell, place}
+use Rattle.draw.specs.Table.{flip, flipCell, place, rowCell, rowSize, position, placedCell}
 
 pub at-x : (p : Placing) (c : Cell) (b : Bool) → p .turn ≡ b → flip (p .across) ((cond b (turnedCell c) c) .x) ≡ (place p c) .x
 at-x p c b e = ap (λ (k : Bool). flip (p .across) ((cond k (turnedCell c) c) .x)) (sym e)
@@ -20,3 +20,12 @@ flip-small false a h = h
 
 pub flip-cell-small : {v : Cell} (x y : Bool) (b : Cell) → v ≡ flipCell x y b → b .x ≤ 4 → b .y ≤ 4 → (v .x ≤ 4) × (v .y ≤ 4)
 flip-cell-small x y b e h k = subst⁻¹ (λ (v : Cell). (v .x ≤ 4) × (v .y ≤ 4)) e (flip-small x (b .x) h, flip-small y (b .y) k)
+
+-- ---- the cells of a row in the order in which they are written
+
+pub in-row : {j : ℕ} (back : Bool) (n i : ℕ) → j ≡ position back n i → i < n → n ≤ 9 → j < 9
+in-row true n i e h k = omega arith
+in-row false n i e h k = omega arith
+
+pub placed-at : (h : Cell → ℕ) (p : Placing) {u j n : ℕ} (i : ℕ) → u ≡ h (place p (rowCell (p .row) j)) → j ≡ position (p .back) n i → n ≡ rowSize (p .row) → u ≡ h (placedCell p i)
+placed-at h p i e f g = e ∙ ap (λ (j : ℕ). h (place p (rowCell (p .row) j))) (f ∙ ap (λ (n : ℕ). position (p .back) n i) g)

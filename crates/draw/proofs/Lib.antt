@@ -22,4 +22,5 @@ pub mod Branch
 pub mod Drawing
 pub mod Laid
 pub mod TrackTest
-pub mod Small
+pub mod ThreeByThree
+pub mod Answer

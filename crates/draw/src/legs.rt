@@ -2,10 +2,11 @@
 // buffer from twice the cells so far onward.
 use crate::Leg;
 use crate::Plan;
-use corner::{corner_track, corner_track_back};
+use corner::corner_track;
+use corner::corner_track_back;
 ghost use mathlib.Core.List.{[], _∷_};
 ghost use Rattle.draw.specs.Leg.{legs};
-ghost use Rattle.draw.proofs.Drawing.{Room, Written};
+ghost use Rattle.draw.specs.Drawing.{Room, Written};
 
 // Each gives the number of cells written.
 fn draw_leg(g: Leg, buf: &mut [u8]) -> usize

@@ -1,6 +1,10 @@
 // Draw: a longest track between two cells, as a plan of corner tracks.
 use choice::plan_of;
-use grid::{Cell, Cells, Check, Panel, Refusal};
+use grid::Cell;
+use grid::Cells;
+use grid::Check;
+use grid::Panel;
+use grid::Refusal;
 use legs::draw_plan;
 use small::draw_small;
 ghost use mathlib.Core.Path.{_≡_};

@@ -1,7 +1,8 @@
 // Draws every order on panels up to 6 by 6, off-panel terminals included, into a filled buffer, and
 // checks each answer and each byte by a plain check of its own; then the order of document 01 that
 // needs 32,768 bytes, with that many and with one fewer.
-use grid::{Cell, Panel};
+use grid::Cell;
+use grid::Panel;
 use libc::STDOUT_FILENO;
 
 // What the buffers are filled with.
@@ -169,7 +170,7 @@ fn right(o: Order, buf: &mut [u8], marks: &mut [u8]) -> bool {
 }
 
 // The order of number `code`: six numbers from 1 to 6.
-fn order(code: u32) -> Order {
+fn order_of(code: u32) -> Order {
     Order {
         panel: Panel {
             width: code % 6 + 1,
@@ -187,7 +188,7 @@ fn order(code: u32) -> Order {
 }
 
 fn count_one(code: u32, t: Totals, marks: &mut [u8]) -> Totals {
-    let o = order(code);
+    let o = order_of(code);
     let mut buf = [FILL; 80];
     let k = bound::count_of(bound::bound(o.panel, o.entry, o.exit)).0;
     let good = right(o, &mut buf, marks);
@@ -204,7 +205,8 @@ fn print(text: &[u8], k: u32) {
     io::print_decimal(STDOUT_FILENO, k as u64);
 }
 
-fn small_panels() {
+// The orders whose six numbers are from 1 to 6.
+fn every_order() -> Totals {
     let mut marks = [0u8; 1024];
     let mut t = Totals {
         orders: 0,
@@ -215,6 +217,11 @@ fn small_panels() {
     for code in 0..46656 {
         t = count_one(code, t, &mut marks);
     }
+    t
+}
+
+fn small_panels() {
+    let t = every_order();
     print(b"orders ", t.orders);
     print(b", drawn ", t.drawn);
     print(b", cells ", t.cells);
@@ -247,7 +254,8 @@ fn large(buf: &mut [u8]) {
 
 fn main() {
     small_panels();
-    let mut buf = [FILL; 32768];
-    large(&mut buf[..32767]);
-    large(&mut buf);
+    let mut short = [FILL; 32767];
+    large(&mut short);
+    let mut whole = [FILL; 32768];
+    large(&mut whole);
 }

@@ -18,7 +18,7 @@ flip-cell-requires-2 : tie.Need-flip-cell-requires-2
 flip-cell-requires-2 c κs = search needs
 
 lay-requires : tie.Need-lay-requires
-lay-requires c κs = flip-cell-small _ _ (c .before .before .before .before .args .b) (c .flip-cell2 .ensures) (c .before .before .before .before .pre .0) (c .before .before .before .before .pre .1)
+lay-requires c κs = flip-cell-small (c .before .before .before .is-mirrored .result) (c .before .before .is-mirrored2 .result) (c .before .before .before .before .args .b) (c .flip-cell2 .ensures) (c .before .before .before .before .pre .0) (c .before .before .before .before .pre .1)
 
 returns : tie.Need-returns
 unfolding placedFrom

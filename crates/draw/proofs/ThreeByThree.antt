@@ -26,19 +26,12 @@ use Rattle.draw.specs.declared.Placing.{Placing}
 use Rattle.draw.specs.Table.{three, rowSize, rowCell, flip, flipCell, place, position, placedCell, placing, placedFrom, laid}
 use Rattle.draw.proofs.TrackTest.{trackTest, track-sound, eachBelow, below-each}
 
-On : Cell → Type 0
+abbrev On : Cell → Type 0
 On = OnPanel three
 
 -- ---- the rows, each tested once
 
-firstOf : ℕ → Cell
-firstOf k = rowCell k 0
-
-lastOf : ℕ → Cell
-lastOf k = rowCell k (rowSize k - 1)
-
 abbrev rowTest : ℕ → Bool
-unfolding firstOf lastOf
 rowTest k = trackTest three (rowCell k 0) (rowCell k (rowSize k - 1)) (line (rowCell k) (rowSize k)) && eqb (rowSize k) (count three (rowCell k 0) (rowCell k (rowSize k - 1)))
 
 rows-pass : eachBelow rowTest 8 ≡ true
@@ -74,9 +67,6 @@ endsTest s t p =
 abbrev pairTest : Cell → Cell → Bool
 pairTest s t = cond (onPanel three s && (onPanel three t && not (sameCell s t))) (endsTest s t (placing s t)) true
 
-cellOf : ℕ → ℕ → Cell
-cellOf x y = record { x = x; y = y }
-
 abbrev pairs : Bool
 pairs = eachBelow (λ a. eachBelow (λ b. eachBelow (λ c. eachBelow (λ d. pairTest (record { x = a; y = b }) (record { x = c; y = d })) 4) 4) 4) 4
 
@@ -91,7 +81,6 @@ pub record Found (s t : Cell) (p : Placing) : Type 0 where
   pub last : placedCell p (rowSize (p .row) - 1) ≡ t
 
 pub found : (s t : Cell) → On s → On t → s ≢ t → Found s t (placing s t)
-unfolding On
 found s t os ot ne =
     let p = placing s t in
     let u : (onPanel three s && (onPanel three t && not (sameCell s t))) ≡ true = and-both (is-on os) (and-both (is-on ot) (ap not (ne-same s t ne))) in
@@ -133,7 +122,7 @@ flip-dist true a c h k = omega arith
 flip-dist false a c h k = refl
 
 mirroring : (x y : Bool) → Move On On (flipCell x y)
-unfolding On apart
+unfolding apart
 mirroring x y = record {
   into = λ c o. record { left = flip-low x (c .x) (o .right) (o .left); right = flip-high x (c .x) (o .right) (o .left); top = flip-low y (c .y) (o .bottom) (o .top); bottom = flip-high y (c .y) (o .bottom) (o .top) };
   keeps = λ a b p q h. record { one = (λ i. flip-dist x (a .x) (b .x) (p .right) (q .right) i + flip-dist y (a .y) (b .y) (p .bottom) (q .bottom) i) ∙ h .one };
@@ -142,7 +131,6 @@ mirroring x y = record {
 }
 
 turningIf : (b : Bool) → Move On On (λ c. cond b (turnedCell c) c)
-unfolding On
 turningIf true = turning three
 turningIf false = record { into = λ c o. o; keeps = λ a b p q h. h; back = λ c. c; undo = λ c o. refl }
 
@@ -171,6 +159,7 @@ line-back f (suc n) =
   where
     head : n ≡ suc n - (0 + 1)
     head = omega arith
+
     tail : (j : ℕ) → n - (j + 1) ≡ suc n - (suc j + 1)
     tail j = omega arith
 
@@ -183,11 +172,11 @@ ordered k h true =
   where
     one : rowSize k - 1 ≡ rowSize k - (0 + 1)
     one = omega arith
+
     all : 0 ≡ rowSize k - (rowSize k - 1 + 1)
     all = omega (arith, row-some k h)
 
 placed-track : (s t : Cell) (p : Placing) → Found s t p → Track three s t (line (placedCell p) (rowSize (p .row)))
-unfolding On
 placed-track s t p f =
     subst₂ (λ (a b : Cell). Track three a b (line (placedCell p) (rowSize (p .row)))) (f .first) (f .last)
     (subst (λ (l : List Cell). Track three (placedCell p 0) (placedCell p (rowSize (p .row) - 1)) l) (map-line (place p) (λ i. rowCell (p .row) (position (p .back) (rowSize (p .row)) i)) (rowSize (p .row)))
@@ -203,3 +192,21 @@ small-drawn {s} {t} {p} {n} {old} f e w =
       track = subst (λ (k : ℕ). Track three s t (line (placedCell p) k)) (sym e) (placed-track s t p f);
       written = w ∙ ap (λ (k : ℕ). bytes (line (placedCell p) n) ++ drop (2 * k) old) q;
     }
+
+-- ---- as the code has it
+
+pub found-as : {s t : Cell} {p : Placing} → p ≡ placing s t → On s → On t → s ≢ t → Found s t p
+found-as {s} {t} e os ot ne = subst (λ (p : Placing). Found s t p) (sym e) (found s t os ot ne)
+
+pub row-fits : {s t : Cell} {p : Placing} {n : ℕ} (room : ℕ) → Found s t p → n ≡ rowSize (p .row) → 2 * count three s t ≤ room → (n ≤ 9) × (2 * n ≤ room)
+row-fits {p = p} room f e h = (omega (arith, row-most (p .row) (f .row)), omega (arith, f .size))
+
+-- a panel of three columns and three rows
+pub is-three : {p : Panel} → p .width ≡ 3 → p .height ≡ 3 → p ≡ three
+is-three w h = λ i. record { width = w i; height = h i }
+
+pub asked-of-three : {p : Panel} (s t : Cell) (room : ℕ) → p ≡ three → OnPanel p s → OnPanel p t → s ≢ t → 2 * count p s t ≤ room → OnPanel three s × (OnPanel three t × ((s ≢ t) × (2 * count three s t ≤ room)))
+asked-of-three s t room e os ot ne h = (subst (λ (q : Panel). OnPanel q s) e os, (subst (λ (q : Panel). OnPanel q t) e ot, (ne, subst (λ (q : Panel). 2 * count q s t ≤ room) e h)))
+
+pub drawn-on : {p : Panel} {s t : Cell} {old new : List ℕ} → p ≡ three → Drawn (OnPanel three) s t (count three s t) old new → Drawn (OnPanel p) s t (count p s t) old new
+drawn-on {s = s} {t = t} {old = old} {new = new} e d = subst (λ (q : Panel). Drawn (OnPanel q) s t (count q s t) old new) (sym e) d
