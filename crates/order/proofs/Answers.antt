@@ -50,7 +50,7 @@ pub refused-room : (n k : ℕ) → n < 2 ^ 32 → 16512 ≤ k → length (refuse
 refused-room n k h g = omega (arith, field-length n lineFeed [] h)
 
 pub answer-room : (class cells : ℕ) (letters : List ℕ) (k : ℕ) → class ≤ 5 → cells ≤ 16384 → length letters ≤ 16384 → 16512 ≤ k
-                  → length (answerText class cells letters) ≤ k
+    → length (answerText class cells letters) ≤ k
 unfolding squaresOf
 answer-room class cells letters k h g l r =
     let line = letters ++ lineFeed ∷ [] in
@@ -96,14 +96,14 @@ module _ (p : Panel) (list file : List ℕ) (size : 16391 ≡ length file) where
 
   -- the part behind the head, as long as there are steps
   behind-head : (l : List Cell) (rest : List ℕ) (steps : ℕ) → steps + 1 ≡ length l
-                → take (headLength + steps - headLength) (drop headLength (recordOf p l ++ rest)) ≡ lettersOf l
+      → take (headLength + steps - headLength) (drop headLength (recordOf p l ++ rest)) ≡ lettersOf l
   behind-head [] rest steps e = absurd (omega arith)
   behind-head (s ∷ l) rest steps e =
       let n : length (lettersFrom s l) ≡ headLength + steps - headLength = omega (arith, length-letters-from s l) in
       take-at (lettersFrom s l) rest (headLength + steps - headLength) n
 
   pub record-letters : (steps : ℕ) → checkList p list ≡ Passed → steps + 1 ≡ length (cellsIn list)
-                       → take (headLength + steps - headLength) (drop headLength (writeBuffer p list file)) ≡ lettersOf (cellsIn list)
+      → take (headLength + steps - headLength) (drop headLength (writeBuffer p list file)) ≡ lettersOf (cellsIn list)
   record-letters steps q e =
       let g = list-good p list q in
       let room : leb (recordLength (cellsIn list)) (length file) ≡ true = le-leb _ _ (writes (cellsIn list) (g .some) (count-bound g)) in
@@ -176,11 +176,11 @@ module _ {old new : List ℕ} {k : ℕ} where
   pub printed : {Choice : List Cell → Type 0} (text : List Cell → List ℕ) (l : List Cell) → Choice l → Put old 0 (text l) new k → Printed Choice text old new k
   unfolding put
   printed text l h f = record {
-      track = l;
-      chosen = h;
-      bytes = f .bytes ∙ ap (λ (n : ℕ). text l ++ drop n old) (sym (f .end));
-      size = f .end ∙ zero-add (length (text l));
-    }
+    track = l;
+    chosen = h;
+    bytes = f .bytes ∙ ap (λ (n : ℕ). text l ++ drop n old) (sym (f .end));
+    size = f .end ∙ zero-add (length (text l));
+  }
 
   pub bound-is : {b d : Bounded} (p : Panel) (s t : Cell) → b ≡ d → AnswersBound b p s t old new k → AnswersBound d p s t old new k
   bound-is p s t e f = subst (λ (b : Bounded). AnswersBound b p s t old new k) e f

@@ -46,8 +46,8 @@ read-digits zero n l h g = absurd (omega arith)
 read-digits (suc k) n l h g = go (ltb n 10) refl (λ b. read-digits k (n / 10) (digit (n % 10) ∷ l) (omega arith) (omega arith))
   where
     go : (t : Bool) → ltb n 10 ≡ t
-         → (10 ≤ n → numberAt (decimal (n / 10) ++ (digit (n % 10) ∷ l)) ≡ moreDigits (n / 10) (digit (n % 10) ∷ l))
-         → numberAt (decimal n ++ l) ≡ moreDigits n l
+        → (10 ≤ n → numberAt (decimal (n / 10) ++ (digit (n % 10) ∷ l)) ≡ moreDigits (n / 10) (digit (n % 10) ∷ l))
+        → numberAt (decimal n ++ l) ≡ moreDigits n l
     go true q f = ap (λ (b : List ℕ). numberAt (b ++ l)) (decimal-small n (ltb-true n 10 q)) ∙ first-digit n l g (ltb-true n 10 q)
     go false q f =
         let e : 10 * (n / 10) + n % 10 ≡ n = omega arith in
@@ -66,7 +66,7 @@ read-field n e l q h = cond-yes _ _ (and-both (le-leb n largest h) (eq-eqb e e r
 
 -- one number of the line, and what is read behind it
 next : (n e : ℕ) (l : List ℕ) (k : ℕ → List ℕ → Line) {z : Line} → isDigit e ≡ false → n ≤ largest
-       → z ≡ k n l → z ≡ andThen (field e (decimal n ++ e ∷ l)) k
+    → z ≡ k n l → z ≡ andThen (field e (decimal n ++ e ∷ l)) k
 next n e l k q h f = f ∙ ap (λ (r : Parsed). andThen r k) (read-field n e l q h)
 
 -- every order's line is read as the order, whatever is behind it
@@ -78,12 +78,12 @@ reads-line p s t rest h =
     let from-sx = fieldOf (s .x) blank from-sy in
     let from-n = fieldOf (p .height) blank from-sx in
     let read : Order p s t ≡ lineIn (lineOf p s t rest) =
-      next (p .width) blank from-n _ refl (h .width)
-      (next (p .height) blank from-sx _ refl (h .height)
-      (next (s .x) blank from-sy _ refl (h .sx)
-      (next (s .y) blank from-tx _ refl (h .sy)
-      (next (t .x) blank from-ty _ refl (h .tx)
-      (next (t .y) lineFeed rest _ refl (h .ty) refl))))) in
+    next (p .width) blank from-n _ refl (h .width)
+    (next (p .height) blank from-sx _ refl (h .height)
+    (next (s .x) blank from-sy _ refl (h .sx)
+    (next (s .y) blank from-tx _ refl (h .sy)
+    (next (t .x) blank from-ty _ refl (h .tx)
+    (next (t .y) lineFeed rest _ refl (h .ty) refl))))) in
     sym read
 
 -- ---- what is read is written so
@@ -97,8 +97,8 @@ digits-read v [] n r h q =
 digits-read v (b ∷ l) n r h q = go (isDigit b) refl (λ d. digits-read (10 * v + (b - zeroByte)) l n r (omega arith))
   where
     go : (t : Bool) → isDigit b ≡ t
-         → (isDigit b ≡ true → moreDigits (10 * v + (b - zeroByte)) l ≡ number n r → decimal (10 * v + (b - zeroByte)) ++ l ≡ decimal n ++ r)
-         → decimal v ++ b ∷ l ≡ decimal n ++ r
+        → (isDigit b ≡ true → moreDigits (10 * v + (b - zeroByte)) l ≡ number n r → decimal (10 * v + (b - zeroByte)) ++ l ≡ decimal n ++ r)
+        → decimal v ++ b ∷ l ≡ decimal n ++ r
     go true d f =
         let low = digit-low b d in
         let high = digit-high b d in
@@ -145,6 +145,7 @@ field-read e l n r q = go (numberAt l) refl
   where
     none : nothing ≡ number n r → ⊥
     none c = let z : _≡_ {A = ℕ} 0 1 = cc in omega arith
+
     here : (v b : ℕ) (k : List ℕ) → numberAt l ≡ number v (b ∷ k) → (t : Bool) → (leb v largest && eqb b e) ≡ t → (l ≡ fieldOf n e r) × (n ≤ largest)
     here v b k p true t =
         let c : number v k ≡ number n r = cond-yes _ _ t refl ∙ ap (ended e) (sym p) ∙ q in
@@ -154,6 +155,7 @@ field-read e l n r q = go (numberAt l) refl
         let end = eqb-true b e (and-right (leb v largest) (eqb b e) t) in
         (number-read l v (b ∷ k) p ∙ (λ i. decimal (f i) ++ end i ∷ g i), omega arith)
     here v b k p false t = absurd (none (cond-no _ _ t refl ∙ ap (ended e) (sym p) ∙ q))
+
     go : (p : Parsed) → numberAt l ≡ p → (l ≡ fieldOf n e r) × (n ≤ largest)
     go nothing p = absurd (none (ap (ended e) (sym p) ∙ q))
     go (number v []) p = absurd (none (ap (ended e) (sym p) ∙ q))
@@ -161,11 +163,12 @@ field-read e l n r q = go (numberAt l) refl
 
 -- reading that goes on to an order has read a number
 goes-on : (e : ℕ) (l : List ℕ) (k : ℕ → List ℕ → Line) {p : Panel} {s t : Cell} → andThen (field e l) k ≡ Order p s t
-          → (n : ℕ) × (r : List ℕ) × (l ≡ fieldOf n e r) × (n ≤ largest) × (k n r ≡ Order p s t)
+    → (n : ℕ) × (r : List ℕ) × (l ≡ fieldOf n e r) × (n ≤ largest) × (k n r ≡ Order p s t)
 goes-on e l k {p} {s} {t} q = go (field e l) refl
   where
     none : Other ≡ Order p s t → ⊥
     none c = let z : _≡_ {A = ℕ} 0 1 = cc in omega arith
+
     go : (f : Parsed) → field e l ≡ f → (n : ℕ) × (r : List ℕ) × (l ≡ fieldOf n e r) × (n ≤ largest) × (k n r ≡ Order p s t)
     go nothing f = absurd (none (ap (λ (x : Parsed). andThen x k) (sym f) ∙ q))
     go (number n r) f = let w = field-read e l n r f in (n, r, w .0, w .1, ap (λ (x : Parsed). andThen x k) (sym f) ∙ q)

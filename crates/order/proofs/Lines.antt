@@ -76,6 +76,7 @@ too-large e v (b ∷ l) h = go (isDigit b) refl (too-large e (10 * v + (b - zero
   where
     large : nothing ≡ ended e (number v (b ∷ l))
     large = cond-no _ _ (sym (and-no (eqb b e) (lt-leb v largest h))) refl
+
     go : (t : Bool) → isDigit b ≡ t → nothing ≡ ended e (moreDigits (10 * v + (b - zeroByte)) l) → nothing ≡ ended e (moreDigits v (b ∷ l))
     go true q next = next ∙ ap (ended e) (cond-yes _ _ q refl)
     go false q next = large ∙ ap (ended e) (cond-no _ _ q refl)
@@ -94,7 +95,7 @@ module _ (e : ℕ) (l : List ℕ) (i : ℕ) where
     field-other n q = ap (ended e) (cond-no _ _ (ne-eqb _ _ n) (cond-no _ _ q refl)) ∙ ap (field e) (sym (here l i h))
 
     pub field-digits : (getD l i 0 ≡ zeroByte → ⊥) → isDigit (getD l i 0) ≡ true
-                       → ended e (moreDigits (getD l i 0 - zeroByte) (drop (i + 1) l)) ≡ field e (drop i l)
+        → ended e (moreDigits (getD l i 0 - zeroByte) (drop (i + 1) l)) ≡ field e (drop i l)
     field-digits n q = ap (ended e) (cond-no _ _ (ne-eqb _ _ n) (cond-yes _ _ q refl)) ∙ ap (field e) (sym (here l i h))
 
 -- ---- one number after another

@@ -33,10 +33,10 @@ module _ (out : List ℕ) (at : ℕ) where
       let whole : take at out ++ (t ++ rest) ≡ front ++ rest = sym (append-assoc (take at out) t rest) in
       let kept : take (at + length t) (front ++ rest) ≡ front = take-at front rest (at + length t) size in
       let behind : drop (at + length t + length u) (front ++ rest) ≡ drop (at + length (t ++ u)) out =
-        ap (λ (k : ℕ). drop (k + length u) (front ++ rest)) (sym size)
-        ∙ drop-append-add front rest (length u)
-        ∙ drop-drop (length u) (at + length t) out
-        ∙ ap (λ (k : ℕ). drop k out) sum in
+      ap (λ (k : ℕ). drop (k + length u) (front ++ rest)) (sym size)
+      ∙ drop-append-add front rest (length u)
+      ∙ drop-drop (length u) (at + length t) out
+      ∙ ap (λ (k : ℕ). drop k out) sum in
       (λ i. take (at + length t) (whole i) ++ (u ++ drop (at + length t + length u) (whole i)))
       ∙ (λ i. kept i ++ (u ++ behind i))
       ∙ append-assoc (take at out) t (u ++ drop (at + length (t ++ u)) out)
@@ -63,13 +63,13 @@ module _ (out : List ℕ) (at : ℕ) (t u : List ℕ) {whole : List ℕ} (e : t 
 
   pub puts-both : {mid after : List ℕ} {k next : ℕ} → Put out at t mid k → Put mid k u after next → Put out at whole after next
   puts-both f g = record {
-      bytes = g .bytes ∙ (λ i. put (f .bytes i) (f .end i) u) ∙ put-both out at t u (omega (arith, ap length e)) ∙ ap (put out at) e;
-      end = omega (arith, sum, f .end, g .end);
-    }
+    bytes = g .bytes ∙ (λ i. put (f .bytes i) (f .end i) u) ∙ put-both out at t u (omega (arith, ap length e)) ∙ ap (put out at) e;
+    end = omega (arith, sum, f .end, g .end);
+  }
 
 -- one byte more of a text
 pub put-next : (out : List ℕ) (at : ℕ) (t : List ℕ) (i : ℕ) → i < length t → at + length t ≤ length out
-               → set (put out at (take i t)) (at + i) (getD t i 0) ≡ put out at (take (i + 1) t)
+    → set (put out at (take i t)) (at + i) (getD t i 0) ≡ put out at (take (i + 1) t)
 put-next out at t i h g =
     let b = getD t i 0 in
     let size : length (take i t) ≡ i = length-take-le i t (omega arith) in
@@ -91,7 +91,7 @@ two-and a b e rest = append-assoc (decimal a) (blank ∷ fieldOf b e []) rest �
 
 -- the line of counts is two numbers and two numbers
 pub counts-and : (class cells : ℕ) {steps squares : ℕ} → steps ≡ cells - 1 → squares ≡ squaresOf cells
-                 → fieldOf class blank (fieldOf cells blank []) ++ fieldOf steps blank (fieldOf squares lineFeed []) ≡ countsText class cells
+    → fieldOf class blank (fieldOf cells blank []) ++ fieldOf steps blank (fieldOf squares lineFeed []) ≡ countsText class cells
 counts-and class cells e f = two-and class cells blank _ ∙ (λ i. fieldOf class blank (fieldOf cells blank (fieldOf (e i) blank (fieldOf (f i) lineFeed []))))
 
 module _ (out : List ℕ) (at n : ℕ) (fits : at + length (decimal n) ≤ length out) where
@@ -110,5 +110,5 @@ module _ (out : List ℕ) (at n : ℕ) (fits : at + length (decimal n) ≤ lengt
     room-last f = room out at (decimal (n / 10)) (digit (n % 10) ∷ []) (sym (decimal-more n h)) fits f
 
     pub puts-last : {mid after : List ℕ} {k next : ℕ} → Put out at (decimal (n / 10)) mid k → Put mid k (digit (n % 10) ∷ []) after next
-                    → Put out at (decimal n) after next
+        → Put out at (decimal n) after next
     puts-last f g = puts-both out at (decimal (n / 10)) (digit (n % 10) ∷ []) (sym (decimal-more n h)) fits f g

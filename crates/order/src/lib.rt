@@ -41,7 +41,9 @@ pub enum Line {
 
 // Bytes enough for the cells of any track, for its record, and for the text of any order.
 pub const CELLS: usize = 32768;
+
 pub const RECORD: usize = 16391;
+
 pub const TEXT: usize = 16512;
 
 // The `ensures` gives only the length, which lending the array asks.

@@ -12,8 +12,11 @@ ghost use Rattle.order.specs.Line.Parsed.{number};
 
 // The digit 0, the byte between two numbers, and the byte behind the last.
 pub const ZERO: u8 = b'0';
+
 pub const NINE: u8 = b'9';
+
 pub const BLANK: u8 = b' ';
+
 pub const LINE_FEED: u8 = b'\n';
 
 // The largest number of an order.

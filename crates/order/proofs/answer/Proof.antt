@@ -45,7 +45,7 @@ answer-order-requires c κs = search needs
 
 -- src/lib.rt:99:1
 returns : tie.Need-returns
-returns c = 
+returns c =
     let s = c .before .before .before .before .before .before .before in
     line-is (sym (c .before .before .before .enum-told .given .1) ∙ c .before .before .before .before .before .read-line .ensures)
     (printed (textOf Other) [] tt (puts-is (now (s .args .out)) 0 (ap refusedText (c .before .before .number-of .ensures)) (c .put-refused .ensures)))

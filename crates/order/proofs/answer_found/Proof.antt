@@ -84,7 +84,7 @@ slice-aggregate-put-track c = sym (length-take-le _ _ (omega (arith, size (c .be
 
 -- src/lib.rt:84:5
 put-track-requires : tie.Need-put-track-requires
-put-track-requires c κs = 
+put-track-requires c κs =
     let d = c .before .before .before .before in
     let s = d .before .before .before .before in
     (passed d, (count d, (small s, s .pre .1 .1)))
@@ -95,7 +95,7 @@ same-length c = search needs
 
 -- src/lib.rt:75:1
 returns : tie.Need-returns
-returns c = 
+returns c =
     let d = c .before .before .before .before .before .before .before in
     printed (boundText (Found (s d .args .found))) (front (n d) (new d)) (chosen d) (c .before .before .put-track .ensures)
 

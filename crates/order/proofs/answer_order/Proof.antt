@@ -43,7 +43,7 @@ enum-known-b-2 c = search needs
 
 -- src/lib.rt:94:34
 answer-found-requires : tie.Need-answer-found-requires
-answer-found-requires c κs = 
+answer-found-requires c κs =
     let s = c .before .before .before .before .before .before in
     let g = found-good (checkOrder (s .args .p) (s .args .s) (s .args .t)) (classCount (s .args .p) (s .args .s) (s .args .t)) (c .before .before .b2 .given .0 .0) (sym (c .before .before .before .before .bound .ensures) ∙ c .before .before .b2 .given .1) in
     (g .0, (g .1, s .pre))
@@ -54,7 +54,7 @@ same-length c = search needs
 
 -- src/lib.rt:87:1
 returns : tie.Need-returns
-returns c = 
+returns c =
     let s = c .before .before .before .before .before .before .before .before .before .before in
     bound-is (s .args .p) (s .args .s) (s .args .t) (sym (c .before .before .before .before .before .before .b .given .1) ∙ c .before .before .before .before .before .before .before .before .bound .ensures)
     (printed (boundText (Refused (c .before .before .before .before .before .before .b .given .0 .0))) [] tt (puts-is (now (s .args .out)) 0 (ap refusedText (c .before .before .before .before .number-of .ensures)) (c .before .before .put-refused .ensures)))
@@ -65,7 +65,7 @@ same-length-2 c = search needs
 
 -- src/lib.rt:87:1
 returns-2 : tie.Need-returns-2
-returns-2 c = 
+returns-2 c =
     let s = c .before .before .before .before .before .before .before .before .before in
     bound-is (s .args .p) (s .args .s) (s .args .t) (sym (c .before .before .before .before .before .b2 .given .1) ∙ c .before .before .before .before .before .before .before .bound .ensures) (c .before .before .answer-found .ensures)
 

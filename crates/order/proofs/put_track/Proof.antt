@@ -33,7 +33,7 @@ size c = c .write .kept .1 .1 .0 ∙ sym (c .before .before .record-buffer .ensu
 
 -- what is lent to the answer is the track's letters
 letters : (c : tie.After-steps-of) → let s = c .before .before .before .before .before .before .before in
-          take (headLength + c .steps-of .result .0 - headLength) (drop headLength (c .before .before .write .last .1 .1 .0)) ≡ lettersOf (cellsIn (now (s .args .list)))
+    take (headLength + c .steps-of .result .0 - headLength) (drop headLength (c .before .before .write .last .1 .1 .0)) ≡ lettersOf (cellsIn (now (s .args .list)))
 letters c =
     let w = c .before .before in
     let s = w .before .before .before .before .before in
@@ -85,10 +85,9 @@ part-put-answer-end c = omega (arith, size (c .before .before .before .before), 
 
 -- src/lib.rt:71:5
 put-answer-requires : tie.Need-put-answer-requires
-put-answer-requires c κs = 
+put-answer-requires c κs =
     let d = c .before .before .before .before in
-    let s = d .before .before .before .before .before .before .before in
-    (
+    let s = d .before .before .before .before .before .before .before in (
       some s,
       few s,
       answer-room (s .args .found .class) (s .args .found .count .0) (take (headLength + d .steps-of .result .0 - headLength) (drop headLength (d .before .before .write .last .1 .1 .0))) (length (now (s .args .out))) (s .pre .1 .1 .0) (few s) (fewer d) (s .pre .1 .1 .1),
@@ -100,7 +99,7 @@ same-length c = search needs
 
 -- src/lib.rt:61:1
 returns : tie.Need-returns
-returns c = 
+returns c =
     let d = c .before .before .before .before .before .before .before in
     let s = d .before .before .before .before .before .before .before in
     puts-is (now (s .args .out)) 0 (ap (answerText (s .args .found .class) (s .args .found .count .0)) (letters d)) (c .before .before .put-answer .ensures)

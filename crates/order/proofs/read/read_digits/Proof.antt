@@ -34,10 +34,10 @@ high : (c : Turn) → getD (now (c .before .before .before .before .before .befo
 high c = digit-high _ (digit c)
 
 again : (c : Turn) →
-        let at-loop = c .before .before .before .before in
-        let a = at-loop .before .before .args in
-        ended (a .end) (moreDigits (10 * at-loop .loop .sum + (getD (now (a .input)) (at-loop .loop .i) 0 - 48)) (drop (at-loop .loop .i + 1) (now (a .input))))
-        ≡ ended (a .end) (moreDigits (a .v) (drop (a .from) (now (a .input))))
+    let at-loop = c .before .before .before .before in
+    let a = at-loop .before .before .args in
+    ended (a .end) (moreDigits (10 * at-loop .loop .sum + (getD (now (a .input)) (at-loop .loop .i) 0 - 48)) (drop (at-loop .loop .i + 1) (now (a .input))))
+    ≡ ended (a .end) (moreDigits (a .v) (drop (a .from) (now (a .input))))
 again c =
     let at-loop = c .before .before .before .before in
     let a = at-loop .before .before .args in
@@ -65,7 +65,7 @@ read-end-requires c κs = search needs
 
 -- src/read.rt:51:13
 returns : tie.Need-returns Inv-loop μ-loop
-returns c = 
+returns c =
     let in-loop = c .before .before .before .before in
     let at-loop = in-loop .before in
     let a = at-loop .before .before .args in
@@ -90,7 +90,7 @@ add-sum c = omega (arith, high c)
 
 -- src/read.rt:55:13
 returns-2 : tie.Need-returns-2 Inv-loop μ-loop
-returns-2 c = 
+returns-2 c =
     let at-loop = c .before .before .before .before .before in
     let a = at-loop .before .before .args in
     too-large (a .end) _ (drop (at-loop .loop .i + 1) (now (a .input))) (c .if2 .taken) ∙ again (c .before)
@@ -117,7 +117,7 @@ read-end-requires-2 c κs = search needs
 
 -- src/read.rt:43:1
 returns-3 : tie.Need-returns-3 Inv-loop μ-loop
-returns-3 c = 
+returns-3 c =
     let at-loop = c .before .before in
     let a = at-loop .before .before .args in
     c .read-end2 .ensures ∙ ap (ended (a .end)) (digits-end (at-loop .loop .sum) (now (a .input)) (at-loop .loop .i) (c .before .loop-test .left)) ∙ at-loop .loop .inv .1

@@ -36,7 +36,7 @@ read-end-requires c κs = search needs
 
 -- src/read.rt:71:9
 returns-2 : tie.Need-returns-2
-returns-2 c = 
+returns-2 c =
     let a = c .before .before .before .before .before .args in
     c .read-end .ensures ∙ field-zero (a .end) (now (a .input)) (a .from) (c .before .before .before .if1 .left) (c .before .if2 .taken)
 
@@ -46,7 +46,7 @@ is-digit-requires c κs = search needs
 
 -- src/read.rt:74:9
 returns-3 : tie.Need-returns-3
-returns-3 c = 
+returns-3 c =
     let a = c .before .before .before .before .before .before .args in
     field-other (a .end) (now (a .input)) (a .from) (c .before .before .before .before .if1 .left) (c .before .before .if2 .left) (sym (c .before .is-digit .ensures) ∙ not-true _ (c .if3 .taken))
 
@@ -68,7 +68,7 @@ read-digits-requires c κs = search needs
 
 -- src/read.rt:63:1
 returns-4 : tie.Need-returns-4
-returns-4 c = 
+returns-4 c =
     let at = c .before in
     let a = at .before .before .before .before .before .before .args in
     c .read-digits .ensures ∙ field-digits (a .end) (now (a .input)) (a .from) (at .before .before .before .before .if1 .left) (at .before .before .if2 .left) (digit at)

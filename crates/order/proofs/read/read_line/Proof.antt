@@ -23,7 +23,7 @@ enum-told c = search needs
 
 -- src/read.rt:84:9
 returns : tie.Need-returns
-returns c = 
+returns c =
     let input = now (c .before .before .before .before .args .input) in
     (reads-none input blank 0 _ (c .before .before .read-field .ensures) (c .enum-told .given .1))
 
@@ -41,7 +41,7 @@ enum-told-2 c = search needs
 
 -- src/read.rt:88:9
 returns-2 : tie.Need-returns-2
-returns-2 c = 
+returns-2 c =
     let c1 = c .before .before .before in
     let input = now (c1 .before .before .before .before .before .args .input) in
     (reads-on input blank 0 _ (c1 .before .before .before .read-field .ensures) (c1 .before .a .given .1)
@@ -61,7 +61,7 @@ enum-told-3 c = search needs
 
 -- src/read.rt:92:9
 returns-3 : tie.Need-returns-3
-returns-3 c = 
+returns-3 c =
     let c2 = c .before .before .before in
     let c1 = c2 .before .before .before .before in
     let input = now (c1 .before .before .before .before .before .args .input) in
@@ -83,7 +83,7 @@ enum-told-4 c = search needs
 
 -- src/read.rt:96:9
 returns-4 : tie.Need-returns-4
-returns-4 c = 
+returns-4 c =
     let c3 = c .before .before .before in
     let c2 = c3 .before .before .before .before in
     let c1 = c2 .before .before .before .before in
@@ -107,7 +107,7 @@ enum-told-5 c = search needs
 
 -- src/read.rt:100:9
 returns-5 : tie.Need-returns-5
-returns-5 c = 
+returns-5 c =
     let c4 = c .before .before .before in
     let c3 = c4 .before .before .before .before in
     let c2 = c3 .before .before .before .before in
@@ -133,7 +133,7 @@ enum-told-6 c = search needs
 
 -- src/read.rt:104:9
 returns-6 : tie.Need-returns-6
-returns-6 c = 
+returns-6 c =
     let c5 = c .before .before .before in
     let c4 = c5 .before .before .before .before in
     let c3 = c4 .before .before .before .before in
@@ -149,7 +149,7 @@ returns-6 c =
 
 -- src/read.rt:79:1
 returns-7 : tie.Need-returns-7
-returns-7 c = 
+returns-7 c =
     let c6 = c in
     let c5 = c6 .before .before .before .before in
     let c4 = c5 .before .before .before .before in

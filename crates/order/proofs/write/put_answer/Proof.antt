@@ -27,13 +27,13 @@ whole : (s : tie.Start) → 0 + length (heading ++ (counts s ++ line s)) ≤ len
 whole s = let h = s .pre .2 in omega arith
 
 after-heading : (c : tie.After-put-bytes) → let s = c .before .before .before .before .before in
-                c .put-bytes .result + length (counts s ++ line s) ≤ length (c .put-bytes .last .1 .0)
+    c .put-bytes .result + length (counts s ++ line s) ≤ length (c .put-bytes .last .1 .0)
 after-heading c =
     let s = c .before .before .before .before .before in
     room (now (s .args .out)) 0 heading (counts s ++ line s) refl (whole s) (c .put-bytes .ensures)
 
 after-counts : (c : tie.After-put-counts) → let s = c .before .before .before .before .before .before .before .before .before in
-               c .put-counts .result + length (line s) ≤ length (c .put-counts .last .1 .1 .0)
+    c .put-counts .result + length (line s) ≤ length (c .put-counts .last .1 .1 .0)
 after-counts c =
     let d = c .before .before .before .before in
     let s = d .before .before .before .before .before in
@@ -53,14 +53,14 @@ put-counts-requires c κs = let s = c .before .before .before .before .before .b
 
 -- src/write.rt:97:9
 put-bytes-requires-2 : tie.Need-put-bytes-requires-2
-put-bytes-requires-2 c κs = 
+put-bytes-requires-2 c κs =
     let d = c .before .before .before in
     let s = d .before .before .before .before .before .before .before .before .before in
     room-first (d .put-counts .last .1 .1 .0) (d .put-counts .result) (now (s .args .letters)) (lineFeed ∷ []) refl (after-counts d)
 
 -- src/write.rt:98:5
 put-byte-requires : tie.Need-put-byte-requires
-put-byte-requires c κs = 
+put-byte-requires c κs =
     let d = c .before .before .before .before .before .before .before in
     let s = d .before .before .before .before .before .before .before .before .before in
     room (d .put-counts .last .1 .1 .0) (d .put-counts .result) (now (s .args .letters)) (lineFeed ∷ []) refl (after-counts d) (c .before .before .before .put-bytes2 .ensures)
@@ -71,7 +71,7 @@ same-length c = search needs
 
 -- src/write.rt:91:1
 returns : tie.Need-returns
-returns c = 
+returns c =
     let third = c .before .before .before .before .before .before in
     let second = third .before .before .before .before in
     let first = second .before .before .before .before in

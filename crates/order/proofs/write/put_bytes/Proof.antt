@@ -52,14 +52,13 @@ loop-less c = omega arith
 
 -- src/write.rt:28:5
 loop-again : tie.Need-loop-again Inv-loop μ-loop
-loop-again c = 
+loop-again c =
     let at-loop = c .before .before in
     let start = at-loop .before in
-    let a = start .args in
-    (
+    let a = start .args in (
       omega arith,
       ap (λ (l : List ℕ). set l (a .at + at-loop .loop .i) (getD (now (a .text)) (at-loop .loop .i) 0)) (at-loop .loop .inv .1)
-      ∙ put-next (now (a .out)) (a .at) (now (a .text)) (at-loop .loop .i) (c .before .loop-test .taken) (start .pre),
+          ∙ put-next (now (a .out)) (a .at) (now (a .text)) (at-loop .loop .i) (c .before .loop-test .taken) (start .pre),
     )
 
 -- src/write.rt:32:5
@@ -72,7 +71,7 @@ same-length c = size (c .before)
 
 -- src/write.rt:23:1
 returns : tie.Need-returns Inv-loop μ-loop
-returns c = 
+returns c =
     let a = c .before .before .args in
     let done : c .before .loop .i ≡ length (now (a .text)) = omega arith in
     record { bytes = c .before .loop .inv .1 ∙ ap (put (now (a .out)) (a .at)) (take-all (c .before .loop .i) (now (a .text)) (c .loop-test .left)); end = ap (λ (k : ℕ). a .at + k) done }

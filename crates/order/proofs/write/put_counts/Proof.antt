@@ -17,9 +17,9 @@ use Rattle.order.proofs.write.squares_of.Reads as squares-of-reads
 
 -- the line is what was put first and what is put behind it
 whole : (c : tie.After-squares-of) →
-        let a = c .before .before .before .before .before .before .before .args in
-        fieldOf (a .class) blank (fieldOf (a .cells .0) blank []) ++ fieldOf (c .before .steps-of .result .0) blank (fieldOf (c .squares-of .result) lineFeed [])
-        ≡ countsText (a .class) (a .cells .0)
+    let a = c .before .before .before .before .before .before .before .args in
+    fieldOf (a .class) blank (fieldOf (a .cells .0) blank []) ++ fieldOf (c .before .steps-of .result .0) blank (fieldOf (c .squares-of .result) lineFeed [])
+    ≡ countsText (a .class) (a .cells .0)
 whole c =
     let a = c .before .before .before .before .before .before .before .args in
     let steps : c .before .steps-of .result .0 ≡ a .cells .0 - 1 = omega (arith, c .before .steps-of .ensures) in
