@@ -187,3 +187,7 @@ module _ {old new : List ℕ} {k : ℕ} where
 
   pub line-is : {x y : Line} → x ≡ y → Printed (ChosenFor x) (textOf x) old new k → Printed (ChosenFor y) (textOf y) old new k
   line-is e f = subst (λ (x : Line). Printed (ChosenFor x) (textOf x) old new k) e f
+
+-- the text is within the buffer
+pub within : {Choice : List Cell → Type 0} {text : List Cell → List ℕ} {old new : List ℕ} {k : ℕ} → Printed Choice text old new k → k ≤ length new
+within {text = text} {old = old} {k = k} f = omega (arith, f .size, ap length (f .bytes), length-append (text (f .track)) (drop k old))

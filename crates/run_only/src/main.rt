@@ -2,32 +2,25 @@
 // answers for the largest panel are told by their first two lines, their length and the sum of their
 // bytes.
 use libc::STDOUT_FILENO;
+ghost use Prim.Native.Nat.{_≤_};
+ghost use lib.ListN.{length};
 
-// Document 01 has the forms of an input; a line here says which, and the answer follows.
-fn show(form: &[u8], input: &[u8]) {
-    let mut text = [0u8; 16512];
-    let k = order::answer(input, &mut text);
-    io::write_all(STDOUT_FILENO, form);
-    io::write_all(STDOUT_FILENO, b":\n");
-    io::write_all(STDOUT_FILENO, &text[..k]);
-}
-
-// The place behind the second line feed of the first k bytes, or k.
-fn two_lines(text: &[u8], k: usize) -> usize {
+// The place behind the second line feed, or the end.
+fn two_lines(text: &[u8]) -> usize
+    ensures { λ r. ⌜ r ≤ length (now (text .entry)) ⌝ }
+{
     let mut seen = false;
     let mut i = 0;
-    while i < k {
-        if i < text.len() {
-            if text[i] == b'\n' {
-                if seen {
-                    return i + 1;
-                }
-                seen = true;
+    while i < text.len() {
+        if text[i] == b'\n' {
+            if seen {
+                return i + 1;
             }
+            seen = true;
         }
         i += 1;
     }
-    k
+    text.len()
 }
 
 fn wide(b: u8) -> u64 {
@@ -42,18 +35,36 @@ fn sum_of(text: &[u8]) -> u64 {
     sum
 }
 
-fn show_large(form: &[u8], input: &[u8]) {
-    let mut text = [0u8; 16512];
-    let k = order::answer(input, &mut text);
-    let end = two_lines(&text, k);
+// A text in full, or its first two lines, its length and the sum of its bytes.
+fn print(form: &[u8], text: &[u8], full: bool) {
     io::write_all(STDOUT_FILENO, form);
     io::write_all(STDOUT_FILENO, b":\n");
+    if full {
+        io::write_all(STDOUT_FILENO, text);
+        return;
+    }
+    let end = two_lines(text);
     io::write_all(STDOUT_FILENO, &text[..end]);
     io::write_all(STDOUT_FILENO, b"bytes ");
-    io::print_decimal(STDOUT_FILENO, k as u64);
+    io::print_decimal(STDOUT_FILENO, text.len() as u64);
     io::write_all(STDOUT_FILENO, b", sum ");
-    io::print_decimal(STDOUT_FILENO, sum_of(&text[..k]));
+    io::print_decimal(STDOUT_FILENO, sum_of(text));
     io::write_all(STDOUT_FILENO, b"\n");
+}
+
+// The form of an input, and its answer.
+fn answer(form: &[u8], input: &[u8], full: bool) {
+    let mut text = [0u8; 16512];
+    let k = order::answer(input, &mut text);
+    print(form, &text[..k], full);
+}
+
+fn show(form: &[u8], input: &[u8]) {
+    answer(form, input, true);
+}
+
+fn show_large(form: &[u8], input: &[u8]) {
+    answer(form, input, false);
 }
 
 fn orders() {

@@ -46,24 +46,20 @@ fn same(a: Cell, b: Cell) -> bool {
     false
 }
 
-fn moved(c: Cell, dx: u32, dy: u32) -> Cell {
-    Cell {
-        x: add(c.x, dx),
-        y: add(c.y, dy),
-    }
-}
-
 fn beside(a: Cell, b: Cell) -> bool {
-    if same(moved(a, 1, 0), b) {
-        return true;
+    if a.x == b.x {
+        if add(a.y, 1) == b.y {
+            return true;
+        }
+        return add(b.y, 1) == a.y;
     }
-    if same(moved(b, 1, 0), a) {
-        return true;
+    if a.y == b.y {
+        if add(a.x, 1) == b.x {
+            return true;
+        }
+        return add(b.x, 1) == a.x;
     }
-    if same(moved(a, 0, 1), b) {
-        return true;
-    }
-    same(moved(b, 0, 1), a)
+    false
 }
 
 // A number of its own for each cell of a panel up to 5 by 5.
@@ -91,26 +87,49 @@ fn note(best: &mut [u32], c: Cell, cells: u32) {
     }
 }
 
-// Goes on to a cell from a track of `cells` cells that are in `set`, and from there to each
-// neighbour; `best` keeps the most cells of a track that ends at each cell. No track is longer than
-// what is `left`.
+// Whether a track through the cells of `set` may go on to c.
+fn free(p: Panel, c: Cell, set: u64) -> bool {
+    if on(p, c) {
+        return !has(set, c);
+    }
+    false
+}
+
+// The neighbour of c in one of four directions.
+fn neighbour(c: Cell, direction: u32) -> Cell {
+    match direction {
+        0 => Cell {
+            x: add(c.x, 1),
+            y: c.y,
+        },
+        1 => Cell {
+            x: c.x,
+            y: add(c.y, 1),
+        },
+        2 => Cell {
+            x: less(c.x, 1),
+            y: c.y,
+        },
+        _ => Cell {
+            x: c.x,
+            y: less(c.y, 1),
+        },
+    }
+}
+
+// Goes on to c, the last of `cells` cells, where the others are in `set`, and from there in each
+// direction. `best` keeps the most cells of a track to each cell. No track has more than are `left`.
 fn visit(p: Panel, c: Cell, set: u64, cells: u32, left: u32, best: &mut [u32]) {
     if left == 0 {
         return;
     }
-    if !on(p, c) {
+    if !free(p, c, set) {
         return;
     }
-    if has(set, c) {
-        return;
+    note(best, c, cells);
+    for i in 0..4 {
+        visit(p, neighbour(c, i), with(set, c), add(cells, 1), left - 1, best);
     }
-    let more = add(cells, 1);
-    note(best, c, more);
-    let next = with(set, c);
-    visit(p, moved(c, 1, 0), next, more, left - 1, best);
-    visit(p, moved(c, 0, 1), next, more, left - 1, best);
-    visit(p, moved(c, less(0, 1), 0), next, more, left - 1, best);
-    visit(p, moved(c, 0, less(0, 1)), next, more, left - 1, best);
 }
 
 // ---- the track
@@ -196,7 +215,7 @@ fn add_pair(t: Totals, o: Order, best: &[u32]) -> Totals {
 // Each exit of an entry.
 fn add_exits(t: Totals, panel: Panel, entry: Cell) -> Totals {
     let mut best = [0u32; 36];
-    visit(panel, entry, 0, 0, 25, &mut best);
+    visit(panel, entry, 0, 1, 25, &mut best);
     let mut next = t;
     for code in 0..25 {
         let exit = Cell {
