@@ -1,0 +1,5 @@
+pub mod Lines
+pub mod Decimals
+pub mod Form
+pub mod Puts
+pub mod Answers

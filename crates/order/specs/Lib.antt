@@ -1,0 +1,4 @@
+pub mod Decimal
+pub mod Line
+pub mod Text
+pub mod Order

@@ -1,0 +1,289 @@
+// Every ordered pair of different cells on every panel up to 5 by 5: Bound's count and Draw's track
+// against a search through all tracks from the entry, which knows nothing of the router. Prints, for
+// each class, the number of pairs and the sum of their counts; then how many pairs were wrong.
+use grid::Cell;
+use grid::Panel;
+use libc::STDOUT_FILENO;
+
+struct Order {
+    panel: Panel,
+    entry: Cell,
+    exit: Cell,
+}
+
+// Pairs and cells for each class, and the wrong pairs.
+struct Totals {
+    pairs: [u32; 6],
+    cells: [u32; 6],
+    wrong: u32,
+}
+
+fn add(a: u32, b: u32) -> u32 {
+    std::num::wrapping_add_u32(a, b)
+}
+
+fn less(a: u32, b: u32) -> u32 {
+    std::num::wrapping_sub_u32(a, b)
+}
+
+fn on(p: Panel, c: Cell) -> bool {
+    if c.x == 0 {
+        return false;
+    }
+    if c.y == 0 {
+        return false;
+    }
+    if p.width < c.x {
+        return false;
+    }
+    c.y <= p.height
+}
+
+fn same(a: Cell, b: Cell) -> bool {
+    if a.x == b.x {
+        return a.y == b.y;
+    }
+    false
+}
+
+fn beside(a: Cell, b: Cell) -> bool {
+    if a.x == b.x {
+        if add(a.y, 1) == b.y {
+            return true;
+        }
+        return add(b.y, 1) == a.y;
+    }
+    if a.y == b.y {
+        if add(a.x, 1) == b.x {
+            return true;
+        }
+        return add(b.x, 1) == a.x;
+    }
+    false
+}
+
+// A number of its own for each cell of a panel up to 5 by 5.
+fn place(c: Cell) -> u32 {
+    c.y % 6 * 6 + c.x % 6
+}
+
+// A set of cells: a bit for each place.
+fn has(set: u64, c: Cell) -> bool {
+    set >> place(c) % 64 & 1 == 1
+}
+
+fn with(set: u64, c: Cell) -> u64 {
+    set | 1 << place(c) % 64
+}
+
+// ---- the search
+
+fn note(best: &mut [u32], c: Cell, cells: u32) {
+    let at = place(c) as usize;
+    if at < best.len() {
+        if best[at] < cells {
+            best[at] = cells;
+        }
+    }
+}
+
+// Whether a track through the cells of `set` may go on to c.
+fn free(p: Panel, c: Cell, set: u64) -> bool {
+    if on(p, c) {
+        return !has(set, c);
+    }
+    false
+}
+
+// The neighbour of c in one of four directions.
+fn neighbour(c: Cell, direction: u32) -> Cell {
+    match direction {
+        0 => Cell {
+            x: add(c.x, 1),
+            y: c.y,
+        },
+        1 => Cell {
+            x: c.x,
+            y: add(c.y, 1),
+        },
+        2 => Cell {
+            x: less(c.x, 1),
+            y: c.y,
+        },
+        _ => Cell {
+            x: c.x,
+            y: less(c.y, 1),
+        },
+    }
+}
+
+// Goes on to c, the last of `cells` cells, where the others are in `set`, and from there in each
+// direction. `best` keeps the most cells of a track to each cell. No track has more than are `left`.
+fn visit(p: Panel, c: Cell, set: u64, cells: u32, left: u32, best: &mut [u32]) {
+    if left == 0 {
+        return;
+    }
+    if !free(p, c, set) {
+        return;
+    }
+    note(best, c, cells);
+    for i in 0..4 {
+        visit(p, neighbour(c, i), with(set, c), add(cells, 1), left - 1, best);
+    }
+}
+
+// ---- the track
+
+fn wide(b: u8) -> u32 {
+    b as u32
+}
+
+fn byte_at(buf: &[u8], at: usize) -> u32 {
+    if at < buf.len() {
+        return wide(buf[at]);
+    }
+    0
+}
+
+fn cell_at(buf: &[u8], i: u32) -> Cell {
+    let at = 2 * (i as usize);
+    let x = byte_at(buf, at);
+    let y = byte_at(buf, at + 1);
+    Cell { x, y }
+}
+
+// Whether the first k cells of the buffer are a track of the order.
+fn is_track(buf: &[u8], o: Order, k: u32) -> bool {
+    let mut set = 0;
+    let mut last = o.entry;
+    if !same(cell_at(buf, 0), o.entry) {
+        return false;
+    }
+    for i in 0..k {
+        let c = cell_at(buf, i);
+        if !on(o.panel, c) {
+            return false;
+        }
+        if has(set, c) {
+            return false;
+        }
+        if 0 < i {
+            if !beside(last, c) {
+                return false;
+            }
+        }
+        set = with(set, c);
+        last = c;
+    }
+    same(last, o.exit)
+}
+
+// ---- the comparison
+
+// Whether Bound's count and Draw's are the search's, and the cells drawn are a track.
+fn right(o: Order, count: u32, best: &[u32]) -> bool {
+    let at = place(o.exit) as usize;
+    if best.len() <= at {
+        return false;
+    }
+    if best[at] != count {
+        return false;
+    }
+    let mut buf = [0u8; 50];
+    let a = draw::draw(o.panel, o.entry, o.exit, &mut buf);
+    if draw::count_of(a).0 != count {
+        return false;
+    }
+    is_track(&buf, o, count)
+}
+
+fn add_pair(t: Totals, o: Order, best: &[u32]) -> Totals {
+    let b = bound::bound(o.panel, o.entry, o.exit);
+    let count = bound::count_of(b).0;
+    let at = (bound::class_of(b) % 6) as usize;
+    let mut next = t;
+    let pairs = next.pairs[at];
+    let cells = next.cells[at];
+    next.pairs[at] = add(pairs, 1);
+    next.cells[at] = add(cells, count);
+    if !right(o, count, best) {
+        next.wrong = add(t.wrong, 1);
+    }
+    next
+}
+
+// Each exit of an entry.
+fn add_exits(t: Totals, panel: Panel, entry: Cell) -> Totals {
+    let mut best = [0u32; 36];
+    visit(panel, entry, 0, 1, 25, &mut best);
+    let mut next = t;
+    for code in 0..25 {
+        let exit = Cell {
+            x: code % 5 + 1,
+            y: code / 5 + 1,
+        };
+        if on(panel, exit) {
+            if !same(entry, exit) {
+                next = add_pair(next, Order { panel, entry, exit }, &best);
+            }
+        }
+    }
+    next
+}
+
+// Each entry of a panel.
+fn add_entries(t: Totals, panel: Panel) -> Totals {
+    let mut next = t;
+    for code in 0..25 {
+        let entry = Cell {
+            x: code % 5 + 1,
+            y: code / 5 + 1,
+        };
+        if on(panel, entry) {
+            next = add_exits(next, panel, entry);
+        }
+    }
+    next
+}
+
+fn all_panels() -> Totals {
+    let mut t = Totals {
+        pairs: [0; 6],
+        cells: [0; 6],
+        wrong: 0,
+    };
+    for code in 0..25 {
+        let panel = Panel {
+            width: code % 5 + 1,
+            height: code / 5 + 1,
+        };
+        t = add_entries(t, panel);
+    }
+    t
+}
+
+fn print(text: &[u8], k: u32) {
+    io::write_all(STDOUT_FILENO, text);
+    io::print_decimal(STDOUT_FILENO, k as u64);
+}
+
+fn print_class(t: Totals, class: usize) {
+    if 6 <= class {
+        return;
+    }
+    print(b"class ", (class % 6) as u32);
+    print(b": pairs ", t.pairs[class]);
+    print(b", cells ", t.cells[class]);
+    io::write_all(STDOUT_FILENO, b"\n");
+}
+
+fn main() {
+    let t = all_panels();
+    print_class(t, 1);
+    print_class(t, 2);
+    print_class(t, 3);
+    print_class(t, 4);
+    print_class(t, 5);
+    print(b"wrong ", t.wrong);
+    io::write_all(STDOUT_FILENO, b"\n");
+}
