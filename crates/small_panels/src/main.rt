@@ -128,7 +128,14 @@ fn visit(p: Panel, c: Cell, set: u64, cells: u32, left: u32, best: &mut [u32]) {
     }
     note(best, c, cells);
     for i in 0..4 {
-        visit(p, neighbour(c, i), with(set, c), add(cells, 1), left - 1, best);
+        visit(
+            p,
+            neighbour(c, i),
+            with(set, c),
+            add(cells, 1),
+            left - 1,
+            best,
+        );
     }
 }
 

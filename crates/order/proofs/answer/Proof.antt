@@ -12,45 +12,31 @@ use Rattle.order.proofs.Answers.{refused-room, printed, line-is}
 use borrow.Author.Needs.{needs}
 use Rattle.order.proofs.answer.Statement.{statement}
 use Rattle.order.proofs.answer.Tie as tie
-use Rattle.order.proofs.answer.Reads as reads
-use Rattle.order.proofs.answer.Lts as lts
-use Rattle.grid.proofs.number_of.Reads as number-of-reads
-use Rattle.order.proofs.answer_order.Reads as answer-order-reads
-use Rattle.order.proofs.read.read_line.Reads as read-line-reads
-use Rattle.order.proofs.write.put_refused.Reads as put-refused-reads
 
--- src/lib.rt:102:9
 read-line-requires : tie.Need-read-line-requires
 read-line-requires c κs = search needs
 
--- src/lib.rt:104:52
 enum-told : tie.Need-enum-told
 enum-told c = search needs
 
--- src/lib.rt:104:36
 number-of-requires : tie.Need-number-of-requires
 number-of-requires c κs = search needs
 
--- src/lib.rt:104:24
 put-refused-requires : tie.Need-put-refused-requires
 put-refused-requires c κs = let s = c .before .before .before .before .before .before in refused-room (c .before .number-of .result) (length (now (s .args .out))) (omega (arith, c .before .number-of .ok)) (omega arith)
 
--- src/lib.rt:105:21
 enum-known-line : tie.Need-enum-known-line
 enum-known-line c = search needs
 
--- src/lib.rt:105:33
 answer-order-requires : tie.Need-answer-order-requires
 answer-order-requires c κs = search needs
 
--- src/lib.rt:99:1
 returns : tie.Need-returns
 returns c =
     let s = c .before .before .before .before .before .before .before in
     line-is (sym (c .before .before .before .enum-told .given .1) ∙ c .before .before .before .before .before .read-line .ensures)
     (printed (textOf Other) [] tt (puts-is (now (s .args .out)) 0 (ap refusedText (c .before .before .number-of .ensures)) (c .put-refused .ensures)))
 
--- src/lib.rt:99:1
 returns-2 : tie.Need-returns-2
 returns-2 c = line-is (sym (c .before .before .before .line .given .1) ∙ c .before .before .before .before .before .read-line .ensures) (c .answer-order .ensures)
 

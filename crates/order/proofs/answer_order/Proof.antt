@@ -14,56 +14,40 @@ use Rattle.order.proofs.Answers.{refused-room, found-good, printed, bou
 use borrow.Author.Needs.{needs}
 use Rattle.order.proofs.answer_order.Statement.{statement}
 use Rattle.order.proofs.answer_order.Tie as tie
-use Rattle.order.proofs.answer_order.Reads as reads
-use Rattle.order.proofs.answer_order.Lts as lts
-use Rattle.bound.proofs.bound.Reads as bound-reads
-use Rattle.grid.proofs.number_of.Reads as number-of-reads
-use Rattle.order.proofs.answer_found.Reads as answer-found-reads
-use Rattle.order.proofs.write.put_refused.Reads as put-refused-reads
 
--- src/lib.rt:91:9
 bound-requires : tie.Need-bound-requires
 bound-requires c κs = search needs
 
--- src/lib.rt:93:26
 enum-known-b : tie.Need-enum-known-b
 enum-known-b c = search needs
 
--- src/lib.rt:93:44
 number-of-requires : tie.Need-number-of-requires
 number-of-requires c κs = search needs
 
--- src/lib.rt:93:32
 put-refused-requires : tie.Need-put-refused-requires
 put-refused-requires c κs = let s = c .before .before .before .before .before .before .before in refused-room (c .before .number-of .result) (length (now (s .args .out))) (omega (arith, c .before .number-of .ok)) (s .pre)
 
--- src/lib.rt:94:24
 enum-known-b-2 : tie.Need-enum-known-b-2
 enum-known-b-2 c = search needs
 
--- src/lib.rt:94:34
 answer-found-requires : tie.Need-answer-found-requires
 answer-found-requires c κs =
     let s = c .before .before .before .before .before .before in
     let g = found-good (checkOrder (s .args .p) (s .args .s) (s .args .t)) (classCount (s .args .p) (s .args .s) (s .args .t)) (c .before .before .b2 .given .0 .0) (sym (c .before .before .before .before .bound .ensures) ∙ c .before .before .b2 .given .1) in
     (g .0, (g .1, s .pre))
 
--- src/lib.rt:87:1
 same-length : tie.Need-same-length
 same-length c = search needs
 
--- src/lib.rt:87:1
 returns : tie.Need-returns
 returns c =
     let s = c .before .before .before .before .before .before .before .before .before .before in
     bound-is (s .args .p) (s .args .s) (s .args .t) (sym (c .before .before .before .before .before .before .b .given .1) ∙ c .before .before .before .before .before .before .before .before .bound .ensures)
     (printed (boundText (Refused (c .before .before .before .before .before .before .b .given .0 .0))) [] tt (puts-is (now (s .args .out)) 0 (ap refusedText (c .before .before .before .before .number-of .ensures)) (c .before .before .put-refused .ensures)))
 
--- src/lib.rt:87:1
 same-length-2 : tie.Need-same-length-2
 same-length-2 c = search needs
 
--- src/lib.rt:87:1
 returns-2 : tie.Need-returns-2
 returns-2 c =
     let s = c .before .before .before .before .before .before .before .before .before in

@@ -15,12 +15,6 @@ use Rattle.order.proofs.Answers.{answer-room, count-bound, record-lette
 use borrow.Author.Needs.{needs}
 use Rattle.order.proofs.put_track.Statement.{statement}
 use Rattle.order.proofs.put_track.Tie as tie
-use Rattle.order.proofs.put_track.Reads as reads
-use Rattle.order.proofs.put_track.Lts as lts
-use Rattle.grid.proofs.steps_of.Reads as steps-of-reads
-use Rattle.order.proofs.record_buffer.Reads as record-buffer-reads
-use Rattle.order.proofs.write.put_answer.Reads as put-answer-reads
-use Rattle.record.proofs.write.Reads as write-reads
 
 some : (s : tie.Start) → 1 ≤ s .args .found .count .0
 some s = omega (arith, list-good (s .args .p) (now (s .args .list)) (s .pre .0) .some, s .pre .1 .0)
@@ -47,43 +41,33 @@ fewer c =
     let l = cellsIn (now (s .args .list)) in
     omega (arith, ap length (letters c), length-letters l, steps-and-one l (omega (arith, some s, s .pre .1 .0)), few s, s .pre .1 .0)
 
--- src/lib.rt:67:20
 record-buffer-requires : tie.Need-record-buffer-requires
 record-buffer-requires c κs = search needs
 
--- src/lib.rt:68:28
 slice-aggregate-write : tie.Need-slice-aggregate-write
 slice-aggregate-write c = search needs
 
--- src/lib.rt:68:5
 write-requires : tie.Need-write-requires
 write-requires c κs = search needs
 
--- src/lib.rt:69:9
 steps-of-requires : tie.Need-steps-of-requires
 steps-of-requires c κs = some (c .before .before .before .before .before .before)
 
--- src/lib.rt:70:22
 cast-end : tie.Need-cast-end
 cast-end c = search needs
 
--- src/lib.rt:70:15
 add-end : tie.Need-add-end
 add-end c = search needs
 
--- src/lib.rt:71:42
 sub-put-answer : tie.Need-sub-put-answer
 sub-put-answer c = search needs
 
--- src/lib.rt:71:42
 part-put-answer-start : tie.Need-part-put-answer-start
 part-put-answer-start c = search needs
 
--- src/lib.rt:71:42
 part-put-answer-end : tie.Need-part-put-answer-end
 part-put-answer-end c = omega (arith, size (c .before .before .before .before), few (c .before .before .before .before .before .before .before .before .before), c .before .before .steps-of .ensures)
 
--- src/lib.rt:71:5
 put-answer-requires : tie.Need-put-answer-requires
 put-answer-requires c κs =
     let d = c .before .before .before .before in
@@ -93,11 +77,9 @@ put-answer-requires c κs =
       answer-room (s .args .found .class) (s .args .found .count .0) (take (headLength + d .steps-of .result .0 - headLength) (drop headLength (d .before .before .write .last .1 .1 .0))) (length (now (s .args .out))) (s .pre .1 .1 .0) (few s) (fewer d) (s .pre .1 .1 .1),
     )
 
--- src/lib.rt:61:1
 same-length : tie.Need-same-length
 same-length c = search needs
 
--- src/lib.rt:61:1
 returns : tie.Need-returns
 returns c =
     let d = c .before .before .before .before .before .before .before in

@@ -1,16 +1,13 @@
+-- By the two tests.
 use borrow.Author.Tests.{le-leb, lt-leb}
 use mathlib.Core.Path.{refl}
 use Rattle.grid.proofs.Tests.{and-yes, and-no}
 use Rattle.order.proofs.read.is_digit.Statement.{statement}
 use Rattle.order.proofs.read.is_digit.Tie as tie
-use Rattle.order.proofs.read.is_digit.Reads as reads
-use Rattle.order.proofs.read.is_digit.Lts as lts
 
--- src/read.rt:22:1
 returns : tie.Need-returns
 returns c = and-yes _ (le-leb _ _ (c .if1 .taken)) refl
 
--- src/read.rt:22:1
 returns-2 : tie.Need-returns-2
 returns-2 c = and-no _ (lt-leb _ _ (c .if1 .left))
 

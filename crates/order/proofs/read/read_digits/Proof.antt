@@ -12,10 +12,6 @@ use Rattle.order.specs.Line.{Parsed, largest, ended, moreDigits}
 use Rattle.order.proofs.Lines.{digit-low, digit-high, digits-end, digits-stop, digits-more, too-large}
 use Rattle.order.proofs.read.read_digits.Statement.{statement}
 use Rattle.order.proofs.read.read_digits.Tie as tie
-use Rattle.order.proofs.read.read_digits.Reads as reads
-use Rattle.order.proofs.read.read_digits.Lts as lts
-use Rattle.order.proofs.read.is_digit.Reads as is-digit-reads
-use Rattle.order.proofs.read.read_end.Reads as read-end-reads
 
 abbrev Inv-loop : tie.InvT-loop
 Inv-loop input v from end sum₀ i₀ sum i = (sum ≤ largest) × (ended end (moreDigits sum (drop i input)) ≡ ended end (moreDigits v (drop from input)))
@@ -43,27 +39,21 @@ again c =
     let a = at-loop .before .before .args in
     ap (ended (a .end)) (digits-more (at-loop .loop .sum) (now (a .input)) (at-loop .loop .i) (c .before .before .before .loop-test .taken) (digit c)) ∙ at-loop .loop .inv .1
 
--- src/read.rt:48:5
 loop-holds : tie.Need-loop-holds Inv-loop μ-loop
 loop-holds c = (omega arith, refl)
 
--- src/read.rt:49:17
 shared-slice-read-b : tie.Need-shared-slice-read-b Inv-loop μ-loop
 shared-slice-read-b c = search needs
 
--- src/read.rt:50:13
 is-digit-requires : tie.Need-is-digit-requires Inv-loop μ-loop
 is-digit-requires c κs = search needs
 
--- src/read.rt:51:36
 cast-read-end : tie.Need-cast-read-end Inv-loop μ-loop
 cast-read-end c = omega arith
 
--- src/read.rt:51:13
 read-end-requires : tie.Need-read-end-requires Inv-loop μ-loop
 read-end-requires c κs = search needs
 
--- src/read.rt:51:13
 returns : tie.Need-returns Inv-loop μ-loop
 returns c =
     let in-loop = c .before .before .before .before in
@@ -72,50 +62,39 @@ returns c =
     let other = sym (c .before .before .is-digit .ensures) ∙ not-true _ (c .before .if1 .taken) in
     c .read-end .ensures ∙ ap (ended (a .end)) (digits-stop (at-loop .loop .sum) (now (a .input)) (at-loop .loop .i) (in-loop .loop-test .taken) other) ∙ at-loop .loop .inv .1
 
--- src/read.rt:53:15
 mul-sum : tie.Need-mul-sum Inv-loop μ-loop
 mul-sum c = omega arith
 
--- src/read.rt:53:27
 sub-sum : tie.Need-sub-sum Inv-loop μ-loop
 sub-sum c = digit-low _ (digit c)
 
--- src/read.rt:53:26
 cast-sum : tie.Need-cast-sum Inv-loop μ-loop
 cast-sum c = omega (arith, high c)
 
--- src/read.rt:53:15
 add-sum : tie.Need-add-sum Inv-loop μ-loop
 add-sum c = omega (arith, high c)
 
--- src/read.rt:55:13
 returns-2 : tie.Need-returns-2 Inv-loop μ-loop
 returns-2 c =
     let at-loop = c .before .before .before .before .before in
     let a = at-loop .before .before .args in
     too-large (a .end) _ (drop (at-loop .loop .i + 1) (now (a .input))) (c .if2 .taken) ∙ again (c .before)
 
--- src/read.rt:57:9
 add-i : tie.Need-add-i Inv-loop μ-loop
 add-i c = omega arith
 
--- src/read.rt:48:5
 loop-less : tie.Need-loop-less Inv-loop μ-loop
 loop-less c = omega arith
 
--- src/read.rt:48:5
 loop-again : tie.Need-loop-again Inv-loop μ-loop
 loop-again c = (c .if2 .left, again (c .before))
 
--- src/read.rt:59:21
 cast-read-end-2 : tie.Need-cast-read-end-2 Inv-loop μ-loop
 cast-read-end-2 c = omega arith
 
--- src/read.rt:59:5
 read-end-requires-2 : tie.Need-read-end-requires-2 Inv-loop μ-loop
 read-end-requires-2 c κs = search needs
 
--- src/read.rt:43:1
 returns-3 : tie.Need-returns-3 Inv-loop μ-loop
 returns-3 c =
     let at-loop = c .before .before in

@@ -1,29 +1,23 @@
+-- By the byte at the position.
 use native.Mathlib.Omega.{arith}
 use denote.Ref.{now}
 use Rattle.order.proofs.Lines.{end-none, end-here, end-other}
 use borrow.Author.Needs.{needs}
 use Rattle.order.proofs.read.read_end.Statement.{statement}
 use Rattle.order.proofs.read.read_end.Tie as tie
-use Rattle.order.proofs.read.read_end.Reads as reads
-use Rattle.order.proofs.read.read_end.Lts as lts
 
--- src/read.rt:33:9
 returns : tie.Need-returns
 returns c = let a = c .before .args in end-none (a .end) (a .v) (now (a .input)) (a .i) (c .if1 .taken)
 
--- src/read.rt:35:8
 shared-slice-read-if2 : tie.Need-shared-slice-read-if2
 shared-slice-read-if2 c = search needs
 
--- src/read.rt:36:33
 add-t9 : tie.Need-add-t9
 add-t9 c = search needs
 
--- src/read.rt:36:9
 returns-2 : tie.Need-returns-2
 returns-2 c = let a = c .before .before .before .args in end-here (a .end) (a .v) (now (a .input)) (a .i) (omega arith) (c .before .before .if1 .left) (c .if2 .taken)
 
--- src/read.rt:29:1
 returns-3 : tie.Need-returns-3
 returns-3 c = let a = c .before .before .before .args in end-other (a .end) (a .v) (now (a .input)) (a .i) (omega arith) (c .before .before .if1 .left) (c .if2 .left)
 

@@ -1,3 +1,4 @@
+-- By the first byte: none, 0, another byte or a digit.
 use borrow.Author.Tests.{not-true, not-false}
 use mathlib.Core.Path.{_≡_, sym, _∙_}
 use mathlib.Core.Bool.{true}
@@ -9,64 +10,47 @@ use Rattle.order.proofs.Lines.{digit-low, digit-high, field-none, field
 use borrow.Author.Needs.{needs}
 use Rattle.order.proofs.read.read_field.Statement.{statement}
 use Rattle.order.proofs.read.read_field.Tie as tie
-use Rattle.order.proofs.read.read_field.Reads as reads
-use Rattle.order.proofs.read.read_field.Lts as lts
-use Rattle.order.proofs.read.is_digit.Reads as is-digit-reads
-use Rattle.order.proofs.read.read_digits.Reads as read-digits-reads
-use Rattle.order.proofs.read.read_end.Reads as read-end-reads
 
 digit : (c : tie.Else3) → isDigit (getD (now (c .before .before .before .before .before .before .args .input)) (c .before .before .before .before .before .before .args .from) 0) ≡ true
 digit c = sym (c .before .is-digit .ensures) ∙ not-false _ (c .if3 .left)
 
--- src/read.rt:67:9
 returns : tie.Need-returns
 returns c = let a = c .before .before .args in field-none (a .end) (now (a .input)) (a .from) (c .if1 .taken)
 
--- src/read.rt:69:13
 shared-slice-read-b : tie.Need-shared-slice-read-b
 shared-slice-read-b c = search needs
 
--- src/read.rt:71:35
 add-read-end : tie.Need-add-read-end
 add-read-end c = search needs
 
--- src/read.rt:71:9
 read-end-requires : tie.Need-read-end-requires
 read-end-requires c κs = search needs
 
--- src/read.rt:71:9
 returns-2 : tie.Need-returns-2
 returns-2 c =
     let a = c .before .before .before .before .before .args in
     c .read-end .ensures ∙ field-zero (a .end) (now (a .input)) (a .from) (c .before .before .before .if1 .left) (c .before .if2 .taken)
 
--- src/read.rt:73:9
 is-digit-requires : tie.Need-is-digit-requires
 is-digit-requires c κs = search needs
 
--- src/read.rt:74:9
 returns-3 : tie.Need-returns-3
 returns-3 c =
     let a = c .before .before .before .before .before .before .args in
     field-other (a .end) (now (a .input)) (a .from) (c .before .before .before .before .if1 .left) (c .before .before .if2 .left) (sym (c .before .is-digit .ensures) ∙ not-true _ (c .if3 .taken))
 
--- src/read.rt:76:25
 sub-read-digits : tie.Need-sub-read-digits
 sub-read-digits c = digit-low _ (digit c)
 
--- src/read.rt:76:24
 cast-read-digits : tie.Need-cast-read-digits
 cast-read-digits c = let a = c .before .before .before .before .before .before .args in omega (arith, digit-high (getD (now (a .input)) (a .from) 0) (digit c))
 
--- src/read.rt:76:43
 add-read-digits : tie.Need-add-read-digits
 add-read-digits c = search needs
 
--- src/read.rt:76:5
 read-digits-requires : tie.Need-read-digits-requires
 read-digits-requires c κs = search needs
 
--- src/read.rt:63:1
 returns-4 : tie.Need-returns-4
 returns-4 c =
     let at = c .before in

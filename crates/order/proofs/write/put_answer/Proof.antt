@@ -11,11 +11,6 @@ use Rattle.order.proofs.Puts.{room-first, room, puts-both}
 use borrow.Author.Needs.{needs}
 use Rattle.order.proofs.write.put_answer.Statement.{statement}
 use Rattle.order.proofs.write.put_answer.Tie as tie
-use Rattle.order.proofs.write.put_answer.Reads as reads
-use Rattle.order.proofs.write.put_answer.Lts as lts
-use Rattle.order.proofs.write.put_byte.Reads as put-byte-reads
-use Rattle.order.proofs.write.put_bytes.Reads as put-bytes-reads
-use Rattle.order.proofs.write.put_counts.Reads as put-counts-reads
 
 abbrev counts : tie.Start → List ℕ
 counts s = countsText (s .args .class) (s .args .cells .0)
@@ -39,37 +34,30 @@ after-counts c =
     let s = d .before .before .before .before .before in
     room (d .put-bytes .last .1 .0) (d .put-bytes .result) (counts s) (line s) refl (after-heading d) (c .put-counts .ensures)
 
--- src/write.rt:95:23
 slice-aggregate-put-bytes : tie.Need-slice-aggregate-put-bytes
 slice-aggregate-put-bytes c = search needs
 
--- src/write.rt:95:9
 put-bytes-requires : tie.Need-put-bytes-requires
 put-bytes-requires c κs = search needs
 
--- src/write.rt:96:9
 put-counts-requires : tie.Need-put-counts-requires
 put-counts-requires c κs = let s = c .before .before .before .before .before .before .before .before in let d = c .before .before .before in (s .pre .0, s .pre .1, room-first (d .put-bytes .last .1 .0) (d .put-bytes .result) (counts s) (line s) refl (after-heading d))
 
--- src/write.rt:97:9
 put-bytes-requires-2 : tie.Need-put-bytes-requires-2
 put-bytes-requires-2 c κs =
     let d = c .before .before .before in
     let s = d .before .before .before .before .before .before .before .before .before in
     room-first (d .put-counts .last .1 .1 .0) (d .put-counts .result) (now (s .args .letters)) (lineFeed ∷ []) refl (after-counts d)
 
--- src/write.rt:98:5
 put-byte-requires : tie.Need-put-byte-requires
 put-byte-requires c κs =
     let d = c .before .before .before .before .before .before .before in
     let s = d .before .before .before .before .before .before .before .before .before in
     room (d .put-counts .last .1 .1 .0) (d .put-counts .result) (now (s .args .letters)) (lineFeed ∷ []) refl (after-counts d) (c .before .before .before .put-bytes2 .ensures)
 
--- src/write.rt:91:1
 same-length : tie.Need-same-length
 same-length c = search needs
 
--- src/write.rt:91:1
 returns : tie.Need-returns
 returns c =
     let third = c .before .before .before .before .before .before in

@@ -11,8 +11,6 @@ use Rattle.order.specs.Text.{put, Put}
 use Rattle.order.proofs.Puts.{put-none, put-next, length-put}
 use Rattle.order.proofs.write.put_bytes.Statement.{statement}
 use Rattle.order.proofs.write.put_bytes.Tie as tie
-use Rattle.order.proofs.write.put_bytes.Reads as reads
-use Rattle.order.proofs.write.put_bytes.Lts as lts
 
 abbrev Inv-loop : tie.InvT-loop
 Inv-loop text out₀ at i₀ out i = (i ≤ length text) × (out ≡ put out₀ at (take i text))
@@ -26,31 +24,24 @@ size c =
     let some = length-take-le (c .loop .i) (now (a .text)) (c .loop .inv .0) in
     ap length (c .loop .inv .1) ∙ length-put (now (a .out)) (a .at) (take (c .loop .i) (now (a .text))) (omega arith)
 
--- src/write.rt:28:5
 loop-holds : tie.Need-loop-holds Inv-loop μ-loop
 loop-holds c = let a = c .args in (omega arith, put-none (now (a .out)) (a .at))
 
--- src/write.rt:29:23
 shared-slice-read-out : tie.Need-shared-slice-read-out Inv-loop μ-loop
 shared-slice-read-out c = search needs
 
--- src/write.rt:29:13
 add-out : tie.Need-add-out Inv-loop μ-loop
 add-out c = omega arith
 
--- src/write.rt:29:9
 slice-write-out : tie.Need-slice-write-out Inv-loop μ-loop
 slice-write-out c = omega (arith, size (c .before .before))
 
--- src/write.rt:30:9
 add-i : tie.Need-add-i Inv-loop μ-loop
 add-i c = omega arith
 
--- src/write.rt:28:5
 loop-less : tie.Need-loop-less Inv-loop μ-loop
 loop-less c = omega arith
 
--- src/write.rt:28:5
 loop-again : tie.Need-loop-again Inv-loop μ-loop
 loop-again c =
     let at-loop = c .before .before in
@@ -61,15 +52,12 @@ loop-again c =
           ∙ put-next (now (a .out)) (a .at) (now (a .text)) (at-loop .loop .i) (c .before .loop-test .taken) (start .pre),
     )
 
--- src/write.rt:32:5
 add-result : tie.Need-add-result Inv-loop μ-loop
 add-result c = omega (arith, size (c .before))
 
--- src/write.rt:23:1
 same-length : tie.Need-same-length Inv-loop μ-loop
 same-length c = size (c .before)
 
--- src/write.rt:23:1
 returns : tie.Need-returns Inv-loop μ-loop
 returns c =
     let a = c .before .before .args in

@@ -1,3 +1,4 @@
+-- Two numbers, and two behind them: the steps are one fewer than the cells.
 use Prim.Native.Nat.{_-_}
 use mathlib.Core.Path.{_≡_, refl}
 use mathlib.Core.List.{[], _++_}
@@ -9,11 +10,6 @@ use Rattle.order.proofs.Puts.{counts-and, room-first, room, puts-both}
 use borrow.Author.Needs.{needs}
 use Rattle.order.proofs.write.put_counts.Statement.{statement}
 use Rattle.order.proofs.write.put_counts.Tie as tie
-use Rattle.order.proofs.write.put_counts.Reads as reads
-use Rattle.order.proofs.write.put_counts.Lts as lts
-use Rattle.grid.proofs.steps_of.Reads as steps-of-reads
-use Rattle.order.proofs.write.put_two.Reads as put-two-reads
-use Rattle.order.proofs.write.squares_of.Reads as squares-of-reads
 
 -- the line is what was put first and what is put behind it
 whole : (c : tie.After-squares-of) →
@@ -25,27 +21,21 @@ whole c =
     let steps : c .before .steps-of .result .0 ≡ a .cells .0 - 1 = omega (arith, c .before .steps-of .ensures) in
     counts-and (a .class) (a .cells .0) steps (c .squares-of .ensures)
 
--- src/write.rt:85:9
 put-two-requires : tie.Need-put-two-requires
 put-two-requires c κs = let s = c .before .before in room-first (now (s .args .out)) (s .args .at) (fieldOf (s .args .class) blank (fieldOf (s .args .cells .0) blank [])) _ (counts-and (s .args .class) (s .args .cells .0) refl refl) (s .pre .2)
 
--- src/write.rt:86:9
 steps-of-requires : tie.Need-steps-of-requires
 steps-of-requires c κs = search needs
 
--- src/write.rt:87:22
 squares-of-requires : tie.Need-squares-of-requires
 squares-of-requires c κs = search needs
 
--- src/write.rt:87:5
 put-two-requires-2 : tie.Need-put-two-requires-2
 put-two-requires-2 c κs = let s = c .before .before .before .before .before .before .before .before in room (now (s .args .out)) (s .args .at) (fieldOf (s .args .class) blank (fieldOf (s .args .cells .0) blank [])) _ (whole (c .before)) (s .pre .2) (c .before .before .before .before .before .put-two .ensures)
 
--- src/write.rt:81:1
 same-length : tie.Need-same-length
 same-length c = search needs
 
--- src/write.rt:81:1
 returns : tie.Need-returns
 returns c = let s = c .before .before .before .before .before .before .before .before .before .before .before in puts-both (now (s .args .out)) (s .args .at) (fieldOf (s .args .class) blank (fieldOf (s .args .cells .0) blank [])) _ (whole (c .before .before .before .before)) (s .pre .2) (c .before .before .before .before .before .before .before .before .put-two .ensures) (c .before .before .put-two2 .ensures)
 

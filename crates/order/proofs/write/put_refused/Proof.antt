@@ -1,3 +1,4 @@
+-- The word, and the number with its line feed behind it.
 use mathlib.Core.Path.{refl}
 use mathlib.Core.List.{[]}
 use native.Mathlib.Omega.{arith}
@@ -8,28 +9,19 @@ use Rattle.order.proofs.Puts.{puts-both}
 use borrow.Author.Needs.{needs}
 use Rattle.order.proofs.write.put_refused.Statement.{statement}
 use Rattle.order.proofs.write.put_refused.Tie as tie
-use Rattle.order.proofs.write.put_refused.Reads as reads
-use Rattle.order.proofs.write.put_refused.Lts as lts
-use Rattle.order.proofs.write.put_bytes.Reads as put-bytes-reads
-use Rattle.order.proofs.write.put_field.Reads as put-field-reads
 
--- src/write.rt:60:24
 slice-aggregate-put-bytes : tie.Need-slice-aggregate-put-bytes
 slice-aggregate-put-bytes c = search needs
 
--- src/write.rt:60:9
 put-bytes-requires : tie.Need-put-bytes-requires
 put-bytes-requires c κs = search needs
 
--- src/write.rt:61:5
 put-field-requires : tie.Need-put-field-requires
 put-field-requires c κs = search needs
 
--- src/write.rt:56:1
 same-length : tie.Need-same-length
 same-length c = search needs
 
--- src/write.rt:56:1
 returns : tie.Need-returns
 returns c = let s = c .before .before .before .before .before .before .before .before .before .before in puts-both (now (s .args .out)) 0 refusedWord (fieldOf (s .args .n) lineFeed []) refl (omega (arith, s .pre)) (c .before .before .before .before .before .before .put-bytes .ensures) (c .before .before .put-field .ensures)
 

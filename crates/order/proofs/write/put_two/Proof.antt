@@ -1,3 +1,4 @@
+-- One number, and the other behind it.
 use mathlib.Core.List.{[]}
 use denote.Ref.{now}
 use Rattle.order.specs.Line.{blank, fieldOf}
@@ -5,23 +6,16 @@ use Rattle.order.proofs.Puts.{field-and, room-first, room, puts-both}
 use borrow.Author.Needs.{needs}
 use Rattle.order.proofs.write.put_two.Statement.{statement}
 use Rattle.order.proofs.write.put_two.Tie as tie
-use Rattle.order.proofs.write.put_two.Reads as reads
-use Rattle.order.proofs.write.put_two.Lts as lts
-use Rattle.order.proofs.write.put_field.Reads as put-field-reads
 
--- src/write.rt:77:9
 put-field-requires : tie.Need-put-field-requires
 put-field-requires c κs = let s = c .before .before in room-first (now (s .args .out)) (s .args .at) (fieldOf (s .args .a) blank []) (fieldOf (s .args .b) (s .args .end) []) (field-and (s .args .a) blank _) (s .pre)
 
--- src/write.rt:78:5
 put-field-requires-2 : tie.Need-put-field-requires-2
 put-field-requires-2 c κs = let s = c .before .before .before .before .before .before in room (now (s .args .out)) (s .args .at) (fieldOf (s .args .a) blank []) (fieldOf (s .args .b) (s .args .end) []) (field-and (s .args .a) blank _) (s .pre) (c .before .before .before .put-field .ensures)
 
--- src/write.rt:73:1
 same-length : tie.Need-same-length
 same-length c = search needs
 
--- src/write.rt:73:1
 returns : tie.Need-returns
 returns c = let s = c .before .before .before .before .before .before .before .before .before in puts-both (now (s .args .out)) (s .args .at) (fieldOf (s .args .a) blank []) (fieldOf (s .args .b) (s .args .end) []) (field-and (s .args .a) blank _) (s .pre) (c .before .before .before .before .before .before .put-field .ensures) (c .before .before .put-field2 .ensures)
 

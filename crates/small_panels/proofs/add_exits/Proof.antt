@@ -1,0 +1,72 @@
+-- The measure is what is left of the cells; the list of the best keeps its length.
+use Prim.Native.Nat.{_-_, _≤_}
+use mathlib.Core.Path.{_≡_}
+use lib.ListN.{length}
+use borrow.Author.Needs.{needs}
+use Rattle.small_panels.proofs.add_exits.Statement.{statement}
+use Rattle.small_panels.proofs.add_exits.Tie as tie
+
+abbrev Inv-loop : tie.InvT-loop
+Inv-loop panel entry best next₀ code₀ next code = (code ≤ 25) × (length best ≡ 36)
+
+abbrev μ-loop : tie.MeasureT-loop
+μ-loop panel entry best next₀ code₀ next code = 25 - code
+
+slice-aggregate-visit : tie.Need-slice-aggregate-visit Inv-loop μ-loop
+slice-aggregate-visit c = search needs
+
+visit-requires : tie.Need-visit-requires Inv-loop μ-loop
+visit-requires c κs = search needs
+
+loop-holds : tie.Need-loop-holds Inv-loop μ-loop
+loop-holds c = search needs
+
+add-t13 : tie.Need-add-t13 Inv-loop μ-loop
+add-t13 c = search needs
+
+add-t15 : tie.Need-add-t15 Inv-loop μ-loop
+add-t15 c = search needs
+
+on-requires : tie.Need-on-requires Inv-loop μ-loop
+on-requires c κs = search needs
+
+same-requires : tie.Need-same-requires Inv-loop μ-loop
+same-requires c κs = search needs
+
+slice-aggregate-add-pair : tie.Need-slice-aggregate-add-pair Inv-loop μ-loop
+slice-aggregate-add-pair c = search needs
+
+add-pair-requires : tie.Need-add-pair-requires Inv-loop μ-loop
+add-pair-requires c κs = search needs
+
+add-code : tie.Need-add-code Inv-loop μ-loop
+add-code c = search needs
+
+loop-less : tie.Need-loop-less Inv-loop μ-loop
+loop-less c = search needs
+
+loop-again : tie.Need-loop-again Inv-loop μ-loop
+loop-again c = search needs
+
+returns : tie.Need-returns Inv-loop μ-loop
+returns c = search needs
+
+pub add-exits-spec : {M : Type 1} → statement M
+add-exits-spec =
+    tie.close
+    (tie.spec
+    Inv-loop
+    μ-loop
+    slice-aggregate-visit
+    visit-requires
+    loop-holds
+    add-t13
+    add-t15
+    on-requires
+    same-requires
+    slice-aggregate-add-pair
+    add-pair-requires
+    add-code
+    loop-less
+    loop-again
+    returns)
