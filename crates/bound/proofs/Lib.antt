@@ -1,2 +1,3 @@
 pub mod Tests
 pub mod Sizes
+pub mod Colours

@@ -7,12 +7,12 @@ use grid::Check;
 use grid::Panel;
 use grid::Refusal;
 ghost use mathlib.Core.Path.{_≡_};
-ghost use mathlib.Core.Bool.{not, _&&_, _||_};
-ghost use Prim.Native.Nat.{_≤_, _+_, _-_, _*_, max};
+ghost use mathlib.Core.Bool.{cond, not, _&&_, _||_};
+ghost use Prim.Native.Nat.{_≤_, _+_, _-_, _*_, _%_, min, max};
 ghost use lib.Dec.{leb, eqb};
 ghost use Rattle.grid.specs.Panel.{OnPanel, maxSide, black, turned, turnedCell};
 ghost use Rattle.grid.proofs.Facts.{Good};
-ghost use Rattle.count.specs.Count.{area, odd, endCell, f1, f2, f3, c2, c0, decided, named, classCount};
+ghost use Rattle.count.specs.Count.{area, odd, endCell, f1, f2, f3, c0, found, decided, named, classCount};
 ghost use Rattle.bound.specs.Bound.{boundOf, numberOf, classOf, countOf};
 
 // What Bound answers.
@@ -135,45 +135,28 @@ fn is_f3(p: Panel, s: Cell, t: Cell) -> bool
     f3_apart(s, t)
 }
 
-// mn is odd and both terminals are black.
-fn odd_and_black(p: Panel, s: Cell, t: Cell) -> bool
-    requires { ⌜ Good p ⌝ }
-    ensures { λ r. ⌜ r ≡ (odd (area p) && (black s && black t)) ⌝ }
+// The cells lost to the colours: if mn is odd one for each black terminal, else one if both are alike.
+fn lost(area: u32, blacks: u32) -> u32
+    ensures { λ r. ⌜ r ≡ cond (odd area) blacks (1 - blacks % 2) ⌝ }
 {
-    if !is_odd(area_of(p)) {
-        return false;
-    }
-    if is_black(s) {
-        return is_black(t);
-    }
-    false
+    if is_odd(area) { blacks } else { 1 - blacks % 2 }
 }
 
-fn is_c2(p: Panel, s: Cell, t: Cell) -> bool
+// The classes 3, 4 and, F3 aside, 5: they lose 0, 1 and 2 cells. Computed without a jump: on random
+// orders the colours would be mispredicted.
+fn by_colour(p: Panel, s: Cell, t: Cell) -> ClassCount
     requires { ⌜ Good p ⌝ }
-    requires { ⌜ s .x ≤ maxSide ⌝ }
-    ensures { λ r. ⌜ r ≡ c2 p s t ⌝ }
+    requires { ⌜ OnPanel p s ⌝ }
+    requires { ⌜ OnPanel p t ⌝ }
+    ensures { λ r. ⌜ r ≡ cond (odd (area p) && (black s && black t)) (found 5 (area p - 2)) (cond (c0 p s t) (found 3 (area p)) (found 4 (area p - 1))) ⌝ }
 {
-    if odd_and_black(p, s, t) {
-        return true;
+    let area = area_of(p);
+    let blacks = (s.x + s.y) % 2 + (t.x + t.y) % 2;
+    let k = lost(area, blacks);
+    ClassCount {
+        class: 3 + k,
+        count: Cells(area - k),
     }
-    is_f3(p, s, t)
-}
-
-fn is_c0(p: Panel, s: Cell, t: Cell) -> bool
-    requires { ⌜ Good p ⌝ }
-    ensures { λ r. ⌜ r ≡ c0 p s t ⌝ }
-{
-    if is_odd(area_of(p)) {
-        if is_black(s) {
-            return false;
-        }
-        return !is_black(t);
-    }
-    if is_black(s) {
-        return !is_black(t);
-    }
-    is_black(t)
 }
 
 // The cells on one side of the terminals in two rows, or on the other, whichever is more.
@@ -207,22 +190,13 @@ fn decide(p: Panel, s: Cell, t: Cell) -> ClassCount
             count: Cells(f2_count(p, s, t)),
         };
     }
-    if is_c2(p, s, t) {
+    if is_f3(p, s, t) {
         return ClassCount {
             class: 5,
             count: Cells(area_of(p) - 2),
         };
     }
-    if is_c0(p, s, t) {
-        return ClassCount {
-            class: 3,
-            count: Cells(area_of(p)),
-        };
-    }
-    ClassCount {
-        class: 4,
-        count: Cells(area_of(p) - 1),
-    }
+    by_colour(p, s, t)
 }
 
 fn name_terminals(p: Panel, s: Cell, t: Cell) -> ClassCount
@@ -241,13 +215,27 @@ fn name_terminals(p: Panel, s: Cell, t: Cell) -> ClassCount
     decide(p, left, right)
 }
 
-// Class and count of two cells on a good panel.
+fn shorter_side(p: Panel) -> u32
+    ensures { λ r. ⌜ r ≡ min (p .width) (p .height) ⌝ }
+{
+    if p.height < p.width {
+        p.height
+    } else {
+        p.width
+    }
+}
+
+// Class and count of two cells on a good panel. With more than 3 rows and columns only the colours
+// matter, which are the same turned and in either order.
 pub fn class_count(p: Panel, s: Cell, t: Cell) -> ClassCount
     requires { ⌜ Good p ⌝ }
     requires { ⌜ OnPanel p s ⌝ }
     requires { ⌜ OnPanel p t ⌝ }
     ensures { λ r. ⌜ r ≡ classCount p s t ⌝ }
 {
+    if 3 < shorter_side(p) {
+        return by_colour(p, s, t);
+    }
     if p.width < p.height {
         return name_terminals(turn_panel(p), turn_cell(s), turn_cell(t));
     }

@@ -1,11 +1,12 @@
 -- The first line that fits decides: `cond-no` for each line passed over, `cond-yes` for the one that fits.
--- Class 5 has at least 2 cells to leave out (`c2-area`), class 4 at least 1.
+-- Class 5 has at least 2 cells to leave out (`c2-area`).
 use Prim.Native.Nat.{ℕ, _-_}
 use native.Mathlib.Omega.{arith}
 use mathlib.Core.Path.{refl, sym, ap, _∙_}
 use Rattle.grid.proofs.Tests.{cond-yes, cond-no}
 use Rattle.count.specs.Count.{found, decided}
-use Rattle.count.proofs.Laws.{c2-area, sum-le-product}
+use Rattle.count.proofs.Laws.{c2-area}
+use Rattle.bound.proofs.Colours.{f3-c2, decided-by-colour}
 use borrow.Author.Needs.{needs}
 use Rattle.bound.proofs.decide.Statement.{statement}
 use Rattle.bound.proofs.decide.Tie as tie
@@ -34,8 +35,8 @@ unfolding decided
 returns-2 c = cond-no _ _ (sym (c .before .before .before .before .is-f1 .ensures) ∙ c .before .before .before .if1 .left)
     (cond-yes _ _ (sym (c .before .before .is-f2 .ensures) ∙ c .before .if2 .taken) (ap (found 2) (c .f2-count .ensures)))
 
-is-c2-requires : tie.Need-is-c2-requires
-is-c2-requires c κs = search needs
+is-f3-requires : tie.Need-is-f3-requires
+is-f3-requires c κs = search needs
 
 area-of-requires : tie.Need-area-of-requires
 area-of-requires c κs = search needs
@@ -43,43 +44,29 @@ area-of-requires c κs = search needs
 sub-t13 : tie.Need-sub-t13
 sub-t13 c =
     let start = c .before .before .before .before .before .before .before in
-    omega (arith, c .area-of .ensures, c2-area (start .args .p) (start .args .s) (start .args .t) (start .pre .1 .0) (sym (c .before .before .is-c2 .ensures) ∙ c .before .if3 .taken))
+    let fits = f3-c2 (start .args .p) (start .args .s) (start .args .t) (sym (c .before .before .is-f3 .ensures) ∙ c .before .if3 .taken) in
+    omega (arith, c .area-of .ensures, c2-area (start .args .p) (start .args .s) (start .args .t) (start .pre .1 .0) fits)
 
 returns-3 : tie.Need-returns-3
 unfolding decided
-returns-3 c = cond-no _ _ (sym (c .before .before .before .before .before .before .is-f1 .ensures) ∙ c .before .before .before .before .before .if1 .left)
+returns-3 c =
+    let start = c .before .before .before .before .before .before .before in
+    let fits = f3-c2 (start .args .p) (start .args .s) (start .args .t) (sym (c .before .before .is-f3 .ensures) ∙ c .before .if3 .taken) in
+    cond-no _ _ (sym (c .before .before .before .before .before .before .is-f1 .ensures) ∙ c .before .before .before .before .before .if1 .left)
     (cond-no _ _ (sym (c .before .before .before .before .is-f2 .ensures) ∙ c .before .before .before .if2 .left)
-    (cond-yes _ _ (sym (c .before .before .is-c2 .ensures) ∙ c .before .if3 .taken) (ap (λ (a : ℕ). found 5 (a - 2)) (c .area-of .ensures))))
+    (cond-yes _ _ fits (ap (λ (a : ℕ). found 5 (a - 2)) (c .area-of .ensures))))
 
-is-c0-requires : tie.Need-is-c0-requires
-is-c0-requires c κs = search needs
-
-area-of-requires-2 : tie.Need-area-of-requires-2
-area-of-requires-2 c κs = search needs
+by-colour-requires : tie.Need-by-colour-requires
+by-colour-requires c κs = search needs
 
 returns-4 : tie.Need-returns-4
-unfolding decided
-returns-4 c = cond-no _ _ (sym (c .before .before .before .before .before .before .before .before .is-f1 .ensures) ∙ c .before .before .before .before .before .before .before .if1 .left)
-    (cond-no _ _ (sym (c .before .before .before .before .before .before .is-f2 .ensures) ∙ c .before .before .before .before .before .if2 .left)
-    (cond-no _ _ (sym (c .before .before .before .before .is-c2 .ensures) ∙ c .before .before .before .if3 .left)
-    (cond-yes _ _ (sym (c .before .before .is-c0 .ensures) ∙ c .before .if4 .taken) (ap (found 3) (c .area-of2 .ensures)))))
-
-area-of-requires-3 : tie.Need-area-of-requires-3
-area-of-requires-3 c κs = search needs
-
-sub-t19 : tie.Need-sub-t19
-sub-t19 c =
-    let start = c .before .before .before .before .before .before .before .before .before in
-    let wide = start .pre .0 .wide in
-    let high = start .pre .0 .high in
-    omega (arith, c .area-of3 .ensures, sum-le-product (start .args .p .width) (start .args .p .height) wide high)
-
-returns-5 : tie.Need-returns-5
-unfolding decided
-returns-5 c = cond-no _ _ (sym (c .before .before .before .before .before .before .before .before .is-f1 .ensures) ∙ c .before .before .before .before .before .before .before .if1 .left)
-    (cond-no _ _ (sym (c .before .before .before .before .before .before .is-f2 .ensures) ∙ c .before .before .before .before .before .if2 .left)
-    (cond-no _ _ (sym (c .before .before .before .before .is-c2 .ensures) ∙ c .before .before .before .if3 .left)
-    (cond-no _ _ (sym (c .before .before .is-c0 .ensures) ∙ c .before .if4 .left) (ap (λ (a : ℕ). found 4 (a - 1)) (c .area-of3 .ensures)))))
+returns-4 c =
+    let start = c .before .before .before .before .before .before .before in
+    c .by-colour .ensures
+    ∙ sym (decided-by-colour (start .args .p) (start .args .s) (start .args .t)
+    (sym (c .before .before .before .before .before .before .is-f1 .ensures) ∙ c .before .before .before .before .before .if1 .left)
+    (sym (c .before .before .before .before .is-f2 .ensures) ∙ c .before .before .before .if2 .left)
+    (sym (c .before .before .is-f3 .ensures) ∙ c .before .if3 .left))
 
 pub decide-spec : {M : Type 1} → statement M
 decide-spec =
@@ -92,13 +79,9 @@ decide-spec =
     is-f2-requires
     f2-count-requires
     returns-2
-    is-c2-requires
+    is-f3-requires
     area-of-requires
     sub-t13
     returns-3
-    is-c0-requires
-    area-of-requires-2
-    returns-4
-    area-of-requires-3
-    sub-t19
-    returns-5)
+    by-colour-requires
+    returns-4)
