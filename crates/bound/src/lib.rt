@@ -215,6 +215,19 @@ fn name_terminals(p: Panel, s: Cell, t: Cell) -> ClassCount
     decide(p, left, right)
 }
 
+// The definition as it stands: the panel turned, the terminals named, the first line that fits.
+fn line_by_line(p: Panel, s: Cell, t: Cell) -> ClassCount
+    requires { ⌜ Good p ⌝ }
+    requires { ⌜ OnPanel p s ⌝ }
+    requires { ⌜ OnPanel p t ⌝ }
+    ensures { λ r. ⌜ r ≡ classCount p s t ⌝ }
+{
+    if p.width < p.height {
+        return name_terminals(turn_panel(p), turn_cell(s), turn_cell(t));
+    }
+    name_terminals(p, s, t)
+}
+
 fn shorter_side(p: Panel) -> u32
     ensures { λ r. ⌜ r ≡ min (p .width) (p .height) ⌝ }
 {
@@ -236,10 +249,14 @@ pub fn class_count(p: Panel, s: Cell, t: Cell) -> ClassCount
     if 3 < shorter_side(p) {
         return by_colour(p, s, t);
     }
-    if p.width < p.height {
-        return name_terminals(turn_panel(p), turn_cell(s), turn_cell(t));
+    // Taken apart, so that the answer above stays in registers: handed on whole, both would go through
+    // the memory that this call writes to.
+    let found = line_by_line(p, s, t);
+    let count = found.count;
+    ClassCount {
+        class: found.class,
+        count: count,
     }
-    name_terminals(p, s, t)
 }
 
 // The call.

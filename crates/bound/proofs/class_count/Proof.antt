@@ -1,24 +1,10 @@
--- More than 3 rows and columns by the colours, else two branches as in the definition; a good panel turned is good, and its cells turned are on it.
-use borrow.Author.Tests.{lt-ltb, le-ltb}
+-- More than 3 rows and columns by the colours, else as in the definition.
 use native.Mathlib.Omega.{arith}
-use mathlib.Core.Path.{_≡_, _∙_, subst⁻¹, sym, subst₂}
-use Rattle.grid.specs.declared.Panel.{Panel}
-use Rattle.grid.specs.declared.Cell.{Cell}
-use Rattle.grid.specs.Panel.{OnPanel, turned, turnedCell}
-use Rattle.grid.proofs.Facts.{Good}
-use Rattle.grid.proofs.Moves.{turn-on}
-use Rattle.grid.proofs.Tests.{cond-yes, cond-no}
-use Rattle.count.specs.Count.{named, classCount}
+use mathlib.Core.Path.{_∙_, sym}
 use Rattle.bound.proofs.Colours.{class-by-colour}
 use borrow.Author.Needs.{needs}
 use Rattle.bound.proofs.class_count.Statement.{statement}
 use Rattle.bound.proofs.class_count.Tie as tie
-
-good-turned : {p q : Panel} → q ≡ turned p → Good p → Good q
-good-turned e g = subst⁻¹ Good e (record { wide = g .high; widest = g .highest; high = g .wide; highest = g .widest })
-
-on-turned : {p q : Panel} {c d : Cell} → q ≡ turned p → d ≡ turnedCell c → OnPanel p c → OnPanel q d
-on-turned e f o = subst₂ OnPanel (sym e) (sym f) (turn-on o)
 
 shorter-side-requires : tie.Need-shorter-side-requires
 shorter-side-requires c κs = search needs
@@ -33,36 +19,11 @@ returns c =
     let more = c .before .if1 .taken in
     c .by-colour .ensures ∙ sym (class-by-colour (start .args .p) (start .args .s) (start .args .t) (omega (arith, short, more)) (omega (arith, short, more)))
 
-turn-panel-requires : tie.Need-turn-panel-requires
-turn-panel-requires c κs = search needs
-
-turn-cell-requires : tie.Need-turn-cell-requires
-turn-cell-requires c κs = search needs
-
-turn-cell-requires-2 : tie.Need-turn-cell-requires-2
-turn-cell-requires-2 c κs = search needs
-
-name-terminals-requires : tie.Need-name-terminals-requires
-name-terminals-requires c κs =
-    let panel = c .before .before .turn-panel .ensures in
-    let pre = c .before .before .before .before .before .before .before .pre in
-    (good-turned panel (pre .0), (on-turned panel (c .before .turn-cell .ensures) (pre .1 .0), on-turned panel (c .turn-cell2 .ensures) (pre .1 .1)))
+line-by-line-requires : tie.Need-line-by-line-requires
+line-by-line-requires c κs = search needs
 
 returns-2 : tie.Need-returns-2
-unfolding classCount
-returns-2 c =
-    let start = c .before .before .before .before .before .before .before .before in
-    cond-yes _ _ (lt-ltb (start .args .p .width) (start .args .p .height) (omega (arith, c .before .before .before .before .if2 .taken)))
-    (c .name-terminals .ensures ∙ (λ i. named (c .before .before .before .turn-panel .ensures i) (c .before .before .turn-cell .ensures i) (c .before .turn-cell2 .ensures i)))
-
-name-terminals-requires-2 : tie.Need-name-terminals-requires-2
-name-terminals-requires-2 c κs = search needs
-
-returns-3 : tie.Need-returns-3
-unfolding classCount
-returns-3 c =
-    let start = c .before .before .before .before .before in
-    cond-no _ _ (le-ltb (start .args .p .width) (start .args .p .height) (omega (arith, c .before .if2 .left))) (c .name-terminals2 .ensures)
+returns-2 c = c .before .line-by-line .ensures
 
 pub class-count-spec : {M : Type 1} → statement M
 class-count-spec =
@@ -71,10 +32,5 @@ class-count-spec =
     shorter-side-requires
     by-colour-requires
     returns
-    turn-panel-requires
-    turn-cell-requires
-    turn-cell-requires-2
-    name-terminals-requires
-    returns-2
-    name-terminals-requires-2
-    returns-3)
+    line-by-line-requires
+    returns-2)
