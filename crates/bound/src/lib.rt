@@ -1,5 +1,6 @@
-// Bound: the class and the count of an order. Each test of document 01's "Class and count" is a
-// function of its own, equated with the test of that name in the crate `count`.
+// Bound: the class and the count of an order. F1, F2* and F3 of document 01's "Class and count" are
+// functions of their own, equated with the tests of those names in the crate `count`; C2 without F3
+// and C0 are one sum of colours.
 use count::ClassCount;
 use grid::Cell;
 use grid::Cells;
@@ -142,8 +143,8 @@ fn lost(area: u32, blacks: u32) -> u32
     if is_odd(area) { blacks } else { 1 - blacks % 2 }
 }
 
-// The classes 3, 4 and, F3 aside, 5: they lose 0, 1 and 2 cells. Computed without a jump: on random
-// orders the colours would be mispredicted.
+// The classes 3, 4 and, F3 aside, 5 lose 0, 1 and 2 cells. A sum and no tests: on random orders a jump
+// by colour would be mispredicted half of the time.
 fn by_colour(p: Panel, s: Cell, t: Cell) -> ClassCount
     requires { ⌜ Good p ⌝ }
     requires { ⌜ OnPanel p s ⌝ }
@@ -205,7 +206,7 @@ fn name_terminals(p: Panel, s: Cell, t: Cell) -> ClassCount
     requires { ⌜ OnPanel p t ⌝ }
     ensures { λ r. ⌜ r ≡ named p s t ⌝ }
 {
-    // Chosen without a jump: on random orders it would be mispredicted half of the time.
+    // Exchanged before the one call of `decide`, which is so compiled in place.
     let mut left = s;
     let mut right = t;
     if t.x < s.x {
@@ -249,8 +250,8 @@ pub fn class_count(p: Panel, s: Cell, t: Cell) -> ClassCount
     if 3 < shorter_side(p) {
         return by_colour(p, s, t);
     }
-    // Taken apart, so that the answer above stays in registers: handed on whole, both would go through
-    // the memory that this call writes to.
+    // Taken apart, so that the answer above stays in registers: if this one were handed on whole, both
+    // would go through the memory that the call writes to.
     let found = line_by_line(p, s, t);
     let count = found.count;
     ClassCount {
