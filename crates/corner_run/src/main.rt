@@ -9,7 +9,6 @@ use trial::cells::is_track;
 use trial::print::named;
 use trial::print::text;
 ghost use Prim.Native.Nat.{_≤_};
-ghost use Rattle.grid.specs.declared.Cell.{Cell};
 ghost use Rattle.corner.specs.Corner.{Inside};
 ghost use Rattle.corner.specs.Drawn.{Small};
 

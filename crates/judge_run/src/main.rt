@@ -7,7 +7,6 @@ use judge::Judged;
 use trial::cells::snake;
 use trial::print::row;
 use trial::print::text;
-ghost use lib.ListN.{length};
 
 fn fill(s: &mut [u8]) {
     let mut i = 0;

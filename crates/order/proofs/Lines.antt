@@ -1,7 +1,7 @@
 -- Reading at a position of the input: how the byte there decides what the definitions read from it on.
 use Prim.Native.Nat.{ℕ, zero, suc, _+_, _*_, _-_, _≤_, _<_}
 use mathlib.Core.Path.{_≡_, refl, sym, ap, _∙_}
-use mathlib.Core.Bool.{Bool, true, false, cond, _&&_}
+use mathlib.Core.Bool.{Bool, true, false}
 use mathlib.Core.List.{List, [], _∷_}
 use native.Mathlib.Omega.{arith}
 use native.Mathlib.Numerals.{add-one}
@@ -16,7 +16,7 @@ use Rattle.order.specs.declared.Line.the-variants.{Other, Order}
 use Rattle.order.specs.declared.Number.{Number}
 use Rattle.order.specs.declared.Number.the-variants.{Bad, Until}
 use Rattle.order.specs.Decimal.{zeroByte, isDigit}
-use Rattle.order.specs.Line.{blank, lineFeed, largest, Parsed, moreDigits, numberAt, ended, field, andThen, parsed}
+use Rattle.order.specs.Line.{blank, lineFeed, largest, Parsed, moreDigits, ended, field, andThen, parsed}
 use Rattle.order.specs.Line.Parsed.{nothing, number}
 
 -- ---- digits

@@ -4,10 +4,9 @@ use crate::Number;
 use grid::Cell;
 use grid::Panel;
 ghost use mathlib.Core.Path.{_≡_};
-ghost use Prim.Native.Nat.{_≤_, _-_};
 ghost use lib.ListN.{drop};
-ghost use Rattle.order.specs.Decimal.{zeroByte, isDigit};
-ghost use Rattle.order.specs.Line.{largest, moreDigits, ended, field, lineIn, parsed};
+ghost use Rattle.order.specs.Decimal.{isDigit};
+ghost use Rattle.order.specs.Line.{moreDigits, ended, field, lineIn, parsed};
 ghost use Rattle.order.specs.Line.Parsed.{number};
 
 // The digit 0, the byte between two numbers, and the byte behind the last.

@@ -7,7 +7,7 @@ use trial::cells::wide;
 use trial::print::named;
 use trial::print::row;
 use trial::print::text;
-ghost use Prim.Native.Nat.{_≤_, _<_, _+_};
+ghost use Prim.Native.Nat.{_≤_, _<_};
 ghost use lib.ListN.{length};
 
 fn show_bytes(s: &[u8]) {
