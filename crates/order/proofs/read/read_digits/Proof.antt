@@ -78,7 +78,7 @@ returns-2 : tie.Need-returns-2 Inv-loop μ-loop
 returns-2 c =
     let at-loop = c .before .before .before .before .before in
     let a = at-loop .before .before .args in
-    too-large (a .end) _ (drop (at-loop .loop .i + 1) (now (a .input))) (c .if2 .taken) ∙ again (c .before)
+    too-large (a .end) _ (drop (at-loop .loop .i + 1) (now (a .input))) (omega (arith, c .if2 .taken)) ∙ again (c .before)
 
 add-i : tie.Need-add-i Inv-loop μ-loop
 add-i c = omega arith
