@@ -3,24 +3,10 @@
 // colon, the refusal's number (0: none), the class and the count.
 use grid::Cell;
 use grid::Panel;
-use libc::STDOUT_FILENO;
+use trial::print::row;
 
 // The largest number of 32 bits.
 const MAX: u32 = 4294967295;
-
-fn print(k: u32) {
-    io::print_decimal(STDOUT_FILENO, k as u64);
-}
-
-fn space() {
-    io::write_all(STDOUT_FILENO, b" ");
-}
-
-fn pair(a: u32, b: u32) {
-    print(a);
-    space();
-    print(b);
-}
 
 fn answer(m: u32, n: u32, sx: u32, sy: u32, tx: u32, ty: u32) {
     let panel = Panel {
@@ -28,16 +14,15 @@ fn answer(m: u32, n: u32, sx: u32, sy: u32, tx: u32, ty: u32) {
         height: n,
     };
     let b = bound::bound(panel, Cell { x: sx, y: sy }, Cell { x: tx, y: ty });
-    pair(m, n);
-    space();
-    pair(sx, sy);
-    space();
-    pair(tx, ty);
-    io::write_all(STDOUT_FILENO, b": ");
-    print(bound::number_of(b));
-    space();
-    pair(bound::class_of(b), bound::count_of(b).0);
-    io::write_all(STDOUT_FILENO, b"\n");
+    row(&[m, n, sx, sy, tx, ty], b": ");
+    row(
+        &[
+            bound::number_of(b),
+            bound::class_of(b),
+            bound::count_of(b).0,
+        ],
+        b"\n",
+    );
 }
 
 // Document 01's table of orders.

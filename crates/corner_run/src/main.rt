@@ -2,9 +2,13 @@
 // backwards, looks at the cells by a check that knows nothing of how they were drawn, and prints how many
 // tracks and cells there were and how many tracks were wrong. The rectangles begin at column 2 and row 3.
 use grid::Cell;
-use libc::STDOUT_FILENO;
+use grid::Panel;
+use trial::cells::Order;
+use trial::cells::filled;
+use trial::cells::is_track;
+use trial::print::named;
+use trial::print::text;
 ghost use Prim.Native.Nat.{_≤_};
-ghost use Rattle.grid.specs.declared.Cell.{Cell};
 ghost use Rattle.corner.specs.Corner.{Inside};
 ghost use Rattle.corner.specs.Drawn.{Small};
 
@@ -14,111 +18,28 @@ struct Tally {
     wrong: u32,
 }
 
-fn wide(b: u8) -> u32 {
-    b as u32
-}
-
-fn apart(p: u32, q: u32) -> u32 {
-    if p <= q { q - p } else { p - q }
-}
-
-// A cell's place among the 49 from column 2 and row 3 on, or 49 if it lies outside the rectangle.
-fn place(x: u32, y: u32, right: u32, bottom: u32) -> usize {
-    if x < 2 {
-        return 49;
-    }
-    if right < x {
-        return 49;
-    }
-    if y < 3 {
-        return 49;
-    }
-    if bottom < y {
-        return 49;
-    }
-    if 8 < x {
-        return 49;
-    }
-    if 9 < y {
-        return 49;
-    }
-    (7 * (y - 3) + (x - 2)) as usize
-}
-
-// Whether a cell may follow another: one step in x or in y.
-fn follows(px: u32, py: u32, x: u32, y: u32) -> bool {
-    if px == x {
-        return apart(py, y) == 1;
-    }
-    if py == y {
-        return apart(px, x) == 1;
+// Whether the buffer begins with k cells from s to t, a track in the rectangle up to column `right` and
+// row `bottom`, and the bytes behind them are as they were.
+fn good(buf: &[u8], k: u32, s: Cell, t: Cell, right: u32, bottom: u32) -> bool {
+    let o = Order {
+        panel: Panel {
+            width: right,
+            height: bottom,
+        },
+        entry: s,
+        exit: t,
+    };
+    if is_track(buf, o, Cell { x: 2, y: 3 }, k) {
+        return filled(buf, 2 * (k as usize), 7);
     }
     false
 }
 
-// Whether the buffer begins with k cells from s to t in the rectangle up to column `right` and row
-// `bottom`, each beside the one before and none twice.
-fn is_track(buf: &[u8], k: usize, s: Cell, t: Cell, right: u32, bottom: u32) -> bool {
-    let mut seen = [0u8; 64];
-    let mut px = s.x;
-    let mut py = s.y;
-    let mut i = 0;
-    while i < k {
-        if buf.len() < 2 {
-            return false;
-        }
-        if (buf.len() - 2) / 2 < i {
-            return false;
-        }
-        let x = wide(buf[2 * i]);
-        let y = wide(buf[2 * i + 1]);
-        let at = place(x, y, right, bottom);
-        if 48 < at {
-            return false;
-        }
-        if seen[at] != 0 {
-            return false;
-        }
-        if i == 0 {
-            if apart(px, x) != 0 {
-                return false;
-            }
-            if apart(py, y) != 0 {
-                return false;
-            }
-        } else if !follows(px, py, x, y) {
-            return false;
-        }
-        seen[at] = 1;
-        px = x;
-        py = y;
-        i += 1;
-    }
-    if k == 0 {
-        return false;
-    }
-    if px == t.x { py == t.y } else { false }
-}
-
-// Whether the bytes behind the first k cells are as they were.
-fn kept(buf: &[u8], k: usize) -> bool {
-    let mut i = 0;
-    while i < buf.len() {
-        if k <= i / 2 {
-            if buf[i] != 7 {
-                return false;
-            }
-        }
-        i += 1;
-    }
-    true
-}
-
-fn counted(sum: Tally, k: u32, good: bool) -> Tally {
+fn counted(sum: Tally, k: u32, fine: bool) -> Tally {
     Tally {
         tracks: std::num::wrapping_add_u32(sum.tracks, 1),
         cells: std::num::wrapping_add_u32(sum.cells, k),
-        wrong: std::num::wrapping_add_u32(sum.wrong, if good { 0 } else { 1 }),
+        wrong: std::num::wrapping_add_u32(sum.wrong, if fine { 0 } else { 1 }),
     }
 }
 
@@ -130,21 +51,12 @@ fn both_ways(a: Cell, b: Cell, t: Cell, right: u32, bottom: u32, sum: Tally) -> 
     if 64 < k {
         return counted(sum, 0, false);
     }
-    let n = k as usize;
     let mut there = [7u8; 128];
     let mut back = [7u8; 128];
     corner::corner_track(a, b, t, &mut there);
     corner::corner_track_back(a, b, t, &mut back);
-    let mut good = kept(&there, n);
-    if !is_track(&there, n, a, t, right, bottom) {
-        good = false;
-    }
-    let next = counted(sum, k, good);
-    let mut fine = kept(&back, n);
-    if !is_track(&back, n, t, a, right, bottom) {
-        fine = false;
-    }
-    counted(next, k, fine)
+    let next = counted(sum, k, good(&there, k, a, t, right, bottom));
+    counted(next, k, good(&back, k, t, a, right, bottom))
 }
 
 // Every corner of the rectangle up to column `right` and row `bottom`, to the cell (x, y) of it.
@@ -204,12 +116,8 @@ fn widths(bottom: u32, first: Tally) -> Tally
     sum
 }
 
-fn print(k: u32) {
-    io::print_decimal(STDOUT_FILENO, k as u64);
-    io::write_all(STDOUT_FILENO, b"\n");
-}
-
-fn main() {
+// Every rectangle.
+fn every() -> Tally {
     let mut sum = Tally {
         tracks: 0,
         cells: 0,
@@ -220,10 +128,13 @@ fn main() {
         sum = widths(bottom, sum);
         bottom += 1;
     }
-    io::write_all(STDOUT_FILENO, b"tracks ");
-    print(sum.tracks);
-    io::write_all(STDOUT_FILENO, b"cells ");
-    print(sum.cells);
-    io::write_all(STDOUT_FILENO, b"wrong ");
-    print(sum.wrong);
+    sum
+}
+
+fn main() {
+    let sum = every();
+    named(b"tracks ", sum.tracks);
+    named(b"\ncells ", sum.cells);
+    named(b"\nwrong ", sum.wrong);
+    text(b"\n");
 }

@@ -1,18 +1,16 @@
 // Draws every order on panels up to 6 by 6, off-panel terminals included, into a filled buffer, and
-// checks each answer and each byte by a plain check of its own; then the order of document 01 that
+// checks each answer and each byte by a plain look at them; then the order of document 01 that
 // needs 32,768 bytes, with that many and with one fewer.
 use grid::Cell;
 use grid::Panel;
-use libc::STDOUT_FILENO;
+use trial::cells::Order;
+use trial::cells::filled;
+use trial::cells::is_track;
+use trial::print::named;
+use trial::print::text;
 
 // What the buffers are filled with.
 const FILL: u8 = 170;
-
-struct Order {
-    panel: Panel,
-    entry: Cell,
-    exit: Cell,
-}
 
 struct Totals {
     orders: u32,
@@ -25,132 +23,13 @@ fn add(a: u32, b: u32) -> u32 {
     std::num::wrapping_add_u32(a, b)
 }
 
-fn wide(b: u8) -> u32 {
-    b as u32
-}
-
-fn byte_at(buf: &[u8], at: usize) -> u32 {
-    if at < buf.len() {
-        return wide(buf[at]);
-    }
-    0
-}
-
-// Cell i of the list at the front of a buffer.
-fn cell_at(buf: &[u8], i: u32) -> Cell {
-    let at = 2 * (i as usize);
-    let x = byte_at(buf, at);
-    let y = byte_at(buf, at + 1);
-    Cell { x, y }
-}
-
-fn apart(a: u32, b: u32) -> u32 {
-    if a < b {
-        return b - a;
-    }
-    a - b
-}
-
-fn beside(a: Cell, b: Cell) -> bool {
-    if a.x == b.x {
-        return apart(a.y, b.y) == 1;
-    }
-    if a.y == b.y {
-        return apart(a.x, b.x) == 1;
-    }
-    false
-}
-
-fn same(a: Cell, b: Cell) -> bool {
-    if a.x == b.x {
-        return a.y == b.y;
-    }
-    false
-}
-
-fn on(p: Panel, c: Cell) -> bool {
-    if c.x == 0 {
-        return false;
-    }
-    if c.y == 0 {
-        return false;
-    }
-    if p.width < c.x {
-        return false;
-    }
-    c.y <= p.height
-}
-
-// Marks a cell, whether it was not marked before.
-fn mark(marks: &mut [u8], c: Cell) -> bool {
-    let row = (c.y % 256) as usize;
-    let column = (c.x % 256) as usize;
-    let at = 130 * row + column;
-    if at < marks.len() {
-        if marks[at] == 0 {
-            marks[at] = 1;
-            return true;
-        }
-    }
-    false
-}
-
-// Whether cell i of the list may stand there: on the panel, not passed before, beside cell i - 1.
-fn follows(buf: &[u8], marks: &mut [u8], p: Panel, i: u32) -> bool {
-    let c = cell_at(buf, i);
-    if !on(p, c) {
-        return false;
-    }
-    if !mark(marks, c) {
-        return false;
-    }
-    if i == 0 {
-        return true;
-    }
-    beside(cell_at(buf, i - 1), c)
-}
-
-fn clear(marks: &mut [u8]) {
-    for i in 0..marks.len() {
-        marks[i] = 0;
-    }
-}
-
-// Whether the first k cells of the buffer are a track of the order.
-fn is_track(buf: &[u8], marks: &mut [u8], o: Order, k: u32) -> bool {
-    if k == 0 {
-        return false;
-    }
-    if !same(cell_at(buf, 0), o.entry) {
-        return false;
-    }
-    if !same(cell_at(buf, k - 1), o.exit) {
-        return false;
-    }
-    clear(marks);
-    let p = o.panel;
-    for i in 0..k {
-        if !follows(buf, marks, p, i) {
-            return false;
-        }
-    }
-    true
-}
-
-// Whether the buffer is as it was filled from byte `from` on.
-fn untouched(buf: &[u8], from: usize) -> bool {
-    let mut i = from;
-    while i < buf.len() {
-        if buf[i] != FILL {
-            return false;
-        }
-        i += 1;
-    }
-    true
+// The first cell of a panel.
+fn first() -> Cell {
+    Cell { x: 1, y: 1 }
 }
 
 // One order into the buffer, which is filled: whether all of it is right.
-fn right(o: Order, buf: &mut [u8], marks: &mut [u8]) -> bool {
+fn right(o: Order, buf: &mut [u8]) -> bool {
     let b = bound::bound(o.panel, o.entry, o.exit);
     let a = draw::draw(o.panel, o.entry, o.exit, buf);
     let k = draw::count_of(a).0;
@@ -160,13 +39,13 @@ fn right(o: Order, buf: &mut [u8], marks: &mut [u8]) -> bool {
     if draw::number_of(a) != bound::number_of(b) {
         return false;
     }
-    if !untouched(buf, 2 * (k as usize)) {
+    if !filled(buf, 2 * (k as usize), FILL) {
         return false;
     }
     if k == 0 {
         return true;
     }
-    is_track(buf, marks, o, k)
+    is_track(buf, o, first(), k)
 }
 
 // The order of number `code`: six numbers from 1 to 6.
@@ -187,11 +66,11 @@ fn order_of(code: u32) -> Order {
     }
 }
 
-fn count_one(code: u32, t: Totals, marks: &mut [u8]) -> Totals {
+fn count_one(code: u32, t: Totals) -> Totals {
     let o = order_of(code);
     let mut buf = [FILL; 80];
     let k = bound::count_of(bound::bound(o.panel, o.entry, o.exit)).0;
-    let good = right(o, &mut buf, marks);
+    let good = right(o, &mut buf);
     Totals {
         orders: add(t.orders, 1),
         drawn: if k == 0 { t.drawn } else { add(t.drawn, 1) },
@@ -200,14 +79,8 @@ fn count_one(code: u32, t: Totals, marks: &mut [u8]) -> Totals {
     }
 }
 
-fn print(text: &[u8], k: u32) {
-    io::write_all(STDOUT_FILENO, text);
-    io::print_decimal(STDOUT_FILENO, k as u64);
-}
-
 // The orders whose six numbers are from 1 to 6.
 fn every_order() -> Totals {
-    let mut marks = [0u8; 1024];
     let mut t = Totals {
         orders: 0,
         drawn: 0,
@@ -215,18 +88,18 @@ fn every_order() -> Totals {
         wrong: 0,
     };
     for code in 0..46656 {
-        t = count_one(code, t, &mut marks);
+        t = count_one(code, t);
     }
     t
 }
 
 fn small_panels() {
     let t = every_order();
-    print(b"orders ", t.orders);
-    print(b", drawn ", t.drawn);
-    print(b", cells ", t.cells);
-    print(b", wrong ", t.wrong);
-    io::write_all(STDOUT_FILENO, b"\n");
+    named(b"orders ", t.orders);
+    named(b", drawn ", t.drawn);
+    named(b", cells ", t.cells);
+    named(b", wrong ", t.wrong);
+    text(b"\n");
 }
 
 // The largest panel, along its left edge.
@@ -235,21 +108,19 @@ fn large(buf: &mut [u8]) {
         width: 128,
         height: 128,
     };
-    let entry = Cell { x: 1, y: 1 };
+    let entry = first();
     let exit = Cell { x: 1, y: 128 };
-    let size = buf.len();
+    let size = (buf.len() % 65536) as u32;
     let a = draw::draw(panel, entry, exit, buf);
-    let mut marks = [0u8; 17000];
     let k = draw::count_of(a).0;
-    io::write_all(STDOUT_FILENO, b"128 128 1 1 1 128 in ");
-    io::print_decimal(STDOUT_FILENO, size as u64);
-    print(b" bytes: ", draw::number_of(a));
-    print(b" ", k);
+    named(b"128 128 1 1 1 128 in ", size);
+    named(b" bytes: ", draw::number_of(a));
+    named(b" ", k);
     let o = Order { panel, entry, exit };
-    if is_track(buf, &mut marks, o, k) {
-        io::write_all(STDOUT_FILENO, b" a track");
+    if is_track(buf, o, first(), k) {
+        text(b" a track");
     }
-    io::write_all(STDOUT_FILENO, b"\n");
+    text(b"\n");
 }
 
 fn main() {

@@ -4,47 +4,21 @@ use exit::ExitAnswer;
 use grid::Cell;
 use grid::Cells;
 use grid::Panel;
-use libc::STDOUT_FILENO;
+use trial::print::row;
 
 // The largest number of 32 bits.
 const MAX: u32 = 4294967295;
 
-fn print(k: u32) {
-    io::print_decimal(STDOUT_FILENO, k as u64);
-}
-
-fn space() {
-    io::write_all(STDOUT_FILENO, b" ");
-}
-
-fn pair(a: u32, b: u32) {
-    print(a);
-    space();
-    print(b);
-}
-
-fn print_answer(r: u32, c: Cell) {
-    print(r);
-    space();
-    pair(c.x, c.y);
-    io::write_all(STDOUT_FILENO, b"\n");
-}
-
 fn answer(m: u32, n: u32, x: u32, y: u32, wanted: u32) {
-    pair(m, n);
-    space();
-    pair(x, y);
-    space();
-    print(wanted);
-    io::write_all(STDOUT_FILENO, b": ");
+    row(&[m, n, x, y, wanted], b": ");
     let panel = Panel {
         width: m,
         height: n,
     };
     let a = exit::find_exit(panel, Cell { x, y }, Cells(wanted));
     match a {
-        ExitAnswer::Refused(r) => print_answer(grid::number_of(r), Cell { x: 0, y: 0 }),
-        ExitAnswer::Found(c) => print_answer(0, c),
+        ExitAnswer::Refused(r) => row(&[grid::number_of(r), 0, 0], b"\n"),
+        ExitAnswer::Found(c) => row(&[0, c.x, c.y], b"\n"),
     }
 }
 

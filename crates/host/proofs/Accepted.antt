@@ -1,7 +1,7 @@
 -- What Draw draws, Judge accepts: over the two contracts, the bytes of the cells that Draw has written are accepted with the count that Draw gave.
 use Prim.Native.Nat.{ℕ, _*_, _≤_}
 use native.Mathlib.Omega.{arith}
-use mathlib.Core.Path.{_≡_, refl, sym, subst, _∙_}
+use mathlib.Core.Path.{_≡_, refl, subst}
 use mathlib.Core.List.{List}
 use lib.Dec.{leb}
 use lib.ListN.{length, take, length-take}

@@ -1,5 +1,5 @@
 -- What the calls answer fits into its place of the packed number: a class is at most 5, and a count at most mn.
-use Prim.Native.Nat.{ℕ, _*_, _≤_, _<_, _^_}
+use Prim.Native.Nat.{ℕ, _*_, _<_, _^_}
 use native.Mathlib.Omega.{arith}
 use mathlib.Core.Path.{_≡_, refl, subst⁻¹, _∙_}
 use mathlib.Core.Bool.{Bool, true, false, cond}
@@ -16,7 +16,7 @@ use Rattle.grid.specs.Check.{checkOrder, expect, answer}
 use Rattle.grid.proofs.Facts.{area-small}
 use Rattle.grid.proofs.Passed.{after-passed, after-rest, good-order}
 use Rattle.count.specs.declared.ClassCount.{ClassCount}
-use Rattle.count.specs.Count.{area, f1, f2, c2, c0, decided, named, classCount, class, count}
+use Rattle.count.specs.Count.{f1, f2, c2, c0, decided, named, classCount, class, count}
 use Rattle.count.proofs.Laws.{bounds}
 use Rattle.bound.specs.declared.Bounded.{Bounded}
 use Rattle.bound.specs.declared.Bounded.the-variants as bounded

@@ -16,6 +16,26 @@ const REFUSAL_UNIT: u64 = 4294967296;
 
 const CLASS_UNIT: u64 = 16777216;
 
+// An order's six numbers.
+struct Order {
+    panel: Panel,
+    entry: Cell,
+    exit: Cell,
+}
+
+fn order_of(m: u32, n: u32, sx: u32, sy: u32, tx: u32, ty: u32) -> Order
+    ensures { λ r. ⌜ r ≡ record { panel = panel m n; entry = cell sx sy; exit = cell tx ty } ⌝ }
+{
+    Order {
+        panel: Panel {
+            width: m,
+            height: n,
+        },
+        entry: Cell { x: sx, y: sy },
+        exit: Cell { x: tx, y: ty },
+    }
+}
+
 fn pack(refusal: u32, class: u32, count: Cells) -> u64
     requires { ⌜ class < 2 ^ 8 ⌝ }
     requires { ⌜ count .0 < 2 ^ 24 ⌝ }
@@ -47,13 +67,8 @@ fn judged_count(j: Judged) -> Cells
 pub extern "C" fn foil_bound(m: u32, n: u32, sx: u32, sy: u32, tx: u32, ty: u32) -> u64
     ensures { λ r. ⌜ r ≡ packedBound (boundOf (panel m n) (cell sx sy) (cell tx ty)) ⌝ }
 {
-    let p = Panel {
-        width: m,
-        height: n,
-    };
-    let entry = Cell { x: sx, y: sy };
-    let exit = Cell { x: tx, y: ty };
-    let b = bound::bound(p, entry, exit);
+    let o = order_of(m, n, sx, sy, tx, ty);
+    let b = bound::bound(o.panel, o.entry, o.exit);
     pack(bound::number_of(b), bound::class_of(b), bound::count_of(b))
 }
 
@@ -71,13 +86,8 @@ pub extern "C" fn foil_draw(
     ensures told { λ r. ⌜ r ≡ packedDraw (drawOf (panel m n) (cell sx sy) (cell tx ty) (length (now (buffer .entry)))) ⌝ }
     ensures left { λ _. ⌜ Leaves (panel m n) (cell sx sy) (cell tx ty) (now (buffer .entry)) (now (buffer .exit)) (drawOf (panel m n) (cell sx sy) (cell tx ty) (length (now (buffer .entry)))) ⌝ }
 {
-    let p = Panel {
-        width: m,
-        height: n,
-    };
-    let entry = Cell { x: sx, y: sy };
-    let exit = Cell { x: tx, y: ty };
-    let a = draw::draw(p, entry, exit, buffer);
+    let o = order_of(m, n, sx, sy, tx, ty);
+    let a = draw::draw(o.panel, o.entry, o.exit, buffer);
     pack(draw::number_of(a), 0, draw::count_of(a))
 }
 
@@ -96,12 +106,7 @@ pub extern "C" fn foil_judge(
     ensures told { λ r. ⌜ r ≡ packedJudge (judgeOf (panel m n) (cell sx sy) (cell tx ty) (now (list .entry)) (length (now (scratch .entry)))) ⌝ }
     ensures left { λ _. ⌜ now (scratch .exit) ≡ scratchAfter (panel m n) (cell sx sy) (cell tx ty) (now (list .entry)) (now (scratch .entry)) ⌝ }
 {
-    let p = Panel {
-        width: m,
-        height: n,
-    };
-    let entry = Cell { x: sx, y: sy };
-    let exit = Cell { x: tx, y: ty };
-    let j = judge::judge(p, entry, exit, list, scratch);
+    let o = order_of(m, n, sx, sy, tx, ty);
+    let j = judge::judge(o.panel, o.entry, o.exit, list, scratch);
     pack(judged_number(j), 0, judged_count(j))
 }

@@ -11,7 +11,7 @@ use list::whole_cells;
 ghost use mathlib.Core.Path.{_≡_};
 ghost use mathlib.Core.Bool.{true};
 ghost use mathlib.Core.List.{_++_};
-ghost use Prim.Native.Nat.{_+_, _*_, _%_, _≤_, _<_};
+ghost use Prim.Native.Nat.{_%_, _≤_};
 ghost use lib.ListN.{length, take, drop, replicate};
 ghost use Rattle.grid.specs.Panel.{goodPanel, area, onPanel, sameCell};
 ghost use Rattle.grid.specs.Bytes.{cellsIn};

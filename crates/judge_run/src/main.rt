@@ -4,26 +4,9 @@
 use grid::Cell;
 use grid::Panel;
 use judge::Judged;
-use libc::STDOUT_FILENO;
-ghost use lib.ListN.{length};
-
-fn print(n: u64, end: &[u8]) {
-    io::print_decimal(STDOUT_FILENO, n);
-    io::write_all(STDOUT_FILENO, end);
-}
-
-fn report(j: Judged) {
-    match j {
-        Judged::Refused(r) => {
-            print(grid::number_of(r) as u64, b" ");
-            print(0, b" ");
-        }
-        Judged::Accepted(k) => {
-            print(0, b" ");
-            print(k.0 as u64, b" ");
-        }
-    }
-}
+use trial::cells::snake;
+use trial::print::row;
+use trial::print::text;
 
 fn fill(s: &mut [u8]) {
     let mut i = 0;
@@ -33,12 +16,12 @@ fn fill(s: &mut [u8]) {
     }
 }
 
-fn count(s: &[u8], b: u8) -> usize {
-    let mut n: usize = 0;
+fn count(s: &[u8], b: u8) -> u32 {
+    let mut n: u32 = 0;
     let mut i = 0;
     while i < s.len() {
         if s[i] == b {
-            n += 1;
+            n = std::num::wrapping_add_u32(n, 1);
         }
         i += 1;
     }
@@ -48,9 +31,12 @@ fn count(s: &[u8], b: u8) -> usize {
 fn try_order(p: Panel, entry: Cell, exit: Cell, list: &[u8], scratch: &mut [u8]) {
     fill(scratch);
     let j = judge::judge(p, entry, exit, list, scratch);
-    report(j);
-    print(count(scratch, 0) as u64, b" ");
-    print(count(scratch, 255) as u64, b"\n");
+    let zeros = count(scratch, 0);
+    let kept = count(scratch, 255);
+    match j {
+        Judged::Refused(r) => row(&[grid::number_of(r), 0, zeros, kept], b"\n"),
+        Judged::Accepted(k) => row(&[0, k.0, zeros, kept], b"\n"),
+    }
 }
 
 // A list on the panel of 3 by 2, from (1,1) to (1,2), with 8 bytes of scratch.
@@ -86,7 +72,7 @@ fn try_ends(ex: u32, ey: u32, tx: u32, ty: u32) {
 
 // 1 to 5, where the list is good but for what is named.
 fn orders() {
-    io::write_all(STDOUT_FILENO, b"1 to 5:\n");
+    text(b"1 to 5:\n");
     let mut enough = [0u8; 8];
     try_sides(3, 2, &mut enough);
     try_sides(0, 2, &mut enough);
@@ -104,7 +90,7 @@ fn orders() {
 
 // Accepted lists, and 6.
 fn lengths() {
-    io::write_all(STDOUT_FILENO, b"6:\n");
+    text(b"6:\n");
     try_list(b"\x01\x01\x02\x01\x03\x01\x03\x02\x02\x02\x01\x02");
     try_list(b"\x01\x01\x02\x01\x02\x02\x01\x02");
     try_list(b"");
@@ -114,7 +100,7 @@ fn lengths() {
 
 // 7: below and above each side, at the front and at the end; with 8 before and behind.
 fn off_panel() {
-    io::write_all(STDOUT_FILENO, b"7:\n");
+    text(b"7:\n");
     try_list(b"\x00\x01\x01\x01\x01\x02");
     try_list(b"\x01\x01\x01\x02\x01\x03");
     try_list(b"\x01\x01\x01\x00\x01\x02");
@@ -127,7 +113,7 @@ fn off_panel() {
 // 8: a cell left out, a cell twice on end, a diagonal, row's end to row's start; with 9 before and
 // behind.
 fn not_neighbours() {
-    io::write_all(STDOUT_FILENO, b"8:\n");
+    text(b"8:\n");
     try_list(b"\x01\x01\x03\x01\x03\x02\x02\x02\x01\x02");
     try_list(b"\x01\x01\x01\x01\x01\x02");
     try_list(b"\x01\x01\x02\x02\x01\x02");
@@ -138,7 +124,7 @@ fn not_neighbours() {
 
 // 9: near, far, at the ends, with more than mn cells; with 11.
 fn repeated() {
-    io::write_all(STDOUT_FILENO, b"9:\n");
+    text(b"9:\n");
     try_list(b"\x01\x01\x02\x01\x01\x01\x01\x02");
     try_list(b"\x01\x01\x02\x01\x03\x01\x03\x02\x02\x02\x01\x02\x01\x01");
     try_list(b"\x01\x01\x01\x02\x02\x02\x02\x01\x01\x01\x01\x02");
@@ -148,31 +134,12 @@ fn repeated() {
 
 // 11: the first, the last, both, and backwards.
 fn wrong_ends() {
-    io::write_all(STDOUT_FILENO, b"11:\n");
+    text(b"11:\n");
     try_list(b"\x02\x01\x01\x01\x01\x02");
     try_list(b"\x01\x01\x02\x01\x02\x02");
     try_list(b"\x02\x01\x03\x01");
     try_list(b"\x01\x02\x01\x01");
     try_list(b"\x01\x01");
-}
-
-// The x of a place in a row of 128 cells: rightwards in the even rows from 0, else leftwards.
-fn turning_x(row: usize, place: usize) -> u8 {
-    if row % 2 == 0 {
-        (place % 128 + 1) as u8
-    } else {
-        (128 - place % 128) as u8
-    }
-}
-
-// The rows of the panel of 128 by 128, one to the right, the next to the left.
-fn snake(list: &mut [u8]) {
-    let mut i = 0;
-    while i + 1 < list.len() {
-        list[i] = turning_x(i / 256, i / 2);
-        list[i + 1] = (i / 256 % 128 + 1) as u8;
-        i += 2;
-    }
 }
 
 // The first bytes of the snake, its last cell changed to (x, y), on the panel of 128 by 128 from
@@ -204,8 +171,8 @@ fn try_snake(
 }
 
 fn try_large(bytes: usize, x: u8, y: u8, exit: Cell, room: usize) {
-    let mut list = io::large_buffer();
-    let mut scratch = io::large_buffer();
+    let mut list = [0u8; 65536];
+    let mut scratch = [0u8; 65536];
     try_snake(&mut list, bytes, x, y, exit, &mut scratch, room);
 }
 
@@ -213,7 +180,7 @@ fn try_large(bytes: usize, x: u8, y: u8, exit: Cell, room: usize) {
 // with a cell more, the one above the last and one off the panel; and two rows with their first
 // cell again at the end.
 fn large() {
-    io::write_all(STDOUT_FILENO, b"128 by 128:\n");
+    text(b"128 by 128:\n");
     try_large(32768, 1, 128, Cell { x: 1, y: 128 }, 16400);
     try_large(32768, 1, 128, Cell { x: 2, y: 128 }, 16400);
     try_large(32768, 1, 128, Cell { x: 1, y: 128 }, 16383);

@@ -1,5 +1,5 @@
 -- What the parts of an answer need: room for the text, a drawn track that a record can be made of, its letters, and the promise put together.
-use Prim.Native.Nat.{ℕ, suc, _+_, _-_, _*_, _^_, _%_, _≤_, _<_}
+use Prim.Native.Nat.{ℕ, _+_, _-_, _*_, _^_, _%_, _≤_, _<_}
 use mathlib.Core.Path.{_≡_, refl, sym, ap, subst, subst⁻¹, _∙_}
 use mathlib.Core.Bool.{Bool, true, false, cond}
 use mathlib.Core.List.{List, [], _∷_, _++_}
@@ -7,18 +7,17 @@ use native.Mathlib.Omega.{arith}
 use native.Mathlib.Nat.{zero-add}
 use lib.ListN.{length, take, drop, length-append}
 use lib.Seq.{take-at, length-take-le}
-use lib.Dec.{leb, ltb, eqb}
+use lib.Dec.{leb, ltb}
 use borrow.Author.Tests.{le-leb, eq-eqb}
 use Rattle.grid.specs.declared.Panel.{Panel}
 use Rattle.grid.specs.declared.Cell.{Cell}
 use Rattle.grid.specs.declared.Check.{Check}
 use Rattle.grid.specs.declared.Check.the-variants.{Good as Passed}
-use Rattle.grid.specs.Panel.{goodPanel, OnPanel, turned, turnedCell}
-use Rattle.grid.specs.Track.{Walk, All, Track}
+use Rattle.grid.specs.Panel.{turned, turnedCell}
 use Rattle.grid.specs.Bytes.{cellsIn, front}
 use Rattle.grid.specs.Check.{checkOrder, answer}
 use Rattle.grid.proofs.Tests.{expect-yes, after-good, answer-good}
-use Rattle.grid.proofs.Facts.{Good, good, is-good, area-small, and-both}
+use Rattle.grid.proofs.Facts.{good, is-good, area-small, and-both}
 use Rattle.count.specs.Count.{f1, f2, c2, c0, decided, named, classCount, count}
 use Rattle.count.specs.declared.ClassCount.{ClassCount}
 use Rattle.count.specs.Longest.{NoLonger}
@@ -34,12 +33,12 @@ use Rattle.record.proofs.Checks.{GoodList, list-good}
 use Rattle.record.proofs.Lists.{length-letters-from}
 use Rattle.draw.specs.declared.DrawAnswer.{DrawAnswer}
 use Rattle.draw.specs.declared.DrawAnswer.the-variants.{Drawn}
-use Rattle.draw.specs.Draw.{drawCheck, drawOf, LongestAtFront, Leaves, Draws}
+use Rattle.draw.specs.Draw.{drawCheck, LongestAtFront, Leaves, Draws}
 use Rattle.order.specs.declared.Line.{Line}
 use Rattle.order.specs.Decimal.{decimal}
 use Rattle.order.specs.Line.{blank, lineFeed, fieldOf}
 use Rattle.order.specs.Text.{refusedText, squaresOf, countsText, answerText, put, Put}
-use Rattle.order.specs.Order.{boundText, textOf, Longest, Chosen, ChosenFor, Printed, AnswersBound}
+use Rattle.order.specs.Order.{textOf, Longest, ChosenFor, Printed, AnswersBound}
 use Rattle.order.proofs.Decimals.{length-decimal}
 
 -- ---- room

@@ -1,22 +1,22 @@
 -- Reading at a position of the input: how the byte there decides what the definitions read from it on.
-use Prim.Native.Nat.{ℕ, suc, _+_, _*_, _-_, _≤_, _<_}
+use Prim.Native.Nat.{ℕ, zero, suc, _+_, _*_, _-_, _≤_, _<_}
 use mathlib.Core.Path.{_≡_, refl, sym, ap, _∙_}
-use mathlib.Core.Bool.{Bool, true, false, cond, _&&_}
+use mathlib.Core.Bool.{Bool, true, false}
 use mathlib.Core.List.{List, [], _∷_}
 use native.Mathlib.Omega.{arith}
 use native.Mathlib.Numerals.{add-one}
-use lib.ListN.{length, drop, getD, drop-of-length-le}
+use lib.ListN.{length, drop, getD, set, drop-of-length-le}
 use lib.Seq.{drop-cons}
 use lib.Dec.{leb, eqb}
 use borrow.Author.Tests.{leb-true, le-leb, lt-leb, eq-eqb, ne-eqb}
 use Rattle.grid.proofs.Tests.{and-yes, and-no, cond-yes, cond-no}
 use Rattle.grid.proofs.Facts.{and-left, and-right, and-both}
 use Rattle.order.specs.declared.Line.{Line}
-use Rattle.order.specs.declared.Line.the-variants.{Other}
+use Rattle.order.specs.declared.Line.the-variants.{Other, Order}
 use Rattle.order.specs.declared.Number.{Number}
 use Rattle.order.specs.declared.Number.the-variants.{Bad, Until}
 use Rattle.order.specs.Decimal.{zeroByte, isDigit}
-use Rattle.order.specs.Line.{largest, Parsed, moreDigits, numberAt, ended, field, andThen, parsed}
+use Rattle.order.specs.Line.{blank, lineFeed, largest, Parsed, moreDigits, ended, field, andThen, parsed}
 use Rattle.order.specs.Line.Parsed.{nothing, number}
 
 -- ---- digits
@@ -100,9 +100,34 @@ module _ (e : ℕ) (l : List ℕ) (i : ℕ) where
 
 -- ---- one number after another
 
+-- what is read where k numbers with a blank behind them are still to come; the five of the line stand in v
+abbrev pub lineFrom : ℕ → List ℕ → List ℕ → Line
+lineFrom zero v l = andThen (field lineFeed l) (λ ty l.
+    Order (record { width = getD v 0 0; height = getD v 1 0 }) (record { x = getD v 2 0; y = getD v 3 0 }) (record { x = getD v 4 0; y = ty }))
+lineFrom (suc k) v l = andThen (field blank l) (λ n l. lineFrom k (set v (4 - k) n) l)
+
 module _ (input : List ℕ) (e i : ℕ) (k : ℕ → List ℕ → Line) {r : Number} (f : parsed input r ≡ field e (drop i input)) where
   pub reads-none : r ≡ Bad → Other ≡ andThen (field e (drop i input)) k
   reads-none q = ap (λ (p : Parsed). andThen p k) (ap (parsed input) (sym q) ∙ f)
 
-  pub reads-on : {v j : ℕ} {z : Line} → r ≡ Until v j → z ≡ k v (drop j input) → z ≡ andThen (field e (drop i input)) k
-  reads-on q h = h ∙ ap (λ (p : Parsed). andThen p k) (ap (parsed input) (sym q) ∙ f)
+  pub reads-on : {v j : ℕ} → r ≡ Until v j → k v (drop j input) ≡ andThen (field e (drop i input)) k
+  reads-on q = ap (λ (p : Parsed). andThen p k) (ap (parsed input) (sym q) ∙ f)
+
+-- number i of the first five
+module _ (input v : List ℕ) (from i : ℕ) (h : i < 5) where
+  one-more : lineFrom (suc (4 - i)) v (drop from input) ≡ lineFrom (5 - i) v (drop from input)
+  one-more =
+      let e : suc (4 - i) ≡ 5 - i = omega arith in
+      ap (λ (k : ℕ). lineFrom k v (drop from input)) e
+
+  module _ {r : Number} (f : parsed input r ≡ field blank (drop from input)) where
+    pub first-none : r ≡ Bad → Other ≡ lineFrom (5 - i) v (drop from input)
+    first-none q = reads-none input blank from (λ n l. lineFrom (4 - i) (set v (4 - (4 - i)) n) l) f q ∙ one-more
+
+    pub first-on : (n j : ℕ) → r ≡ Until n j → lineFrom (5 - (i + 1)) (set v i n) (drop j input) ≡ lineFrom (5 - i) v (drop from input)
+    first-on n j q =
+        let e : 5 - (i + 1) ≡ 4 - i = omega arith in
+        let g : i ≡ 4 - (4 - i) = omega arith in
+        (λ t. lineFrom (e t) (set v (g t) n) (drop j input))
+        ∙ reads-on input blank from (λ n l. lineFrom (4 - i) (set v (4 - (4 - i)) n) l) f q
+        ∙ one-more

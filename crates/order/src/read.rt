@@ -4,10 +4,9 @@ use crate::Number;
 use grid::Cell;
 use grid::Panel;
 ghost use mathlib.Core.Path.{_≡_};
-ghost use Prim.Native.Nat.{_≤_, _-_};
 ghost use lib.ListN.{drop};
-ghost use Rattle.order.specs.Decimal.{zeroByte, isDigit};
-ghost use Rattle.order.specs.Line.{largest, moreDigits, ended, field, lineIn, parsed};
+ghost use Rattle.order.specs.Decimal.{isDigit};
+ghost use Rattle.order.specs.Line.{moreDigits, ended, field, lineIn, parsed};
 ghost use Rattle.order.specs.Line.Parsed.{number};
 
 // The digit 0, the byte between two numbers, and the byte behind the last.
@@ -79,39 +78,38 @@ fn read_field(input: &[u8], from: usize, end: u8) -> Number
     read_digits(input, (b - ZERO) as u32, from + 1, end)
 }
 
+// Five numbers with a blank behind each, and the last with a line feed.
 pub fn read_line(input: &[u8]) -> Line
     ensures { λ r. ⌜ r ≡ lineIn (now (input .entry)) ⌝ }
 {
-    let a = read_field(input, 0, BLANK);
-    let Number::Until(m, i) = a else {
-        return Line::Other;
-    };
-    let b = read_field(input, i, BLANK);
-    let Number::Until(n, j) = b else {
-        return Line::Other;
-    };
-    let c = read_field(input, j, BLANK);
-    let Number::Until(sx, k) = c else {
-        return Line::Other;
-    };
-    let d = read_field(input, k, BLANK);
-    let Number::Until(sy, l) = d else {
-        return Line::Other;
-    };
-    let e = read_field(input, l, BLANK);
-    let Number::Until(tx, o) = e else {
-        return Line::Other;
-    };
-    let f = read_field(input, o, LINE_FEED);
-    let Number::Until(ty, _) = f else {
+    let mut first = [0u32; 5];
+    let mut from = 0;
+    let mut i = 0;
+    while i < 5 {
+        let a = read_field(input, from, BLANK);
+        let Number::Until(v, next) = a else {
+            return Line::Other;
+        };
+        first[i] = v;
+        from = next;
+        i += 1;
+    }
+    let b = read_field(input, from, LINE_FEED);
+    let Number::Until(last, _) = b else {
         return Line::Other;
     };
     Line::Order(
         Panel {
-            width: m,
-            height: n,
+            width: first[0],
+            height: first[1],
         },
-        Cell { x: sx, y: sy },
-        Cell { x: tx, y: ty },
+        Cell {
+            x: first[2],
+            y: first[3],
+        },
+        Cell {
+            x: first[4],
+            y: last,
+        },
     )
 }

@@ -2,39 +2,22 @@
 // `read` the number, the panel, the cells and the record's length; a line `letters` what Letters hands back; a
 // line `bytes` a buffer after a call.
 use grid::Panel;
-use libc::STDOUT_FILENO;
-ghost use Prim.Native.Nat.{_≤_, _<_, _+_};
+use trial::cells::snake;
+use trial::cells::wide;
+use trial::print::named;
+use trial::print::row;
+use trial::print::text;
+ghost use Prim.Native.Nat.{_≤_, _<_};
 ghost use lib.ListN.{length};
-
-fn text(s: &[u8]) {
-    io::write_all(STDOUT_FILENO, s);
-}
-
-fn number(k: u32) {
-    io::print_decimal(STDOUT_FILENO, k as u64);
-}
-
-fn spaced(k: u32) {
-    text(b" ");
-    number(k);
-}
-
-fn end_line() {
-    text(b"\n");
-}
-
-fn wide(b: u8) -> u32 {
-    b as u32
-}
 
 fn show_bytes(s: &[u8]) {
     text(b"bytes");
     let mut i = 0;
     while i < s.len() {
-        spaced(wide(s[i]));
+        named(b" ", wide(s[i]));
         i += 1;
     }
-    end_line();
+    text(b"\n");
 }
 
 fn show_write(m: u32, n: u32, list: &[u8], out: &mut [u8]) {
@@ -43,28 +26,31 @@ fn show_write(m: u32, n: u32, list: &[u8], out: &mut [u8]) {
         height: n,
     };
     let w = record::write(p, list, out);
-    text(b"write");
-    spaced(record::write_number(w));
-    spaced(record::bytes_written(w));
-    end_line();
+    text(b"write ");
+    row(&[record::write_number(w), record::bytes_written(w)], b"\n");
 }
 
 fn show_read(file: &[u8], list: &mut [u8]) {
     let r = record::read(file, list);
     let p = record::panel_given(r);
-    text(b"read");
-    spaced(record::read_number(r));
-    spaced(p.width);
-    spaced(p.height);
-    spaced(record::cells_given(r).0);
-    spaced(record::length_given(r));
-    end_line();
+    let k = record::cells_given(r).0;
+    text(b"read ");
+    row(
+        &[
+            record::read_number(r),
+            p.width,
+            p.height,
+            k,
+            record::length_given(r),
+        ],
+        b"\n",
+    );
 }
 
 fn show_letters(file: &[u8]) {
     text(b"letters ");
     text(record::letters(file));
-    end_line();
+    text(b"\n");
 }
 
 // A record of the list, its letters, and the list again; the bytes behind both stay as they were.
@@ -211,8 +197,10 @@ fn read_prefix(file: &[u8], n: usize)
     requires { ⌜ n ≤ length (now file) ⌝ }
 {
     let mut list = [85u8; 8];
-    number(record::read_number(record::read(&file[0..n], &mut list)));
-    text(b" ");
+    row(
+        &[record::read_number(record::read(&file[0..n], &mut list))],
+        b" ",
+    );
 }
 
 fn prefixes(file: &[u8]) {
@@ -222,7 +210,7 @@ fn prefixes(file: &[u8]) {
         read_prefix(file, n);
         n += 1;
     }
-    end_line();
+    text(b"\n");
 }
 
 // One more, up to a number that no tally here comes near.
@@ -269,16 +257,6 @@ fn try_bytes(file: &mut [u8], tally: &mut [u32]) {
     }
 }
 
-fn show_tally(tally: &[u32]) {
-    let mut i = 0;
-    while i < tally.len() {
-        number(tally[i]);
-        text(b" ");
-        i += 1;
-    }
-    end_line();
-}
-
 // Every byte of a record changed to every other value: how many of the files get the number 0, 1, and so on.
 fn changed_bytes() {
     text(b"changed bytes\n");
@@ -302,32 +280,7 @@ fn changed_bytes() {
     ];
     let mut tally = [0u32; 18];
     try_bytes(&mut file, &mut tally);
-    show_tally(&tally);
-}
-
-// Cell i of a track over 128 by 128, row by row, to and fro.
-fn column(i: usize) -> u8 {
-    let x = (i % 128) as u8;
-    if i / 128 % 2 == 0 { x + 1 } else { 128 - x }
-}
-
-fn row(i: usize) -> u8 {
-    (i / 128 % 128) as u8 + 1
-}
-
-fn put(list: &mut [u8], i: usize, x: u8, y: u8)
-    requires { ⌜ i + 1 < length (now list) ⌝ }
-{
-    list[i] = x;
-    list[i + 1] = y;
-}
-
-fn snake(list: &mut [u8]) {
-    let mut i = 0;
-    while i + 1 < list.len() {
-        put(list, i, column(i / 2), row(i / 2));
-        i += 2;
-    }
+    row(&tally, b" \n");
 }
 
 // Writes into the first k bytes of a buffer.

@@ -2,45 +2,18 @@
 // colon, the refusal's number (0: none), the count, the last cell, which is a neighbour of (1, 1), and the
 // byte behind the track, 7 as before. A refused line has what stood in the buffer: 7s.
 use grid::Panel;
-use libc::STDOUT_FILENO;
-
-fn print(k: u64) {
-    io::print_decimal(STDOUT_FILENO, k);
-}
-
-fn space() {
-    io::write_all(STDOUT_FILENO, b" ");
-}
-
-// A byte of the buffer, or 0 past its end.
-fn byte_at(buf: &[u8], at: usize) -> u64 {
-    if at < buf.len() {
-        return wide(buf[at]);
-    }
-    0
-}
-
-fn wide(b: u8) -> u64 {
-    b as u64
-}
+use trial::cells::byte_at;
+use trial::print::row;
 
 fn report(buf: &[u8], number: u32, count: u32) {
-    print(number as u64);
-    space();
-    print(count as u64);
-    space();
     let behind = 2 * (count as usize);
     if behind < 2 {
-        print(byte_at(buf, 0));
-        io::write_all(STDOUT_FILENO, b"\n");
+        row(&[number, count, byte_at(buf, 0)], b"\n");
         return;
     }
-    print(byte_at(buf, behind - 2));
-    space();
-    print(byte_at(buf, behind - 1));
-    space();
-    print(byte_at(buf, behind));
-    io::write_all(STDOUT_FILENO, b"\n");
+    let x = byte_at(buf, behind - 2);
+    let y = byte_at(buf, behind - 1);
+    row(&[number, count, x, y, byte_at(buf, behind)], b"\n");
 }
 
 // Ring in the first `size` bytes of a buffer of 7s.
@@ -51,15 +24,10 @@ fn answer_in(width: u32, height: u32, size: usize, buf: &mut [u8]) {
     }
 }
 
-fn answer(width: u32, height: u32, size: usize) {
+fn answer(width: u32, height: u32, size: u32) {
     let mut buf = [7u8; 40000];
-    print(width as u64);
-    space();
-    print(height as u64);
-    space();
-    print(size as u64);
-    io::write_all(STDOUT_FILENO, b": ");
-    answer_in(width, height, size, &mut buf);
+    row(&[width, height, size], b": ");
+    answer_in(width, height, size as usize, &mut buf);
 }
 
 fn main() {

@@ -3,13 +3,11 @@
 // each class, the number of pairs and the sum of their counts; then how many pairs were wrong.
 use grid::Cell;
 use grid::Panel;
-use libc::STDOUT_FILENO;
-
-struct Order {
-    panel: Panel,
-    entry: Cell,
-    exit: Cell,
-}
+use trial::cells::Order;
+use trial::cells::is_track;
+use trial::cells::same;
+use trial::print::named;
+use trial::print::text;
 
 // Pairs and cells for each class, and the wrong pairs.
 struct Totals {
@@ -26,40 +24,16 @@ fn less(a: u32, b: u32) -> u32 {
     std::num::wrapping_sub_u32(a, b)
 }
 
+// The cells from (1, 1) on, in rows of five.
+fn nth(i: u32) -> Cell {
+    Cell {
+        x: i % 5 + 1,
+        y: i / 5 + 1,
+    }
+}
+
 fn on(p: Panel, c: Cell) -> bool {
-    if c.x == 0 {
-        return false;
-    }
-    if c.y == 0 {
-        return false;
-    }
-    if p.width < c.x {
-        return false;
-    }
-    c.y <= p.height
-}
-
-fn same(a: Cell, b: Cell) -> bool {
-    if a.x == b.x {
-        return a.y == b.y;
-    }
-    false
-}
-
-fn beside(a: Cell, b: Cell) -> bool {
-    if a.x == b.x {
-        if add(a.y, 1) == b.y {
-            return true;
-        }
-        return add(b.y, 1) == a.y;
-    }
-    if a.y == b.y {
-        if add(a.x, 1) == b.x {
-            return true;
-        }
-        return add(b.x, 1) == a.x;
-    }
-    false
+    trial::cells::on(p, nth(0), c)
 }
 
 // A number of its own for each cell of a panel up to 5 by 5.
@@ -139,52 +113,6 @@ fn visit(p: Panel, c: Cell, set: u64, cells: u32, left: u32, best: &mut [u32]) {
     }
 }
 
-// ---- the track
-
-fn wide(b: u8) -> u32 {
-    b as u32
-}
-
-fn byte_at(buf: &[u8], at: usize) -> u32 {
-    if at < buf.len() {
-        return wide(buf[at]);
-    }
-    0
-}
-
-fn cell_at(buf: &[u8], i: u32) -> Cell {
-    let at = 2 * (i as usize);
-    let x = byte_at(buf, at);
-    let y = byte_at(buf, at + 1);
-    Cell { x, y }
-}
-
-// Whether the first k cells of the buffer are a track of the order.
-fn is_track(buf: &[u8], o: Order, k: u32) -> bool {
-    let mut set = 0;
-    let mut last = o.entry;
-    if !same(cell_at(buf, 0), o.entry) {
-        return false;
-    }
-    for i in 0..k {
-        let c = cell_at(buf, i);
-        if !on(o.panel, c) {
-            return false;
-        }
-        if has(set, c) {
-            return false;
-        }
-        if 0 < i {
-            if !beside(last, c) {
-                return false;
-            }
-        }
-        set = with(set, c);
-        last = c;
-    }
-    same(last, o.exit)
-}
-
 // ---- the comparison
 
 // Whether Bound's count and Draw's are the search's, and the cells drawn are a track.
@@ -201,7 +129,7 @@ fn right(o: Order, count: u32, best: &[u32]) -> bool {
     if draw::count_of(a).0 != count {
         return false;
     }
-    is_track(&buf, o, count)
+    is_track(&buf, o, nth(0), count)
 }
 
 fn add_pair(t: Totals, o: Order, best: &[u32]) -> Totals {
@@ -225,10 +153,7 @@ fn add_exits(t: Totals, panel: Panel, entry: Cell) -> Totals {
     visit(panel, entry, 0, 1, 25, &mut best);
     let mut next = t;
     for code in 0..25 {
-        let exit = Cell {
-            x: code % 5 + 1,
-            y: code / 5 + 1,
-        };
+        let exit = nth(code);
         if on(panel, exit) {
             if !same(entry, exit) {
                 next = add_pair(next, Order { panel, entry, exit }, &best);
@@ -242,10 +167,7 @@ fn add_exits(t: Totals, panel: Panel, entry: Cell) -> Totals {
 fn add_entries(t: Totals, panel: Panel) -> Totals {
     let mut next = t;
     for code in 0..25 {
-        let entry = Cell {
-            x: code % 5 + 1,
-            y: code / 5 + 1,
-        };
+        let entry = nth(code);
         if on(panel, entry) {
             next = add_exits(next, panel, entry);
         }
@@ -260,28 +182,24 @@ fn all_panels() -> Totals {
         wrong: 0,
     };
     for code in 0..25 {
+        let far = nth(code);
         let panel = Panel {
-            width: code % 5 + 1,
-            height: code / 5 + 1,
+            width: far.x,
+            height: far.y,
         };
         t = add_entries(t, panel);
     }
     t
 }
 
-fn print(text: &[u8], k: u32) {
-    io::write_all(STDOUT_FILENO, text);
-    io::print_decimal(STDOUT_FILENO, k as u64);
-}
-
 fn print_class(t: Totals, class: usize) {
     if 6 <= class {
         return;
     }
-    print(b"class ", (class % 6) as u32);
-    print(b": pairs ", t.pairs[class]);
-    print(b", cells ", t.cells[class]);
-    io::write_all(STDOUT_FILENO, b"\n");
+    named(b"class ", (class % 6) as u32);
+    named(b": pairs ", t.pairs[class]);
+    named(b", cells ", t.cells[class]);
+    text(b"\n");
 }
 
 fn main() {
@@ -291,6 +209,6 @@ fn main() {
     print_class(t, 3);
     print_class(t, 4);
     print_class(t, 5);
-    print(b"wrong ", t.wrong);
-    io::write_all(STDOUT_FILENO, b"\n");
+    named(b"wrong ", t.wrong);
+    text(b"\n");
 }

@@ -1,22 +1,17 @@
--- The marks keep their length, and the number of an order stays within the range.
+-- The number of an order stays within the range.
 use Prim.Native.Nat.{_-_, _≤_}
-use mathlib.Core.Path.{_≡_}
-use lib.ListN.{length}
 use borrow.Author.Needs.{needs}
 use Rattle.draw_run.proofs.every_order.Statement.{statement}
 use Rattle.draw_run.proofs.every_order.Tie as tie
 
 abbrev Inv-loop : tie.InvT-loop
-Inv-loop marks₀ t₀ code₀ marks t code = (length marks ≡ 1024) × (code ≤ 46656)
+Inv-loop t₀ code₀ t code = code ≤ 46656
 
 abbrev μ-loop : tie.MeasureT-loop
-μ-loop marks₀ t₀ code₀ marks t code = 46656 - code
+μ-loop t₀ code₀ t code = 46656 - code
 
 loop-holds : tie.Need-loop-holds Inv-loop μ-loop
 loop-holds c = search needs
-
-slice-aggregate-count-one : tie.Need-slice-aggregate-count-one Inv-loop μ-loop
-slice-aggregate-count-one c = search needs
 
 count-one-requires : tie.Need-count-one-requires Inv-loop μ-loop
 count-one-requires c κs = search needs
@@ -36,13 +31,4 @@ returns c = search needs
 pub every-order-spec : {M : Type 1} → statement M
 every-order-spec =
     tie.close
-    (tie.spec
-    Inv-loop
-    μ-loop
-    loop-holds
-    slice-aggregate-count-one
-    count-one-requires
-    add-code
-    loop-less
-    loop-again
-    returns)
+    (tie.spec Inv-loop μ-loop loop-holds count-one-requires add-code loop-less loop-again returns)

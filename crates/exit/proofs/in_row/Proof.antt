@@ -3,7 +3,6 @@ use Prim.Native.Nat.{ℕ, _+_, _-_, _≤_}
 use mathlib.Core.Path.{_≡_, refl, sym, ap, _∙_}
 use mathlib.Core.Bool.{false}
 use native.Mathlib.Omega.{arith}
-use borrow.Author.Needs.{needs}
 use Rattle.exit.specs.Exit.{any, fits, rowFrom}
 use Rattle.exit.proofs.Reading.{row-hit, row-miss, all-passed}
 use Rattle.exit.proofs.in_row.Statement.{statement}

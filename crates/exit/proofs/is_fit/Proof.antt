@@ -1,6 +1,6 @@
 -- `exit::is_fit` meets its contract: the two tests are those of the definition.
 use borrow.Author.Needs.{needs}
-use mathlib.Core.Path.{refl, sym, ap, _∙_}
+use mathlib.Core.Path.{sym, ap, _∙_}
 use mathlib.Core.Bool.{not}
 use lib.Dec.{leb}
 use Rattle.count.specs.declared.ClassCount.{ClassCount}

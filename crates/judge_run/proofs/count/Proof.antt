@@ -1,9 +1,9 @@
 -- The count is at most the number of bytes passed.
 use Prim.Native.Nat.{_-_, _≤_}
-use borrow.Author.Needs.{needs}
 use native.Mathlib.Omega.{arith}
 use mathlib.Core.Logic.{⊎-elim}
 use lib.ListN.{length}
+use borrow.Author.Needs.{needs}
 use Rattle.judge_run.proofs.count.Statement.{statement}
 use Rattle.judge_run.proofs.count.Tie as tie
 
@@ -19,8 +19,8 @@ loop-holds c = search needs
 shared-slice-read-if1 : tie.Need-shared-slice-read-if1 Inv-loop μ-loop
 shared-slice-read-if1 c = search needs
 
-add-n : tie.Need-add-n Inv-loop μ-loop
-add-n c = search needs
+wrapping-add-u32-requires : tie.Need-wrapping-add-u32-requires Inv-loop μ-loop
+wrapping-add-u32-requires c κs = search needs
 
 add-i : tie.Need-add-i Inv-loop μ-loop
 add-i c = search needs
@@ -42,7 +42,7 @@ count-spec =
     μ-loop
     loop-holds
     shared-slice-read-if1
-    add-n
+    wrapping-add-u32-requires
     add-i
     loop-less
     loop-again

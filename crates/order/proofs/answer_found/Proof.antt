@@ -3,7 +3,6 @@ use Prim.Native.Nat.{ℕ, _*_, _≤_}
 use mathlib.Core.Path.{_≡_, sym, ap, subst⁻¹, _∙_}
 use native.Mathlib.Omega.{arith}
 use mathlib.Core.List.{List}
-use denote.Ref.{now}
 use lib.ListN.{length, take}
 use lib.Seq.{length-take-le}
 use Rattle.grid.specs.declared.Check.the-variants.{Good as Passed}

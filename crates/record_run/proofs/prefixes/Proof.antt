@@ -6,10 +6,10 @@ use Rattle.record_run.proofs.prefixes.Statement.{statement}
 use Rattle.record_run.proofs.prefixes.Tie as tie
 
 abbrev Inv-loop : tie.InvT-loop
-Inv-loop file n₀ n = n ≤ length file + 1
+Inv-loop file n₀ t4 n = n ≤ length file + 1
 
 abbrev μ-loop : tie.MeasureT-loop
-μ-loop file n₀ n = length file + 1 - n
+μ-loop file n₀ t4 n = length file + 1 - n
 
 slice-aggregate-text : tie.Need-slice-aggregate-text Inv-loop μ-loop
 slice-aggregate-text c = search needs
@@ -32,8 +32,11 @@ loop-less c = search needs
 loop-again : tie.Need-loop-again Inv-loop μ-loop
 loop-again c = search needs
 
-end-line-requires : tie.Need-end-line-requires Inv-loop μ-loop
-end-line-requires c κs = search needs
+slice-aggregate-text-2 : tie.Need-slice-aggregate-text-2 Inv-loop μ-loop
+slice-aggregate-text-2 c = search needs
+
+text-requires-2 : tie.Need-text-requires-2 Inv-loop μ-loop
+text-requires-2 c κs = search needs
 
 returns : tie.Need-returns Inv-loop μ-loop
 returns c = search needs
@@ -51,5 +54,6 @@ prefixes-spec =
     add-n
     loop-less
     loop-again
-    end-line-requires
+    slice-aggregate-text-2
+    text-requires-2
     returns)

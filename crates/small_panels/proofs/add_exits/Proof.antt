@@ -21,11 +21,8 @@ visit-requires c κs = search needs
 loop-holds : tie.Need-loop-holds Inv-loop μ-loop
 loop-holds c = search needs
 
-add-t13 : tie.Need-add-t13 Inv-loop μ-loop
-add-t13 c = search needs
-
-add-t15 : tie.Need-add-t15 Inv-loop μ-loop
-add-t15 c = search needs
+nth-requires : tie.Need-nth-requires Inv-loop μ-loop
+nth-requires c κs = search needs
 
 on-requires : tie.Need-on-requires Inv-loop μ-loop
 on-requires c κs = search needs
@@ -60,8 +57,7 @@ add-exits-spec =
     slice-aggregate-visit
     visit-requires
     loop-holds
-    add-t13
-    add-t15
+    nth-requires
     on-requires
     same-requires
     slice-aggregate-add-pair

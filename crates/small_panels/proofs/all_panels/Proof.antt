@@ -13,11 +13,8 @@ abbrev μ-loop : tie.MeasureT-loop
 loop-holds : tie.Need-loop-holds Inv-loop μ-loop
 loop-holds c = search needs
 
-add-t8 : tie.Need-add-t8 Inv-loop μ-loop
-add-t8 c = search needs
-
-add-t10 : tie.Need-add-t10 Inv-loop μ-loop
-add-t10 c = search needs
+nth-requires : tie.Need-nth-requires Inv-loop μ-loop
+nth-requires c κs = search needs
 
 add-entries-requires : tie.Need-add-entries-requires Inv-loop μ-loop
 add-entries-requires c κs = search needs
@@ -41,8 +38,7 @@ all-panels-spec =
     Inv-loop
     μ-loop
     loop-holds
-    add-t8
-    add-t10
+    nth-requires
     add-entries-requires
     add-code
     loop-less

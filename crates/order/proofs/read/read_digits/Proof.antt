@@ -1,14 +1,14 @@
 -- The invariant: what is read from i on with the sum so far is what is read from the first digit on.
 use borrow.Author.Needs.{needs}
 use borrow.Author.Tests.{not-true, not-false}
-use Prim.Native.Nat.{ℕ, _+_, _*_, _-_, _≤_}
+use Prim.Native.Nat.{_+_, _*_, _-_, _≤_}
 use mathlib.Core.Path.{_≡_, refl, sym, ap, _∙_}
 use mathlib.Core.Bool.{true}
 use native.Mathlib.Omega.{arith}
 use denote.Ref.{now}
 use lib.ListN.{length, drop, getD}
 use Rattle.order.specs.Decimal.{isDigit}
-use Rattle.order.specs.Line.{Parsed, largest, ended, moreDigits}
+use Rattle.order.specs.Line.{largest, ended, moreDigits}
 use Rattle.order.proofs.Lines.{digit-low, digit-high, digits-end, digits-stop, digits-more, too-large}
 use Rattle.order.proofs.read.read_digits.Statement.{statement}
 use Rattle.order.proofs.read.read_digits.Tie as tie
@@ -78,7 +78,7 @@ returns-2 : tie.Need-returns-2 Inv-loop μ-loop
 returns-2 c =
     let at-loop = c .before .before .before .before .before in
     let a = at-loop .before .before .args in
-    too-large (a .end) _ (drop (at-loop .loop .i + 1) (now (a .input))) (c .if2 .taken) ∙ again (c .before)
+    too-large (a .end) _ (drop (at-loop .loop .i + 1) (now (a .input))) (omega (arith, c .if2 .taken)) ∙ again (c .before)
 
 add-i : tie.Need-add-i Inv-loop μ-loop
 add-i c = omega arith

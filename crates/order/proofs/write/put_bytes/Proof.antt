@@ -2,12 +2,12 @@
 use borrow.Author.Needs.{needs}
 use Prim.Native.Nat.{ℕ, _+_, _≤_, _-_}
 use mathlib.Core.List.{List}
-use mathlib.Core.Path.{_≡_, refl, sym, ap, _∙_}
+use mathlib.Core.Path.{_≡_, ap, _∙_}
 use native.Mathlib.Omega.{arith}
 use denote.Ref.{now}
 use lib.ListN.{length, take, set, getD}
 use lib.Seq.{take-all, length-take-le}
-use Rattle.order.specs.Text.{put, Put}
+use Rattle.order.specs.Text.{put}
 use Rattle.order.proofs.Puts.{put-none, put-next, length-put}
 use Rattle.order.proofs.write.put_bytes.Statement.{statement}
 use Rattle.order.proofs.write.put_bytes.Tie as tie

@@ -4,8 +4,8 @@ use borrow.Author.Needs.{needs}
 use native.Mathlib.Omega.{arith}
 use mathlib.Core.Path.{_≡_, refl}
 use lib.ListN.{length, length-set}
-use Rattle.judge_run.proofs.snake.Statement.{statement}
-use Rattle.judge_run.proofs.snake.Tie as tie
+use Rattle.trial.proofs.cells.snake.Statement.{statement}
+use Rattle.trial.proofs.cells.snake.Tie as tie
 
 abbrev Inv-loop : tie.InvT-loop
 Inv-loop list₀ i₀ list i = (i ≤ length list₀) × (length list ≡ length list₀)

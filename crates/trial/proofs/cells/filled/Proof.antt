@@ -4,14 +4,14 @@ use Prim.Native.Nat.{_-_}
 use native.Mathlib.Omega.{arith}
 use lib.ListN.{length}
 use borrow.Author.Needs.{needs}
-use Rattle.draw_run.proofs.untouched.Statement.{statement}
-use Rattle.draw_run.proofs.untouched.Tie as tie
+use Rattle.trial.proofs.cells.filled.Statement.{statement}
+use Rattle.trial.proofs.cells.filled.Tie as tie
 
 abbrev Inv-loop : tie.InvT-loop
-Inv-loop buf from i₀ i = Unit {0}
+Inv-loop buf from b i₀ i = Unit {0}
 
 abbrev μ-loop : tie.MeasureT-loop
-μ-loop buf from i₀ i = length buf - i
+μ-loop buf from b i₀ i = length buf - i
 
 loop-holds : tie.Need-loop-holds Inv-loop μ-loop
 loop-holds c = tt
@@ -34,8 +34,8 @@ loop-again c = tt
 returns-2 : tie.Need-returns-2 Inv-loop μ-loop
 returns-2 c = tt
 
-pub untouched-spec : {M : Type 1} → statement M
-untouched-spec =
+pub filled-spec : {M : Type 1} → statement M
+filled-spec =
     tie.close
     (tie.spec
     Inv-loop

@@ -2,17 +2,23 @@
 use Prim.Native.Nat.{_-_, _≤_}
 use lib.ListN.{length}
 use borrow.Author.Needs.{needs}
-use Rattle.record_run.proofs.show_tally.Statement.{statement}
-use Rattle.record_run.proofs.show_tally.Tie as tie
+use Rattle.trial.proofs.print.row.Statement.{statement}
+use Rattle.trial.proofs.print.row.Tie as tie
 
 abbrev Inv-loop : tie.InvT-loop
-Inv-loop tally i₀ t3 i = i ≤ length tally
+Inv-loop numbers end i₀ t4 i = i ≤ length numbers
 
 abbrev μ-loop : tie.MeasureT-loop
-μ-loop tally i₀ t3 i = length tally - i
+μ-loop numbers end i₀ t4 i = length numbers - i
 
 loop-holds : tie.Need-loop-holds Inv-loop μ-loop
 loop-holds c = search needs
+
+slice-aggregate-text : tie.Need-slice-aggregate-text Inv-loop μ-loop
+slice-aggregate-text c = search needs
+
+text-requires : tie.Need-text-requires Inv-loop μ-loop
+text-requires c κs = search needs
 
 mul-number : tie.Need-mul-number Inv-loop μ-loop
 mul-number c = search needs
@@ -23,12 +29,6 @@ shared-slice-read-number c = search needs
 number-requires : tie.Need-number-requires Inv-loop μ-loop
 number-requires c κs = search needs
 
-slice-aggregate-text : tie.Need-slice-aggregate-text Inv-loop μ-loop
-slice-aggregate-text c = search needs
-
-text-requires : tie.Need-text-requires Inv-loop μ-loop
-text-requires c κs = search needs
-
 add-i : tie.Need-add-i Inv-loop μ-loop
 add-i c = search needs
 
@@ -38,26 +38,26 @@ loop-less c = search needs
 loop-again : tie.Need-loop-again Inv-loop μ-loop
 loop-again c = search needs
 
-end-line-requires : tie.Need-end-line-requires Inv-loop μ-loop
-end-line-requires c κs = search needs
+text-requires-2 : tie.Need-text-requires-2 Inv-loop μ-loop
+text-requires-2 c κs = search needs
 
 returns : tie.Need-returns Inv-loop μ-loop
 returns c = search needs
 
-pub show-tally-spec : {M : Type 1} → statement M
-show-tally-spec =
+pub row-spec : {M : Type 1} → statement M
+row-spec =
     tie.close
     (tie.spec
     Inv-loop
     μ-loop
     loop-holds
+    slice-aggregate-text
+    text-requires
     mul-number
     shared-slice-read-number
     number-requires
-    slice-aggregate-text
-    text-requires
     add-i
     loop-less
     loop-again
-    end-line-requires
+    text-requires-2
     returns)

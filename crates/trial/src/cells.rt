@@ -1,0 +1,149 @@
+// A plain look at lists of cells, which knows nothing of the router's own checks.
+use grid::Cell;
+use grid::Panel;
+
+pub struct Order {
+    pub panel: Panel,
+    pub entry: Cell,
+    pub exit: Cell,
+}
+
+pub fn wide(b: u8) -> u32 {
+    b as u32
+}
+
+// A byte of the buffer, or 0 past its end.
+pub fn byte_at(buf: &[u8], at: usize) -> u32 {
+    if at < buf.len() {
+        return wide(buf[at]);
+    }
+    0
+}
+
+// Cell i of the list at the front of a buffer.
+fn cell_at(buf: &[u8], i: u32) -> Cell {
+    let at = 2 * (i as usize);
+    let x = byte_at(buf, at);
+    let y = byte_at(buf, at + 1);
+    Cell { x, y }
+}
+
+fn apart(a: u32, b: u32) -> u32 {
+    if a < b {
+        return b - a;
+    }
+    a - b
+}
+
+fn beside(a: Cell, b: Cell) -> bool {
+    if a.x == b.x {
+        return apart(a.y, b.y) == 1;
+    }
+    if a.y == b.y {
+        return apart(a.x, b.x) == 1;
+    }
+    false
+}
+
+pub fn same(a: Cell, b: Cell) -> bool {
+    if a.x == b.x {
+        return a.y == b.y;
+    }
+    false
+}
+
+// Whether a cell is on the panel, neither left of `low` nor above it.
+pub fn on(p: Panel, low: Cell, c: Cell) -> bool {
+    if c.x < low.x {
+        return false;
+    }
+    if c.y < low.y {
+        return false;
+    }
+    if p.width < c.x {
+        return false;
+    }
+    c.y <= p.height
+}
+
+// Marks a cell, whether it was not marked before.
+fn mark(marks: &mut [u8], c: Cell) -> bool {
+    let row = (c.y % 256) as usize;
+    let column = (c.x % 256) as usize;
+    let at = 130 * row + column;
+    if at < marks.len() {
+        if marks[at] == 0 {
+            marks[at] = 1;
+            return true;
+        }
+    }
+    false
+}
+
+// Whether cell i of the list may stand there: on the panel, not passed before, beside cell i - 1.
+fn follows(buf: &[u8], marks: &mut [u8], p: Panel, low: Cell, i: u32) -> bool {
+    let c = cell_at(buf, i);
+    if !on(p, low, c) {
+        return false;
+    }
+    if !mark(marks, c) {
+        return false;
+    }
+    if i == 0 {
+        return true;
+    }
+    beside(cell_at(buf, i - 1), c)
+}
+
+// Whether the first k cells of the buffer are a track of the order, none of them left of `low` or
+// above it.
+pub fn is_track(buf: &[u8], o: Order, low: Cell, k: u32) -> bool {
+    if k == 0 {
+        return false;
+    }
+    if !same(cell_at(buf, 0), o.entry) {
+        return false;
+    }
+    if !same(cell_at(buf, k - 1), o.exit) {
+        return false;
+    }
+    let p = o.panel;
+    let mut marks = [0u8; 17000];
+    for i in 0..k {
+        if !follows(buf, &mut marks, p, low, i) {
+            return false;
+        }
+    }
+    true
+}
+
+// Whether every byte from `from` on is b.
+pub fn filled(buf: &[u8], from: usize, b: u8) -> bool {
+    let mut i = from;
+    while i < buf.len() {
+        if buf[i] != b {
+            return false;
+        }
+        i += 1;
+    }
+    true
+}
+
+// The x of a place in a row of 128 cells: rightwards in the even rows from 0, else leftwards.
+fn turning_x(row: usize, place: usize) -> u8 {
+    if row % 2 == 0 {
+        (place % 128 + 1) as u8
+    } else {
+        (128 - place % 128) as u8
+    }
+}
+
+// The rows of the panel of 128 by 128, one to the right, the next to the left.
+pub fn snake(list: &mut [u8]) {
+    let mut i = 0;
+    while i + 1 < list.len() {
+        list[i] = turning_x(i / 256, i / 2);
+        list[i + 1] = (i / 256 % 128 + 1) as u8;
+        i += 2;
+    }
+}

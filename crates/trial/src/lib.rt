@@ -1,0 +1,4 @@
+// What the programs that try the calls share. Their output is compared, not proved, so the functions
+// here are proved safe and ending, and promise nothing.
+pub mod cells;
+pub mod print;
