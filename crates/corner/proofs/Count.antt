@@ -1,11 +1,11 @@
 -- The count of a corner track: a line that `rowFirst` chooses, and the track of what remains, have the count's cells together.
 -- Outside the degenerate cases w * h + dx + dy keeps its parity when a row is taken away, so the rest is linear with w * h as an unknown.
-use Prim.Native.Nat.{ℕ, _+_, _-_, _*_, _%_, _≤_, _<_}
+use Prim.Native.Nat.{ℕ, _+_, _-_, _*_, _/_, _%_, _≤_, _<_}
 use mathlib.Core.Path.{_≡_, refl, sym, ap, _∙_, subst}
 use mathlib.Core.Logic.{_≢_}
 use mathlib.Core.Bool.{Bool, true, false, cond, not}
 use native.Mathlib.Omega.{arith}
-use native.Mathlib.Nat.{mul-comm, mul-suc, mul-pos}
+use native.Mathlib.Nat.{mul-comm, mul-suc, mul-add, mul-pos}
 use native.Mathlib.Numerals.{add-one}
 use lib.Dec.{leb, eqb}
 use borrow.Author.Tests.{eq-eqb, ne-eqb, lt-ltb, le-ltb, le-leb, lt-leb}
@@ -95,6 +95,44 @@ row-right w h dx dy x y l two many = record { some = l; counts = go }
 
     go : (k ex ey : ℕ) → h ≡ k + 1 → dx + ex + 1 ≡ w → dy ≡ ey + 1 → cornerCount w h dx dy ≡ w + cornerCount w k ex ey
     go k ex ey f g d = by-eq w 1 (thin k ex ey f g d) (λ e. by-eq h 2 (flat k ex ey f g d e) (full k ex ey f g d e))
+
+-- ---- k rows taken away
+
+-- the target is dx columns from the corner, and ex from where k rows there and back end
+pub data Turned (k w dx ex : ℕ) : Type 0 where
+  even : k % 2 ≡ 0 → ex ≡ dx → Turned k w dx ex
+  odd : k % 2 ≡ 1 → dx + ex + 1 ≡ w → Turned k w dx ex
+
+turned-parity : {k w dx ex : ℕ} → Turned k w dx ex → (q : ℕ) × (w * k + (dx + k) ≡ ex + 2 * q)
+turned-parity {k} {w} {dx} {ex} t = go t (k / 2) (omega arith)
+  where
+    twice : (j : ℕ) → w * (j + j) ≡ w * j + w * j
+    twice j = mul-add w j j
+
+    go : Turned k w dx ex → (j : ℕ) → k ≡ j + j + k % 2 → (q : ℕ) × (w * k + (dx + k) ≡ ex + 2 * q)
+    go (Turned.even e f) j h =
+        let d : k ≡ j + j = omega arith in
+        let p : w * k ≡ w * j + w * j = ap (λ (i : ℕ). w * i) d ∙ twice j in
+        (w * j + j, omega arith)
+    go (Turned.odd e f) j h =
+        let d : k ≡ j + j + 1 = omega arith in
+        let p : w * k ≡ w * j + w * j + w = ap (λ (i : ℕ). w * i) (d ∙ add-one (j + j)) ∙ mul-suc w (j + j) ∙ ap (λ (i : ℕ). i + w) (twice j) in
+        (w * j + j + dx + 1, omega arith)
+
+-- rows up to the one before the target's are right first lines, all at once
+pub rows-counts : (w h dx dy k : ℕ) {ex : ℕ} → 2 ≤ w → 1 ≤ dy → dy < h → Turned k w dx ex → cornerCount w (h + k) dx (dy + k) ≡ w * k + cornerCount w h ex dy
+rows-counts w h dx dy k {ex} v l y t =
+    let p : w * (h + k) ≡ w * h + w * k = mul-add w h k in
+    let o : 0 < w * h = mul-pos (omega arith) (omega arith) in
+    let q = turned-parity t in
+    let r = count-full w h ex dy (omega arith) (omega arith) (omega arith) in
+    let s = count-full w (h + k) dx (dy + k) (omega arith) (omega arith) (omega arith) in
+    s ∙ (λ i. p i - 1 + (p i + (dx + (dy + k))) % 2) ∙ parity (w * h) (w * k) dx ex dy (q .0) o (q .1) ∙ ap (λ (i : ℕ). w * k + i) (sym r)
+  where
+    parity : (p b dx ex dy q : ℕ) → 1 ≤ p → b + (dx + k) ≡ ex + 2 * q → p + b - 1 + (p + b + (dx + (dy + k))) % 2 ≡ b + (p - 1 + (p + (ex + dy)) % 2)
+    parity p b dx ex dy q l e =
+        let f : (p + b + (dx + (dy + k))) % 2 ≡ (p + (ex + dy)) % 2 = omega arith in
+        omega arith
 
 -- ---- the choice
 

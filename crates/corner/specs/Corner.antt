@@ -33,6 +33,10 @@ rowFirst w h dx dy =
     (cond (eqb h 2) (leb dx 1)
     (not (eqb (dx + 1) w)))))
 
--- one step from p towards q
-unfoldable pub toward : ℕ → ℕ → ℕ
-toward p q = cond (ltb p q) (p + 1) (p - 1)
+-- k steps from p towards q
+unfoldable pub ahead : ℕ → ℕ → ℕ → ℕ
+ahead p q k = cond (leb p q) (p + k) (p - k)
+
+-- where k lines there and back between p and q end that begin at p: at p if k is even
+unfoldable pub turning : ℕ → ℕ → ℕ → ℕ
+turning k p q = cond (eqb (k % 2) 0) p q
