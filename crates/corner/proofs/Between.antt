@@ -26,6 +26,9 @@ by-eq {C = C} a b f g = go (ℕ-discrete a b)
     go (yes h) = f h
     go (no h) = g h
 
+pub lt-le : {p q : ℕ} → q < p → q ≤ p
+lt-le h = omega arith
+
 -- ---- distances
 
 pub dist-up : {p q : ℕ} → p ≤ q → dist p q + p ≡ q

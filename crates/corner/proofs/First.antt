@@ -259,8 +259,8 @@ module _ (a b t : Cell) (i : Inside a b t) (n : 1 ≤ dist (a .x) (t .x) + dist 
 
 -- not one line: the far corner is in another column and another row, and the target is another cell
 pub record Wide (a b t : Cell) : Type 0 where
-  pub across : a .x ≢ b .x
-  pub down : a .y ≢ b .y
+  pub across : 1 ≤ dist (a .x) (b .x)
+  pub down : 1 ≤ dist (a .y) (b .y)
   pub away : 1 ≤ dist (a .x) (t .x) + dist (a .y) (t .y)
 
 pub or-left : {p : Bool} (q : Bool) → p ≡ true → true ≡ (p || q)
@@ -284,8 +284,8 @@ wide a b t e =
     let u = or-no (eqb (a .x) (b .x)) _ e in
     let v = or-no (eqb (a .y) (b .y)) _ (u .1) in
     record {
-      across = eqb-false _ _ (u .0);
-      down = eqb-false _ _ (v .0);
+      across = dist-ne _ _ (eqb-false _ _ (u .0));
+      down = dist-ne _ _ (eqb-false _ _ (v .0));
       away = far (ne-cases a t (same-ne a t (v .1)));
     }
   where
@@ -382,6 +382,14 @@ bounds s t i =
 
 pub area-small : (w h : ℕ) → w ≤ 255 → h ≤ 255 → (w + 1) * (h + 1) ≤ 65536
 area-small w h u v = let p : w + 1 ≤ 256 = omega arith in let q : h + 1 ≤ 256 = omega arith in mul-le-mul p q
+
+-- k lines of a rectangle of small cells
+pub lines-small : {p q r k d : ℕ} → p ≤ 255 → q ≤ 255 → Between p q r → d ≤ 255 → k ≤ dist p r → (k ≤ dist p q) × ((d + 1) * k ≤ 65536)
+lines-small {p} {q} {r} {k} {d} hp hq b hd h =
+    let l : k ≤ dist p q = omega (arith, parts b) in
+    let a : d + 1 ≤ 256 = omega arith in
+    let c : k ≤ 256 = omega (arith, dist-small p q hp hq) in
+    (l, mul-le-mul a c)
 
 -- ---- the count, by the distances that the code computes
 

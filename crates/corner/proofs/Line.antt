@@ -139,7 +139,7 @@ module _ {e : ℕ → Cell} (A : Axis e) (p q : ℕ) where
 
 -- ---- the law in numbers
 
-number-small : {c : Cell} → Small c → number c ≤ 65535
+pub number-small : {c : Cell} → Small c → number c ≤ 65535
 unfolding number
 number-small s = omega (arith, s .across, s .down)
 
@@ -149,17 +149,27 @@ number-cell s = cell-eq (omega (arith, s .across, s .down)) (omega (arith, s .ac
 
 -- one cell further along a row or a column is u more in number
 pub record Unit (e : ℕ → Cell) (u : ℕ) : Type 0 where
-  pub most : u ≤ 65536
+  pub least : 1 ≤ u
+  pub most : u ≤ 65535
   pub more : (p i : ℕ) → number (e (p + i)) ≡ number (e p) + u * i
   pub small : (p : ℕ) → p ≤ 255 → Small (e p)
 
 pub row-unit : (y : ℕ) → y ≤ 255 → Unit (λ x. record { x = x; y = y }) 1
 unfolding number
-row-unit y h = record { most = omega arith; more = λ p i. omega arith; small = λ p l. record { across = l; down = h } }
+row-unit y h = record { least = omega arith; most = omega arith; more = λ p i. omega arith; small = λ p l. record { across = l; down = h } }
 
 pub column-unit : (x : ℕ) → x ≤ 255 → Unit (λ y. record { x = x; y = y }) 256
 unfolding number
-column-unit x h = record { most = omega arith; more = λ p i. omega arith; small = λ p l. record { across = h; down = l } }
+column-unit x h = record { least = omega arith; most = omega arith; more = λ p i. omega arith; small = λ p l. record { across = h; down = l } }
+
+pub step-small : {e : ℕ → Cell} {u : ℕ} → Unit e u → (p q : ℕ) → stepTo u p q ≤ 65535
+unfolding stepTo
+step-small {u = u} U p q =
+    let l = U .least in
+    let m = U .most in
+    by-le p q
+    (λ h. let s : stepTo u p q ≡ u = ap (λ (b : Bool). cond b u (65536 - u)) (le-leb p q h) in omega arith)
+    (λ h. let s : stepTo u p q ≡ 65536 - u = ap (λ (b : Bool). cond b u (65536 - u)) (lt-leb p q h) in omega arith)
 
 module _ {e : ℕ → Cell} {u : ℕ} (U : Unit e u) (p q : ℕ) (hp : p ≤ 255) (hq : q ≤ 255) where
   near : {i r : ℕ} → Along p q i r → r ≤ 255

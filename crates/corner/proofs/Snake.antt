@@ -3,7 +3,7 @@ use Prim.Native.Nat.{ℕ, zero, suc, _+_, _-_, _*_, _%_, _≤_, _<_}
 use mathlib.Core.Path.{_≡_, refl, sym, ap, _∙_}
 use mathlib.Core.List.{List, [], _++_, append-nil, append-assoc}
 use native.Mathlib.Omega.{arith}
-use native.Mathlib.Nat.{mul-zero, mul-suc, mul-le-mul-left}
+use native.Mathlib.Nat.{mul-zero, mul-suc, mul-le-mul, mul-le-mul-left}
 use native.Mathlib.Numerals.{add-one}
 use lib.ListN.{length, take, drop, length-append, length-drop}
 use borrow.Rule.Slice.PartMut.{putMid}
@@ -51,6 +51,9 @@ module _ (f s r c n k : ℕ) (old : List ℕ) where
 
     pub room : i < k → at + 2 * n ≤ length new
     room h = let l : n * (i + 1) ≤ n * k = mul-le-mul-left n (omega arith) in omega (arith, one-more, so-long, d .so-far)
+
+    pub product : n ≤ 256 → way * (n - 1) ≤ 65535 * 255
+    product h = let l : n - 1 ≤ 255 = omega arith in mul-le-mul (d .there) l
 
     pub ask-line : i < k → 2 * n ≤ length (take (length new - at) (drop at new))
     ask-line h = let l = room h in omega (arith, part-long new at (omega arith))

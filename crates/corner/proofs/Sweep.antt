@@ -17,10 +17,10 @@ use Rattle.grid.proofs.Facts.{dist-sym}
 use Rattle.grid.proofs.Track.{join}
 use Rattle.corner.specs.Corner.{Inside, ahead, turning}
 use Rattle.corner.specs.Line.{line, number, numbered, stepTo, snake, area, sweepEnd}
-use Rattle.corner.specs.Drawn.{Drawn}
+use Rattle.corner.specs.Drawn.{Steps, Drawn}
 use Rattle.corner.proofs.Between.{Between, between-sym, start-between, most, dist-up, dist-down, by-le, ahead-up, ahead-down, Cut, cut}
-use Rattle.corner.proofs.Line.{Axis, Unit, in-row, in-column, row-unit, column-unit, line-track, line-numbered, stepped, ahead-start, ahead-stop, length-line}
-use Rattle.corner.proofs.First.{Frame, in-rows, in-columns, turning-next, turning-once}
+use Rattle.corner.proofs.Line.{Axis, Unit, number-small, step-small, in-row, in-column, row-unit, column-unit, line-track, line-numbered, stepped, ahead-start, ahead-stop, length-line}
+use Rattle.corner.proofs.First.{Frame, in-rows, in-columns, dist-small, turning-next, turning-once}
 
 same : (p q : ℕ) → dist p q ≡ 0 → p ≡ q
 same p q e = by-le p q (λ h. omega (arith, dist-up h)) (λ h. let k : q ≤ p = omega arith in omega (arith, dist-down k))
@@ -39,7 +39,7 @@ step-next v q q' h l =
     by-le q q'
     (λ e. let a = ahead-up {p = q} {q = q'} 1 e in let d = dist-up e in ap (λ (b : Bool). cond b v (65536 - v)) (le-leb (ahead q q' 1) q' (omega arith) ∙ sym (le-leb q q' e)))
     (λ e. let f : q' ≤ q = omega arith in let a = ahead-down {p = q} {q = q'} 1 e in let d = dist-down f in let g : q' ≤ ahead q q' 1 = omega arith in let w = dist-down g in
-        ap (λ (b : Bool). cond b v (65536 - v)) (lt-leb (ahead q q' 1) q' (omega arith) ∙ sym (lt-leb q q' e)))
+    ap (λ (b : Bool). cond b v (65536 - v)) (lt-leb (ahead q q' 1) q' (omega arith) ∙ sym (lt-leb q q' e)))
 
 -- the length of the lines
 pub length-snake : (f s r c n k : ℕ) → length (snake f s r c n k) ≡ n * k
@@ -93,17 +93,33 @@ module _ {row : Bool} {E : ℕ → ℕ → Cell} {F : Frame row E} {u v : ℕ} (
       (λ g i j. C .apart _ (F .inside-over i) (F .inside-over j))
       (first-line p q p' hp hp' hq) (F .beside p' q (ahead q q' 1) (C .beside)) inner)
 
+  -- what the code's loop asks for
+  pub ask-snake : (p q p' q' : ℕ) {f s r c n k : ℕ} {buf : List ℕ} → p ≤ 255 → p' ≤ 255 → q ≤ 255
+      → f ≡ number (E p q) → s ≡ stepTo u p p' → r ≡ stepTo u p' p → c ≡ stepTo v q q' → n ≡ dist p p' → k ≡ dist q q'
+      → 2 * area (E p q) (E p' q') ≤ length buf → Steps f s r c (n + 1) (k + 1) buf
+  ask-snake p q p' q' {n = n} {k = k} hp hp' hq ef es er ec en ek l =
+      let g : (n + 1) * (k + 1) ≡ area (E p q) (E p' q') = (λ j. (en j + 1) * (ek j + 1)) ∙ sym (F .size p q p' q') in
+      record {
+        start = omega (arith, ef, number-small (N .unit q hq .small p hp));
+        forth = omega (arith, es, step-small (N .unit q hq) p p');
+        home = omega (arith, er, step-small (N .unit q hq) p' p);
+        beside = omega (arith, ec, step-small (N .unit-over p hp) q q');
+        some = omega arith;
+        most = omega (arith, en, dist-small p p' hp hp');
+        room = omega (arith, g, l);
+      }
+
   -- what the code has written, by the numbers that it computes
-  pub sweep-drawn : (p q p' q' : ℕ) {f s r c n k : ℕ} {old new : List ℕ} → p ≤ 255 → p' ≤ 255 → q ≤ 255 → q' ≤ 255
+  pub sweep-drawn : {way : Bool} → way ≡ row → (p q p' q' : ℕ) {f s r c n k : ℕ} {old new : List ℕ} → p ≤ 255 → p' ≤ 255 → q ≤ 255 → q' ≤ 255
       → f ≡ number (E p q) → s ≡ stepTo u p p' → r ≡ stepTo u p' p → c ≡ stepTo v q q' → n ≡ dist p p' → k ≡ dist q q'
       → new ≡ bytes (snake f s r c (n + 1) (k + 1)) ++ drop (2 * ((n + 1) * (k + 1))) old
-      → Drawn (Inside (E p q) (E p' q')) (E p q) (sweepEnd row (E p q) (E p' q')) (area (E p q) (E p' q')) old new
-  sweep-drawn p q p' q' {f} {s} {r} {c} {n} {k} {old} hp hp' hq hq' ef es er ec en ek w =
+      → Drawn (Inside (E p q) (E p' q')) (E p q) (sweepEnd way (E p q) (E p' q')) (area (E p q) (E p' q')) old new
+  sweep-drawn z p q p' q' {f} {s} {r} {c} {n} {k} {old} hp hp' hq hq' ef es er ec en ek w =
       let g : (n + 1) * (k + 1) ≡ area (E p q) (E p' q') = (λ j. (en j + 1) * (ek j + 1)) ∙ sym (F .size p q p' q') in
       record {
         cells = snake f s r c (n + 1) (k + 1);
         size = length-snake f s r c (n + 1) (k + 1) ∙ g;
-        track = subst₂ (λ (z : Cell) (l : List Cell). TrackIn (Inside (E p q) (E p' q')) (E p q) z l) (sym (F .end p q p' q'))
+        track = subst₂ (λ (z : Cell) (l : List Cell). TrackIn (Inside (E p q) (E p' q')) (E p q) z l) (sym (F .end p q p' q') ∙ ap (λ (b : Bool). sweepEnd b (E p q) (E p' q')) (sym z))
             (λ j. snake (sym ef j) (sym es j) (sym er j) (sym ec j) (sym en j + 1) (count j))
             (swept (dist q q') p q p' q' (stepTo v q q') hp hp' hq hq' refl (λ z. refl));
         written = w ∙ ap (λ (j : ℕ). bytes (snake f s r c (n + 1) (k + 1)) ++ drop (2 * j) old) g;

@@ -14,11 +14,11 @@ ghost use Rattle.grid.specs.Bytes.{bytes};
 ghost use Rattle.corner.specs.Corner.{Inside, trackCount, ahead, turning};
 ghost use Rattle.corner.specs.Line.{line, number, numbered, stepTo, snake, area, sweepEnd};
 ghost use Rattle.corner.specs.Peel.{oneLine, rowOf, RowsOff, ColumnsOff, Peel};
-ghost use Rattle.corner.specs.Drawn.{Small, Ready, Drawn};
+ghost use Rattle.corner.specs.Drawn.{Small, Steps, Ready, Drawn};
 
 // n cells from the number `first` on, each `step` further: one loop for the four directions, since
 // taking away is adding modulo 65536. The compiler stores eight cells at a time.
-fn line(first: u16, step: u16, n: usize, buf: &mut [u8])
+fn draw_line(first: u16, step: u16, n: usize, buf: &mut [u8])
     requires { ⌜ 2 * n ≤ length (now buf) ⌝ }
     ensures { λ _. ⌜ now (buf .exit) ≡ bytes (line (numbered first step) n) ++ drop (2 * n) (now (buf .entry)) ⌝ }
 {
@@ -31,8 +31,16 @@ fn line(first: u16, step: u16, n: usize, buf: &mut [u8])
 }
 
 // Lines of n cells there and back: from the end of a line to the beginning of the next it is `across`.
-fn snake(first: u32, there: u32, back: u32, across: u32, n: usize, lines: usize, buf: &mut [u8])
-    requires { ⌜ (first ≤ 65535) × ((there ≤ 65535) × ((back ≤ 65535) × ((across ≤ 65535) × ((1 ≤ n) × ((n ≤ 256) × (2 * (n * lines) ≤ length (now buf))))))) ⌝ }
+fn draw_snake(
+    first: u32,
+    there: u32,
+    back: u32,
+    across: u32,
+    n: usize,
+    lines: usize,
+    buf: &mut [u8],
+)
+    requires { ⌜ Steps first there back across n lines (now buf) ⌝ }
     ensures { λ _. ⌜ now (buf .exit) ≡ bytes (snake first there back across n lines) ++ drop (2 * (n * lines)) (now (buf .entry)) ⌝ }
 {
     let mut from = first;
@@ -40,7 +48,7 @@ fn snake(first: u32, there: u32, back: u32, across: u32, n: usize, lines: usize,
     let mut other = back;
     let mut at: usize = 0;
     for i in 0..lines {
-        line(from as u16, way as u16, n, &mut buf[at..]);
+        draw_line(from as u16, way as u16, n, &mut buf[at..]);
         from = (from + way * ((n - 1) as u32) + across) % 65536;
         let next = other;
         other = way;
@@ -86,7 +94,7 @@ fn cell_number(c: Cell) -> u32
 }
 
 // All rows or all columns of the rectangle of a and f, there and back from the corner a.
-fn sweep(row: bool, a: Cell, f: Cell, buf: &mut [u8])
+fn draw_sweep(row: bool, a: Cell, f: Cell, buf: &mut [u8])
     requires { ⌜ Small a ⌝ ∗ ⌜ Small f ⌝ ∗ ⌜ 2 * area a f ≤ length (now buf) ⌝ }
     ensures { λ _. ⌜ Drawn (Inside a f) a (sweepEnd row a f) (area a f) (now (buf .entry)) (now (buf .exit)) ⌝ }
 {
@@ -94,7 +102,7 @@ fn sweep(row: bool, a: Cell, f: Cell, buf: &mut [u8])
     let height = distance(a.y, f.y) + 1;
     let first = cell_number(a);
     if row {
-        snake(
+        draw_snake(
             first,
             step_to(1, a.x, f.x),
             step_to(1, f.x, a.x),
@@ -104,7 +112,7 @@ fn sweep(row: bool, a: Cell, f: Cell, buf: &mut [u8])
             buf,
         );
     } else {
-        snake(
+        draw_snake(
             first,
             step_to(256, a.y, f.y),
             step_to(256, f.y, a.y),
@@ -260,12 +268,12 @@ pub fn corner_track(a: Cell, b: Cell, t: Cell, buf: &mut [u8]) -> Cells
     let mut at: usize = 0;
     while !one_line(corner, opposite, t) {
         let p = peel(corner, opposite, t);
-        sweep(p.row, corner, p.far, &mut buf[at..]);
+        draw_sweep(p.row, corner, p.far, &mut buf[at..]);
         at = at + 2 * p.cells;
         corner = p.corner;
         opposite = p.opposite;
     }
-    sweep(corner.y == t.y, corner, t, &mut buf[at..]);
+    draw_sweep(corner.y == t.y, corner, t, &mut buf[at..]);
     count
 }
 
@@ -282,10 +290,10 @@ pub fn corner_track_back(a: Cell, b: Cell, t: Cell, buf: &mut [u8]) -> Cells
     while !one_line(corner, opposite, t) {
         let p = peel(corner, opposite, t);
         at = at - 2 * p.cells;
-        sweep(p.row, p.end, p.home, &mut buf[at..]);
+        draw_sweep(p.row, p.end, p.home, &mut buf[at..]);
         corner = p.corner;
         opposite = p.opposite;
     }
-    sweep(corner.y == t.y, t, corner, buf);
+    draw_sweep(corner.y == t.y, t, corner, buf);
     count
 }
