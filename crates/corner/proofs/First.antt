@@ -13,10 +13,10 @@ use borrow.Author.Tests.{eqb-true, eqb-false, eq-eqb, ne-eqb}
 use Rattle.grid.proofs.Facts.{cell-eq, dist-sym, ne-cases, same-ne, same-eq}
 use Rattle.corner.specs.Corner.{Inside, cornerCount, trackCount, ahead, turning}
 use Rattle.corner.specs.Line.{area, sweepEnd}
-use Rattle.corner.specs.Peel.{Off, RowsOff, ColumnsOff, Peel, rowOf, oneLine}
+use Rattle.corner.specs.Peel.{Open, Turned, First, Chosen, Peel, oneLine}
 use Rattle.corner.specs.Drawn.{Small}
 use Rattle.corner.proofs.Between.{Between, between, least, most, between-sym, start-between, parts, dist-zero, dist-up, dist-down, by-le, by-eq, Cut, cut}
-use Rattle.corner.proofs.Count.{Row, Chosen, choice, Turned, rows-counts, count-turned, count-thin, count-flat, count-here, count-full}
+use Rattle.corner.proofs.Count.{line-right, count-turned, count-thin, count-flat, count-here, count-full}
 
 -- ---- rectangles, coordinate by coordinate
 
@@ -134,31 +134,19 @@ ends-turned {p = p} {p' = p'} {r = r} (Ends.odd e f g) b = let d = ap (λ (i : �
 -- ---- the first lines and what remains
 
 module _ {row : Bool} {E : ℕ → ℕ → Cell} (F : Frame row E) {p q p' q' k x o l m : ℕ} {t : Cell} (e : Ends k p p' x o) (u : Cut q q' k l m)
-    (i : Inside (E p q) (E p' q') t) (far : k ≤ dist q (F .over t)) where
+    (i : Inside (E p q) (E p' q') t) (r : First k (dist p p' + 1) (dist q q' + 1) (dist p (F .along t)) (dist q (F .over t))) where
   rest-target : Inside (E x m) (E o q') t
-  rest-target = F .inside (ends-to e (F .inside-along i)) (u .rest _ (F .inside-over i) far .0)
+  rest-target = F .inside (ends-to e (F .inside-along i)) (u .rest _ (F .inside-over i) (r .far) .0)
 
-  -- the counts, in the frame's numbers
-  counts-off : cornerCount (dist p p' + 1) (dist q q' + 1) (dist p (F .along t)) (dist q (F .over t)) ≡ (dist p p' + 1) * k + cornerCount (dist p p' + 1) (dist m q' + 1) (dist x (F .along t)) (dist m (F .over t))
-      → trackCount (E p q) (E p' q') t ≡ (dist p p' + 1) * k + trackCount (E x m) (E o q') t
-  counts-off h =
-      F .count p q p' q' i ∙ h
+  rest-counts : trackCount (E p q) (E p' q') t ≡ (dist p p' + 1) * k + trackCount (E x m) (E o q') t
+  rest-counts =
+      F .count p q p' q' i
+      ∙ r .counts (dist m q' + 1) (dist x (F .along t)) (dist m (F .over t)) (let z = u .left in omega arith) (ends-turned e (F .inside-along i)) (sym (u .rest _ (F .inside-over i) (r .far) .1))
       ∙ ap (λ (n : ℕ). (dist p p' + 1) * k + cornerCount (n + 1) (dist m q' + 1) (dist x (F .along t)) (dist m (F .over t))) (sym (ends-dist e))
       ∙ ap (λ (n : ℕ). (dist p p' + 1) * k + n) (sym (F .count x m o q' rest-target))
 
-  -- all lines up to the one before the target's
-  block-off : 1 ≤ dist p p' → k + 1 ≡ dist q (F .over t) → trackCount (E p q) (E p' q') t ≡ (dist p p' + 1) * k + trackCount (E x m) (E o q') t
-  block-off w h =
-      let a = u .rest _ (F .inside-over i) far in
-      let y = parts (a .0) in
-      let n : dist q q' + 1 ≡ dist m q' + 1 + k = let z = u .left in omega arith in
-      counts-off
-      ((λ j. cornerCount (dist p p' + 1) (n j) (dist p (F .along t)) (sym (a .1) j))
-      ∙ rows-counts (dist p p' + 1) (dist m q' + 1) (dist p (F .along t)) (dist m (F .over t)) k (omega arith) (let z = a .1 in omega arith) (omega arith) (ends-turned e (F .inside-along i)))
-
-  peeled : {n : ℕ} → 1 ≤ k → n ≡ (dist p p' + 1) * k → trackCount (E p q) (E p' q') t ≡ (dist p p' + 1) * k + trackCount (E x m) (E o q') t
-      → Peel (E p q) (E p' q') t row (E p' l) (E x l) (E o q) (E x m) (E o q') n
-  peeled {n} some g h = record {
+  peeled : {n : ℕ} → n ≡ (dist p p' + 1) * k → Peel (E p q) (E p' q') t row (E p' l) (E x l) (E o q) (E x m) (E o q') n
+  peeled {n} g = record {
     size = g ∙ ap (λ (j : ℕ). (dist p p' + 1) * j) (sym (u .size)) ∙ sym (F .size p q p' l);
     end = ap (λ (j : ℕ). E j l) (ends-here e) ∙ ap (λ (j : ℕ). E (turning j p p') l) (sym (u .size)) ∙ sym (F .end p q p' l);
     size-back = g ∙ (λ j. (sym (ends-dist e) j + 1) * sym back j) ∙ sym (F .size x l o q);
@@ -169,99 +157,44 @@ module _ {row : Bool} {E : ℕ → ℕ → Cell} (F : Frame row E) {p q p' q' k 
     apart = λ d j z. u .apart _ (F .inside-over j) (F .inside-over z);
     beside = F .beside x l m (u .beside);
     target = rest-target;
-    counts = h ∙ ap (λ (j : ℕ). j + trackCount (E x m) (E o q') t) (sym g);
-    less = let y = u .left in let z = ends-dist e in omega (arith, F .sides x m o q', F .sides p q p' q');
+    counts = rest-counts ∙ ap (λ (j : ℕ). j + trackCount (E x m) (E o q') t) (sym g);
+    less = let y = u .left in let z = ends-dist e in let w = r .some in omega (arith, F .sides x m o q', F .sides p q p' q');
   }
     where
       back : dist l q + 1 ≡ k
       back = ap (λ (j : ℕ). j + 1) (dist-sym l q) ∙ u .size
 
-  -- the line that the choice gives
-  single-off : Row (dist p p' + 1) (dist q q' + 1) (dist p (F .along t)) (dist q (F .over t)) → k ≡ 1 → trackCount (E p q) (E p' q') t ≡ (dist p p' + 1) * k + trackCount (E x m) (E o q') t
-  single-off r f =
-      let a = u .rest _ (F .inside-over i) far in
-      let w : dist p (F .along t) + dist x (F .along t) + 1 ≡ dist p p' + 1 = other (ends-turned e (F .inside-along i)) in
-      counts-off
-      (r .counts (dist m q' + 1) (dist x (F .along t)) (dist m (F .over t)) (let z = u .left in omega arith) w (let z = a .1 in omega arith)
-      ∙ ap (λ (j : ℕ). j + cornerCount (dist p p' + 1) (dist m q' + 1) (dist x (F .along t)) (dist m (F .over t))) (omega arith ∙ ap (λ (j : ℕ). (dist p p' + 1) * j) (sym f)))
-    where
-      other : {w dx ex : ℕ} → Turned k w dx ex → dx + ex + 1 ≡ w
-      other (Turned.even g h) = absurd (omega arith)
-      other (Turned.odd g h) = h
-
--- ---- what may go first
-
-module _ {row : Bool} {E : ℕ → ℕ → Cell} (F : Frame row E) (p q p' q' : ℕ) (t : Cell) (i : Inside (E p q) (E p' q') t) where
-  abbrev Lines : ℕ → Type 0
-  Lines k = Off (E p q) (E p' q') t (E (turning k p p') (ahead q q' k)) (E (turning k p' p) q') (dist p p' + 1) k (dist q (F .over t))
-
-  cut-here : (k : ℕ) → 1 ≤ k → k ≤ dist q (F .over t) → Cut q q' k (ahead q q' (k - 1)) (ahead q q' k)
-  cut-here k some far = cut q q' k some (omega (arith, parts (F .inside-over i)))
-
-  block : {k : ℕ} → 1 ≤ dist p p' → 1 ≤ k → k + 1 ≡ dist q (F .over t) → Lines k
-  block {k} w some e = let far : k ≤ dist q (F .over t) = omega arith in record {
-    some = some;
-    far = far;
-    counts = block-off F (ends k p p') (cut-here k some far) i far w e;
-  }
-
-  single : Row (dist p p' + 1) (dist q q' + 1) (dist p (F .along t)) (dist q (F .over t)) → Lines 1
-  single r = record {
-    some = omega arith;
-    far = r .some;
-    counts = single-off F (ends 1 p p') (cut-here 1 (omega arith) (r .some)) i (r .some) r refl;
-  }
-
-  -- by the numbers that the code computes
-  taken-off : {k x o l m n : ℕ} → Lines k → x ≡ turning k p p' → o ≡ turning k p' p → l ≡ ahead q q' (k - 1) → m ≡ ahead q q' k → n ≡ (dist p p' + 1) * k
-      → Peel (E p q) (E p' q') t row (E p' l) (E x l) (E o q) (E x m) (E o q') n
-  taken-off {k} {x} {o} {l} {m} {n} r ex eo el em en =
-      peeled F
-      (subst₂ (λ (x o : ℕ). Ends k p p' x o) (sym ex) (sym eo) (ends k p p'))
-      (subst₂ (λ (l m : ℕ). Cut q q' k l m) (sym el) (sym em) (cut-here k (r .some) (r .far)))
-      i (r .far) (r .some) en
-      (r .counts ∙ (λ j. (dist p p' + 1) * k + trackCount (E (sym ex j) (sym em j)) (E (sym eo j) q') t))
+-- by the numbers that the code computes
+taken-off : {row : Bool} {E : ℕ → ℕ → Cell} (F : Frame row E) (p q p' q' : ℕ) (t : Cell) → Inside (E p q) (E p' q') t → {k x o l m n : ℕ}
+    → First k (dist p p' + 1) (dist q q' + 1) (dist p (F .along t)) (dist q (F .over t))
+    → x ≡ turning k p p' → o ≡ turning k p' p → l ≡ ahead q q' (k - 1) → m ≡ ahead q q' k → n ≡ (dist p p' + 1) * k
+    → Peel (E p q) (E p' q') t row (E p' l) (E x l) (E o q) (E x m) (E o q') n
+taken-off F p q p' q' t i {k} r ex eo el em =
+    peeled F
+    (subst₂ (λ (x o : ℕ). Ends k p p' x o) (sym ex) (sym eo) (ends k p p'))
+    (subst₂ (λ (l m : ℕ). Cut q q' k l m) (sym el) (sym em) (cut q q' k (r .some) (omega (arith, parts (F .inside-over i), r .far))))
+    i r
 
 -- rows and columns
 module _ (a b t : Cell) (i : Inside a b t) where
-  pub rows-off : {k : ℕ} → 1 ≤ dist (a .x) (b .x) → 1 ≤ k → k + 1 ≡ dist (a .y) (t .y) → RowsOff a b t k
-  unfolding in-rows
-  rows-off = block in-rows (a .x) (a .y) (b .x) (b .y) t i
-
-  pub columns-off : {k : ℕ} → 1 ≤ dist (a .y) (b .y) → 1 ≤ k → k + 1 ≡ dist (a .x) (t .x) → ColumnsOff a b t k
-  unfolding in-columns
-  columns-off = block in-columns (a .y) (a .x) (b .y) (b .x) t i
-
-  pub rows-taken : {k x o l m n : ℕ} → RowsOff a b t k → x ≡ turning k (a .x) (b .x) → o ≡ turning k (b .x) (a .x) → l ≡ ahead (a .y) (b .y) (k - 1) → m ≡ ahead (a .y) (b .y) k
+  pub rows-taken : {k x o l m n : ℕ} → First k (dist (a .x) (b .x) + 1) (dist (a .y) (b .y) + 1) (dist (a .x) (t .x)) (dist (a .y) (t .y))
+      → x ≡ turning k (a .x) (b .x) → o ≡ turning k (b .x) (a .x) → l ≡ ahead (a .y) (b .y) (k - 1) → m ≡ ahead (a .y) (b .y) k
       → n ≡ (dist (a .x) (b .x) + 1) * k → Peel a b t true (record { x = b .x; y = l }) (record { x = x; y = l }) (record { x = o; y = a .y }) (record { x = x; y = m }) (record { x = o; y = b .y }) n
   unfolding in-rows
   rows-taken = taken-off in-rows (a .x) (a .y) (b .x) (b .y) t i
 
-  pub columns-taken : {k x o l m n : ℕ} → ColumnsOff a b t k → x ≡ turning k (a .y) (b .y) → o ≡ turning k (b .y) (a .y) → l ≡ ahead (a .x) (b .x) (k - 1) → m ≡ ahead (a .x) (b .x) k
+  pub columns-taken : {k x o l m n : ℕ} → First k (dist (a .y) (b .y) + 1) (dist (a .x) (b .x) + 1) (dist (a .y) (t .y)) (dist (a .x) (t .x))
+      → x ≡ turning k (a .y) (b .y) → o ≡ turning k (b .y) (a .y) → l ≡ ahead (a .x) (b .x) (k - 1) → m ≡ ahead (a .x) (b .x) k
       → n ≡ (dist (a .y) (b .y) + 1) * k → Peel a b t false (record { x = l; y = b .y }) (record { x = l; y = x }) (record { x = a .x; y = o }) (record { x = m; y = x }) (record { x = b .x; y = o }) n
   unfolding in-columns
   columns-taken = taken-off in-columns (a .y) (a .x) (b .y) (b .x) t i
 
--- the line that the choice gives, in a rectangle that is not one line
-module _ (a b t : Cell) (i : Inside a b t) (n : 1 ≤ dist (a .x) (t .x) + dist (a .y) (t .y)) where
-  chosen : Chosen (dist (a .x) (b .x) + 1) (dist (a .y) (b .y) + 1) (dist (a .x) (t .x)) (dist (a .y) (t .y)) (rowOf a b t)
-  chosen = choice _ _ _ _ (dist-less (inside-x i)) (dist-less (inside-y i)) n
-
-  pub row-off : rowOf a b t ≡ true → RowsOff a b t 1
-  unfolding in-rows
-  row-off e = single in-rows (a .x) (a .y) (b .x) (b .y) t i (subst (Chosen _ _ _ _) e chosen)
-
-  pub column-off : rowOf a b t ≡ false → ColumnsOff a b t 1
-  unfolding in-columns
-  column-off e = single in-columns (a .y) (a .x) (b .y) (b .x) t i (subst (Chosen _ _ _ _) e chosen)
+  -- the line that may go first
+  pub first-line : 1 ≤ dist (a .x) (t .x) + dist (a .y) (t .y)
+      → First 1 (dist (a .x) (b .x) + 1) (dist (a .y) (b .y) + 1) (dist (a .x) (t .x)) (dist (a .y) (t .y)) ⊎ First 1 (dist (a .y) (b .y) + 1) (dist (a .x) (b .x) + 1) (dist (a .y) (t .y)) (dist (a .x) (t .x))
+  first-line = line-right _ _ _ _ (dist-less (inside-x i)) (dist-less (inside-y i))
 
 -- ---- what the code asks
-
--- not one line: the far corner is in another column and another row, and the target is another cell
-pub record Wide (a b t : Cell) : Type 0 where
-  pub across : 1 ≤ dist (a .x) (b .x)
-  pub down : 1 ≤ dist (a .y) (b .y)
-  pub away : 1 ≤ dist (a .x) (t .x) + dist (a .y) (t .y)
 
 pub or-left : {p : Bool} (q : Bool) → p ≡ true → true ≡ (p || q)
 or-left q e = subst⁻¹ (λ (b : Bool). true ≡ (b || q)) e refl
@@ -279,19 +212,37 @@ or-no false q e = (refl, e)
 dist-ne : (p q : ℕ) → p ≢ q → 1 ≤ dist p q
 dist-ne p q n = by-le p q (λ h. omega (arith, dist-up h)) (λ h. let k : q ≤ p = omega arith in omega (arith, dist-down k))
 
-pub wide : (a b t : Cell) → oneLine a b t ≡ false → Wide a b t
-wide a b t e =
+-- not one line, by the distances that the code computes
+pub open-numbers : (a b t : Cell) {w h dx dy : ℕ} → Inside a b t → oneLine a b t ≡ false → w ≡ dist (a .x) (b .x) → h ≡ dist (a .y) (b .y) → dx ≡ dist (a .x) (t .x) → dy ≡ dist (a .y) (t .y)
+    → Open (w + 1) (h + 1) dx dy
+open-numbers a b t i e ew eh ex ey =
     let u = or-no (eqb (a .x) (b .x)) _ e in
     let v = or-no (eqb (a .y) (b .y)) _ (u .1) in
     record {
-      across = dist-ne _ _ (eqb-false _ _ (u .0));
-      down = dist-ne _ _ (eqb-false _ _ (v .0));
-      away = far (ne-cases a t (same-ne a t (v .1)));
+      wide = omega (arith, dist-ne (a .x) (b .x) (eqb-false _ _ (u .0)));
+      high = omega (arith, dist-ne (a .y) (b .y) (eqb-false _ _ (v .0)));
+      across = omega (arith, dist-less (inside-x i));
+      down = omega (arith, dist-less (inside-y i));
+      away = omega (arith, far (ne-cases a t (same-ne a t (v .1))));
     }
   where
     far : (a .x ≢ t .x) ⊎ (a .y ≢ t .y) → 1 ≤ dist (a .x) (t .x) + dist (a .y) (t .y)
     far (inl n) = let k = dist-ne (a .x) (t .x) n in omega arith
     far (inr n) = let k = dist-ne (a .y) (t .y) n in omega arith
+
+pub open-turned : {w h dx dy : ℕ} → Open w h dx dy → Open h w dy dx
+open-turned o = record { wide = o .high; high = o .wide; across = o .down; down = o .across; away = let z = o .away in omega arith }
+
+-- the lines that the code chose
+pub chosen-row : {r : Bool} {k w h dx dy : ℕ} → r ≡ true → Chosen r k w h dx dy → First k w h dx dy
+chosen-row {k = k} {w = w} {h = h} {dx = dx} {dy = dy} e c = subst (λ (r : Bool). Chosen r k w h dx dy) e c
+
+pub chosen-column : {r : Bool} {k w h dx dy : ℕ} → r ≡ false → Chosen r k w h dx dy → First k h w dy dx
+chosen-column {k = k} {w = w} {h = h} {dx = dx} {dy = dy} e c = subst (λ (r : Bool). Chosen r k w h dx dy) e c
+
+-- the same by other numbers
+pub first-numbers : {k w h dx dy w' h' dx' dy' : ℕ} → w ≡ w' → h ≡ h' → dx ≡ dx' → dy ≡ dy' → First k (w + 1) (h + 1) dx dy → First k (w' + 1) (h' + 1) dx' dy'
+first-numbers {k} {w} {h} {dx' = dx'} {dy' = dy'} ew eh ex ey r = subst₂ (λ (w h : ℕ). First k (w + 1) (h + 1) dx' dy') ew eh (subst₂ (λ (dx dy : ℕ). First k (w + 1) (h + 1) dx dy) ex ey r)
 
 -- one line: the target lies in the corner's row or column, and the count is the line's
 or-yes : (p q : Bool) → (p || q) ≡ true → (p ≡ true) ⊎ (q ≡ true)

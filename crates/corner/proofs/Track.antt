@@ -1,7 +1,8 @@
 -- For every rectangle, corner and target there is a track with the count's cells: the first line, then the track of what remains.
 use Prim.Native.Nat.{ℕ, zero, suc, _+_, _≤_, _<_}
 use mathlib.Core.Path.{_≡_, refl, sym, _∙_, subst}
-use mathlib.Core.Bool.{Bool, true, false}
+use mathlib.Core.Logic.{⊎-elim}
+use mathlib.Core.Bool.{Bool}
 use mathlib.Core.List.{List, [], _∷_, _++_}
 use native.Mathlib.Omega.{arith}
 use native.Mathlib.Nat.{mul-one}
@@ -15,8 +16,8 @@ use Rattle.corner.specs.Corner.{Inside, trackCount, ahead}
 use Rattle.corner.proofs.Between.{by-eq, dist-up, dist-down, by-le, start-between}
 use Rattle.corner.proofs.Count.{count-here}
 use Rattle.corner.proofs.Line.{Axis, in-row, in-column, line-track, ahead-start, length-line}
-use Rattle.corner.specs.Peel.{Peel, rowOf}
-use Rattle.corner.proofs.First.{inside, turning-once, rows-taken, columns-taken, row-off, column-off}
+use Rattle.corner.specs.Peel.{Peel}
+use Rattle.corner.proofs.First.{inside, turning-once, rows-taken, columns-taken, first-line}
 
 -- a track with a given number of cells
 abbrev pub Sized : (Cell → Type 0) → Cell → Cell → ℕ → Type 0
@@ -42,12 +43,12 @@ joined p l r = (l .0 ++ r .0, (join (p .lines) (p .rest) (p .apart) (l .1 .0) (p
 -- by the sum of the sides
 go : (k : ℕ) (a b t : Cell) → Inside a b t → dist (a .x) (b .x) + dist (a .y) (b .y) < k → Sized (Inside a b) a t (trackCount a b t)
 go zero a b t i h = absurd (omega arith)
-go (suc k) a b t i h = by-eq (dist (a .x) (t .x) + dist (a .y) (t .y)) 0 (here a b t) (λ n. pick (go k) (omega arith) (rowOf a b t) refl)
-  where
-    pick : ((a b t : Cell) → Inside a b t → dist (a .x) (b .x) + dist (a .y) (b .y) < k → Sized (Inside a b) a t (trackCount a b t))
-        → 1 ≤ dist (a .x) (t .x) + dist (a .y) (t .y) → (r : Bool) → rowOf a b t ≡ r → Sized (Inside a b) a t (trackCount a b t)
-    pick f n true e = let p = rows-taken a b t i (row-off a b t i n e) (sym (turning-once _ _)) (sym (turning-once _ _)) (sym (ahead-start _ _)) refl (sym (mul-one _)) in joined p (straight (in-row (a .y)) (a .x) (b .x)) (f _ _ t (p .target) (omega (arith, p .less)))
-    pick f n false e = let p = columns-taken a b t i (column-off a b t i n e) (sym (turning-once _ _)) (sym (turning-once _ _)) (sym (ahead-start _ _)) refl (sym (mul-one _)) in joined p (straight (in-column (a .x)) (a .y) (b .y)) (f _ _ t (p .target) (omega (arith, p .less)))
+go (suc k) a b t i h = by-eq (dist (a .x) (t .x) + dist (a .y) (t .y)) 0 (here a b t) (λ n. ⊎-elim
+    (λ r. let p = rows-taken a b t i r (sym (turning-once _ _)) (sym (turning-once _ _)) (sym (ahead-start _ _)) refl (sym (mul-one _)) in
+    joined p (straight (in-row (a .y)) (a .x) (b .x)) (go k _ _ t (p .target) (omega (arith, p .less))))
+    (λ r. let p = columns-taken a b t i r (sym (turning-once _ _)) (sym (turning-once _ _)) (sym (ahead-start _ _)) refl (sym (mul-one _)) in
+    joined p (straight (in-column (a .x)) (a .y) (b .y)) (go k _ _ t (p .target) (omega (arith, p .less))))
+    (first-line a b t i (omega arith)))
 
 pub corner-track : (a b t : Cell) → Inside a b t → (l : List Cell) × (TrackIn (Inside a b) a t l × (length l ≡ trackCount a b t))
 corner-track a b t i = go (suc (dist (a .x) (b .x) + dist (a .y) (b .y))) a b t i (omega arith)

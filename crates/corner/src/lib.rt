@@ -7,13 +7,13 @@ use std::num::wrapping_add_u16;
 ghost use mathlib.Core.Path.{_≡_};
 ghost use mathlib.Core.Bool.{false};
 ghost use mathlib.Core.List.{_++_};
-ghost use Prim.Native.Nat.{_+_, _*_, _≤_};
+ghost use Prim.Native.Nat.{_+_, _-_, _*_, _%_, _≤_};
 ghost use lib.ListN.{length, drop};
 ghost use Rattle.grid.specs.Panel.{dist};
 ghost use Rattle.grid.specs.Bytes.{bytes};
 ghost use Rattle.corner.specs.Corner.{Inside, trackCount, ahead, turning};
 ghost use Rattle.corner.specs.Line.{line, number, numbered, stepTo, snake, area, sweepEnd};
-ghost use Rattle.corner.specs.Peel.{oneLine, rowOf, RowsOff, ColumnsOff, Peel};
+ghost use Rattle.corner.specs.Peel.{oneLine, Open, First, Chosen, Peel};
 ghost use Rattle.corner.specs.Drawn.{Small, Steps, Ready, Drawn};
 
 // n cells from the number `first` on, each `step` further: one loop for the four directions, since
@@ -30,7 +30,16 @@ fn draw_line(first: u16, step: u16, n: usize, buf: &mut [u8])
     }
 }
 
-// Lines of n cells there and back: from the end of a line to the beginning of the next it is `across`.
+// One of several lines: also the number where the next one begins, `across` from this one's end.
+fn draw_next(from: u32, way: u32, across: u32, n: usize, buf: &mut [u8]) -> u32
+    requires { ⌜ Steps from way way across n 1 (now buf) ⌝ }
+    ensures { λ r. ⌜ (r ≡ (from + way * (n - 1) + across) % 65536) × (now (buf .exit) ≡ bytes (line (numbered from way) n) ++ drop (2 * n) (now (buf .entry))) ⌝ }
+{
+    draw_line(from as u16, way as u16, n, buf);
+    (from + way * ((n - 1) as u32) + across) % 65536
+}
+
+// Lines of n cells there and back, in pairs, so that both steps are known before the loop.
 fn draw_snake(
     first: u32,
     there: u32,
@@ -44,16 +53,14 @@ fn draw_snake(
     ensures { λ _. ⌜ now (buf .exit) ≡ bytes (snake first there back across n lines) ++ drop (2 * (n * lines)) (now (buf .entry)) ⌝ }
 {
     let mut from = first;
-    let mut way = there;
-    let mut other = back;
     let mut at: usize = 0;
-    for i in 0..lines {
-        draw_line(from as u16, way as u16, n, &mut buf[at..]);
-        from = (from + way * ((n - 1) as u32) + across) % 65536;
-        let next = other;
-        other = way;
-        way = next;
-        at = at + 2 * n;
+    for i in 0..lines / 2 {
+        let middle = draw_next(from, there, across, n, &mut buf[at..]);
+        from = draw_next(middle, back, across, n, &mut buf[at + 2 * n..]);
+        at = at + 4 * n;
+    }
+    if lines % 2 == 1 {
+        draw_next(from, there, across, n, &mut buf[at..]);
     }
 }
 
@@ -137,27 +144,6 @@ fn one_line(a: Cell, b: Cell, t: Cell) -> bool
     same_cell(a, t)
 }
 
-// Whether its first line is a row.
-fn row_first(a: Cell, b: Cell, t: Cell) -> bool
-    ensures { λ r. ⌜ r ≡ rowOf a b t ⌝ }
-{
-    let dy = distance(a.y, t.y);
-    if 1 < dy {
-        return true;
-    }
-    if dy == 0 {
-        return false;
-    }
-    let dx = distance(a.x, t.x);
-    if dx == 0 {
-        return true;
-    }
-    if distance(a.y, b.y) == 1 {
-        return dx <= 1;
-    }
-    dx != distance(a.x, b.x)
-}
-
 // The number of cells of the track from a to t in the rectangle of a and b.
 pub fn corner_count(a: Cell, b: Cell, t: Cell) -> Cells
     requires { ⌜ Small a ⌝ ∗ ⌜ Small b ⌝ ∗ ⌜ Inside a b t ⌝ }
@@ -193,7 +179,7 @@ struct Peeled {
 }
 
 fn rows(a: Cell, b: Cell, t: Cell, k: u32) -> Peeled
-    requires { ⌜ Small a ⌝ ∗ ⌜ Small b ⌝ ∗ ⌜ Inside a b t ⌝ ∗ ⌜ RowsOff a b t k ⌝ }
+    requires { ⌜ Small a ⌝ ∗ ⌜ Small b ⌝ ∗ ⌜ Inside a b t ⌝ ∗ ⌜ First k (dist (a .x) (b .x) + 1) (dist (a .y) (b .y) + 1) (dist (a .x) (t .x)) (dist (a .y) (t .y)) ⌝ }
     ensures { λ r. ⌜ Peel a b t (r .row) (r .far) (r .end) (r .home) (r .corner) (r .opposite) (r .cells) ⌝ }
 {
     let x = turn(k, a.x, b.x);
@@ -214,7 +200,7 @@ fn rows(a: Cell, b: Cell, t: Cell, k: u32) -> Peeled
 }
 
 fn columns(a: Cell, b: Cell, t: Cell, k: u32) -> Peeled
-    requires { ⌜ Small a ⌝ ∗ ⌜ Small b ⌝ ∗ ⌜ Inside a b t ⌝ ∗ ⌜ ColumnsOff a b t k ⌝ }
+    requires { ⌜ Small a ⌝ ∗ ⌜ Small b ⌝ ∗ ⌜ Inside a b t ⌝ ∗ ⌜ First k (dist (a .y) (b .y) + 1) (dist (a .x) (b .x) + 1) (dist (a .y) (t .y)) (dist (a .x) (t .x)) ⌝ }
     ensures { λ r. ⌜ Peel a b t (r .row) (r .far) (r .end) (r .home) (r .corner) (r .opposite) (r .cells) ⌝ }
 {
     let y = turn(k, a.y, b.y);
@@ -234,26 +220,75 @@ fn columns(a: Cell, b: Cell, t: Cell, k: u32) -> Peeled
     }
 }
 
+// The lines that go first, of w columns and h rows: rows, or else columns, and how many.
+struct Lines {
+    row: bool,
+    count: u32,
+}
+
 // All rows up to the one before the target's, or, in two rows, all columns up to the one before the
-// target's; else one line. Columns in more rows would do too, but rows are longer more often.
+// target's; else one line.
+fn choose(w: u32, h: u32, dx: u32, dy: u32) -> Lines
+    requires { ⌜ Open w h dx dy ⌝ }
+    ensures { λ r. ⌜ Chosen (r .row) (r .count) w h dx dy ⌝ }
+{
+    if 1 < dy {
+        return Lines {
+            row: true,
+            count: dy - 1,
+        };
+    }
+    if dy == 0 {
+        return Lines {
+            row: false,
+            count: 1,
+        };
+    }
+    if h == 2 {
+        if 1 < dx {
+            return Lines {
+                row: false,
+                count: dx - 1,
+            };
+        }
+        return Lines {
+            row: true,
+            count: 1,
+        };
+    }
+    if dx == w - 1 {
+        return Lines {
+            row: false,
+            count: 1,
+        };
+    }
+    Lines {
+        row: true,
+        count: 1,
+    }
+}
+
+// The choice is made along the longer side, since few long lines are faster than many short ones.
 fn peel(a: Cell, b: Cell, t: Cell) -> Peeled
     requires { ⌜ Small a ⌝ ∗ ⌜ Small b ⌝ ∗ ⌜ Inside a b t ⌝ ∗ ⌜ oneLine a b t ≡ false ⌝ }
     ensures { λ r. ⌜ Peel a b t (r .row) (r .far) (r .end) (r .home) (r .corner) (r .opposite) (r .cells) ⌝ }
 {
+    let w = distance(a.x, b.x) + 1;
+    let h = distance(a.y, b.y) + 1;
+    let dx = distance(a.x, t.x);
     let dy = distance(a.y, t.y);
-    if 1 < dy {
-        return rows(a, b, t, dy - 1);
-    }
-    if distance(a.y, b.y) == 1 {
-        let dx = distance(a.x, t.x);
-        if 1 < dx {
-            return columns(a, b, t, dx - 1);
+    if h <= w {
+        let wide = choose(w, h, dx, dy);
+        if wide.row {
+            return rows(a, b, t, wide.count);
         }
+        return columns(a, b, t, wide.count);
     }
-    if row_first(a, b, t) {
-        return rows(a, b, t, 1);
+    let tall = choose(h, w, dy, dx);
+    if tall.row {
+        return columns(a, b, t, tall.count);
     }
-    columns(a, b, t, 1)
+    rows(a, b, t, tall.count)
 }
 
 // Writes the track from the corner a to t in the rectangle of a and b at the front of the buffer: the
