@@ -47,8 +47,8 @@ module _ (f s r c n k : ℕ) (old : List ℕ) where
     }
 
     -- what a line asks for that begins at any number and goes any way
-    pub ask-line : {new : List ℕ} {from way at : ℕ} → at + 2 * n ≤ length new → from ≤ 65535 → way ≤ 65535 → Steps from way way c n 1 (take (length new - at) (drop at new))
-    ask-line {new} {at = at} l h w = let z = mul-one n in record {
+    pub ask-line : (new : List ℕ) {from way : ℕ} (at : ℕ) → at + 2 * n ≤ length new → from ≤ 65535 → way ≤ 65535 → Steps from way way c n 1 (take (length new - at) (drop at new))
+    ask-line new at l h w = let z = mul-one n in record {
       start = h;
       forth = w;
       home = w;
