@@ -46,18 +46,6 @@ module _ (f s r c n k : ℕ) (old : List ℕ) where
       start = ask .start;
     }
 
-    -- what a line asks for that begins at any number and goes any way
-    pub ask-line : (new : List ℕ) {from way : ℕ} (at : ℕ) → at + 2 * n ≤ length new → from ≤ 65535 → way ≤ 65535 → Steps from way way c n 1 (take (length new - at) (drop at new))
-    ask-line new at l h w = let z = mul-one n in record {
-      start = h;
-      forth = w;
-      home = w;
-      beside = ask .beside;
-      some = ask .some;
-      most = ask .most;
-      room = omega (arith, part-long new at (omega arith));
-    }
-
     module _ {new : List ℕ} {from way other at i : ℕ} (d : Snaked new from way other at i) where
       one-more : n * (i + 1) ≡ n * i + n
       one-more = ap (λ (j : ℕ). n * j) (add-one i) ∙ mul-suc n i
@@ -70,6 +58,18 @@ module _ (f s r c n k : ℕ) (old : List ℕ) where
 
       pub room : i < k → at + 2 * n ≤ length new
       room h = let l : n * (i + 1) ≤ n * k = mul-le-mul-left n (omega arith) in let o = ask .room in omega (arith, one-more, so-long, d .so-far)
+
+      -- what the next line asks for, wherever it begins and whichever way it goes
+      pub ask-next : {x w : ℕ} → i < k → x ≤ 65535 → w ≤ 65535 → Steps x w w c n 1 (take (length new - at) (drop at new))
+      ask-next h l w = let o = room h in let z = mul-one n in record {
+        start = l;
+        forth = w;
+        home = w;
+        beside = ask .beside;
+        some = ask .some;
+        most = ask .most;
+        room = omega (arith, part-long new at (omega arith));
+      }
 
       pub more : {next : ℕ} (part : List ℕ) → i < k → next ≡ (from + way * (n - 1) + c) % 65536 → part ≡ bytes (line (numbered from way) n) ++ drop (2 * n) (take (length new - at) (drop at new))
           → Snaked (putMid at (length new - at) new part) next other way (at + 2 * n) (i + 1)

@@ -2,7 +2,7 @@
 use borrow.Author.Needs.{needs}
 use Prim.Native.Nat.{_+_, _-_}
 use native.Mathlib.Omega.{arith}
-use Rattle.corner.proofs.Snake.{Snaked, none, room, ask-line, more, all, so-long, same-place}
+use Rattle.corner.proofs.Snake.{Snaked, none, room, ask-next, more, all, so-long, same-place}
 use Rattle.corner.proofs.draw_snake.Statement.{statement}
 use Rattle.corner.proofs.draw_snake.Tie as tie
 
@@ -25,7 +25,7 @@ part-draw-next-end : tie.Need-part-draw-next-end Inv-loop μ-loop
 part-draw-next-end c = search needs
 
 draw-next-requires : tie.Need-draw-next-requires Inv-loop μ-loop
-draw-next-requires c κs = let p = c .before .before .before .before .pre in ask-line _ _ _ _ _ _ _ p _ _ (room _ _ _ _ _ _ _ p (c .before .before .loop .inv) (omega (arith, c .before .loop-test .taken))) (omega (arith, c .before .before .loop .inv .start)) (omega (arith, p .forth, p .home))
+draw-next-requires c κs = let p = c .before .before .before .before .pre in ask-next _ _ _ _ _ _ _ p (c .before .before .loop .inv) (omega (arith, c .before .loop-test .taken)) (omega (arith, c .before .before .loop .inv .start)) (omega (arith, p .forth, p .home))
 
 mul-draw-next : tie.Need-mul-draw-next Inv-loop μ-loop
 mul-draw-next c = omega (arith, c .before .before .before .before .before .before .before .pre .most)
@@ -43,7 +43,7 @@ part-draw-next-end-2 : tie.Need-part-draw-next-end-2 Inv-loop μ-loop
 part-draw-next-end-2 c = search needs
 
 draw-next-requires-2 : tie.Need-draw-next-requires-2 Inv-loop μ-loop
-draw-next-requires-2 c κs = let p = c .before .before .before .before .before .before .before .before .pre in ask-line _ _ _ _ _ _ _ p _ _ (room _ _ _ _ _ _ _ p (more _ _ _ _ _ _ _ (c .before .before .before .before .before .before .before .before .pre) (c .before .before .before .before .before .before .loop .inv) _ (omega (arith, c .before .before .before .before .before .loop-test .taken)) (c .before .before .before .draw-next .ensures .0) (c .before .before .before .draw-next .ensures .1)) (omega (arith, c .before .before .before .before .before .loop-test .taken))) (omega (arith, c .before .before .before .before .before .before .loop .inv .start, c .before .before .before .draw-next .ensures .0)) (omega (arith, p .forth, p .home))
+draw-next-requires-2 c κs = let p = c .before .before .before .before .before .before .before .before .pre in ask-next _ _ _ _ _ _ _ p (more _ _ _ _ _ _ _ (c .before .before .before .before .before .before .before .before .pre) (c .before .before .before .before .before .before .loop .inv) _ (omega (arith, c .before .before .before .before .before .loop-test .taken)) (c .before .before .before .draw-next .ensures .0) (c .before .before .before .draw-next .ensures .1)) (omega (arith, c .before .before .before .before .before .loop-test .taken)) (omega (arith, c .before .before .before .before .before .before .loop .inv .start, c .before .before .before .draw-next .ensures .0)) (omega (arith, p .forth, p .home))
 
 mul-at : tie.Need-mul-at Inv-loop μ-loop
 mul-at c = omega (arith, c .before .before .before .before .before .before .before .before .before .before .before .pre .most)
@@ -70,7 +70,7 @@ part-draw-next-end-3 : tie.Need-part-draw-next-end-3 Inv-loop μ-loop
 part-draw-next-end-3 c = search needs
 
 draw-next-requires-3 : tie.Need-draw-next-requires-3 Inv-loop μ-loop
-draw-next-requires-3 c κs = let p = c .before .before .before .before .before .pre in ask-line _ _ _ _ _ _ _ p _ _ (room _ _ _ _ _ _ _ p (c .before .before .before .loop .inv) (omega (arith, c .before .before .before .loop .inv .turns, c .before .before .loop-test .left, c .before .if1 .taken))) (omega (arith, c .before .before .before .loop .inv .start)) (omega (arith, p .forth, p .home))
+draw-next-requires-3 c κs = let p = c .before .before .before .before .before .pre in ask-next _ _ _ _ _ _ _ p (c .before .before .before .loop .inv) (omega (arith, c .before .before .before .loop .inv .turns, c .before .before .loop-test .left, c .before .if1 .taken)) (omega (arith, c .before .before .before .loop .inv .start)) (omega (arith, p .forth, p .home))
 
 same-length : tie.Need-same-length Inv-loop μ-loop
 same-length c = so-long _ _ _ _ _ _ _ (c .before .before .before .before .before .before .before .before .pre) (more _ _ _ _ _ _ _ (c .before .before .before .before .before .before .before .before .pre) (c .before .before .before .before .before .before .loop .inv) _ (omega (arith, c .before .before .before .before .before .before .loop .inv .turns, c .before .before .before .before .before .loop-test .left, c .before .before .before .before .if1 .taken)) (c .before .before .draw-next3 .ensures .0) (c .before .before .draw-next3 .ensures .1))
