@@ -1,24 +1,24 @@
 -- The same track drawn from its end: any track of the rectangle that remains, and what has been drawn behind it, are together a track of the whole.
 use Prim.Native.Nat.{ℕ, _+_, _-_, _*_, _≤_}
 use mathlib.Core.Path.{_≡_, sym, ap, _∙_, subst}
+use mathlib.Core.Bool.{Bool}
 use mathlib.Core.List.{List, [], _++_, append-assoc, append-nil}
 use native.Mathlib.Omega.{arith}
 use lib.ListN.{length, take, drop, length-append, length-drop, take-append-drop}
 use lib.Seq.{drop-at, take-take, take-append-le, length-take-le}
 use borrow.Rule.Slice.PartMut.{putMid}
 use Rattle.grid.specs.declared.Cell.{Cell}
-use Rattle.grid.specs.Panel.{dist}
 use Rattle.grid.specs.Track.{TrackIn}
 use Rattle.grid.specs.Bytes.{bytes}
 use Rattle.grid.proofs.Facts.{beside-sym, dist-sym}
 use Rattle.grid.proofs.Bytes.{bytes-append, length-bytes}
 use Rattle.grid.proofs.Track.{join, widen}
 use Rattle.corner.specs.Corner.{Inside, trackCount}
-use Rattle.corner.specs.Line.{Straight}
+use Rattle.corner.specs.Line.{area, sweepEnd}
 use Rattle.corner.specs.Peel.{Peel}
 use Rattle.corner.specs.Drawn.{Small, Ready, Drawn}
 use Rattle.corner.proofs.First.{Only, small-inside}
-use Rattle.corner.proofs.Drawn.{part-written, part-long, first-inside, last-inside, inside-part, inside-sym, straight-sym}
+use Rattle.corner.proofs.Drawn.{part-written, part-long, first-inside, last-inside, inside-part}
 
 -- the lines before the rectangle of a' and b' stand backwards behind the first `at` bytes, which are left for what remains
 pub record Ended (a b t : Cell) (old : List ℕ) (a' b' : Cell) (at : ℕ) (new : List ℕ) : Type 0 where
@@ -33,6 +33,10 @@ pub record Ended (a b t : Cell) (old : List ℕ) (a' b' : Cell) (at : ℕ) (new 
 
 pub put-back : (p q : ℕ) → q ≤ p → p - q + q ≡ p
 put-back p q h = omega arith
+
+area-sym : (a c : Cell) → area a c ≡ area c a
+unfolding area
+area-sym a c = λ i. (dist-sym (a .x) (c .x) i + 1) * (dist-sym (a .y) (c .y) i + 1)
 
 -- nothing drawn yet
 pub ended : {a b t : Cell} {old : List ℕ} {k : ℕ} → Ready a b t old → k ≡ trackCount a b t → Ended a b t old a b (2 * k) old
@@ -70,71 +74,68 @@ module _ {a b t : Cell} {old : List ℕ} (ready : Ready a b t old) {a' b' : Cell
       ∙ sym (append-assoc (bytes l) (bytes (d .cells)) (drop (2 * trackCount a b t) old))
       ∙ ap (λ (r : List ℕ). r ++ drop (2 * trackCount a b t) old) (sym (bytes-append l (d .cells)))
 
-  -- the next line goes before the lines so far
-  pub line-start : {c a'' b'' : Cell} {n : ℕ} → Peel a' b' t c a'' b'' n → 2 * n ≤ at
+  -- the next lines go before the lines so far
+  pub line-start : {row : Bool} {f c g a'' b'' : Cell} {n : ℕ} → Peel a' b' t row f c g a'' b'' n → 2 * n ≤ at
   line-start p = omega (arith, d .size, p .counts)
 
   pub fits : at ≤ length new
   fits = omega (arith, room, long)
 
-  -- the line from c to a' at `from`
-  pub ask-line : {c a'' b'' : Cell} {n : ℕ} (from : ℕ) → Peel a' b' t c a'' b'' n → from + 2 * n ≡ at
-      → Small c × (Small a' × (Straight c a' × (2 * (dist (c .x) (a' .x) + dist (c .y) (a' .y) + 1) ≤ length (take (length new - from) (drop from new)))))
-  ask-line {c} from p e = (
-    small-inside (d .corner) (d .opposite) (p .line c (last-inside a' c)),
+  -- the lines from c back to a' at `from`
+  pub ask-lines : {row : Bool} {f c g a'' b'' : Cell} {n : ℕ} (from : ℕ) → Peel a' b' t row f c g a'' b'' n → from + 2 * n ≡ at
+      → Small c × (Small g × (2 * area c g ≤ length (take (length new - from) (drop from new))))
+  ask-lines {c = c} {g = g} from p e = (
+    part-small (first-inside c g),
     (
-      d .corner,
-      (
-        straight-sym (p .straight),
-        omega (arith, part-long new from (omega (arith, fits)), fits, p .long, dist-sym (a' .x) (c .x), dist-sym (a' .y) (c .y)),
-      ),
+      part-small (last-inside c g),
+      omega (arith, part-long new from (omega (arith, fits)), fits, p .size-back),
     ),
   )
+    where
+      part-small : {z : Cell} → Inside c g z → Small z
+      part-small i = small-inside (d .corner) (d .opposite) (p .lines _ (p .same _ i))
 
-  pub step : {c a'' b'' : Cell} {n k from : ℕ} {part : List ℕ} → Peel a' b' t c a'' b'' n → from + 2 * n ≡ at → k ≡ dist (c .x) (a' .x) + dist (c .y) (a' .y) + 1
-      → Drawn (Inside c a') c a' k (take (length new - from) (drop from new)) part → Ended a b t old a'' b'' from (putMid from (length new - from) new part)
-  step {c} {a''} {b''} {n} {k} {from} {part} p q u e =
-      let v : k ≡ n = omega (arith, u, p .long, dist-sym (a' .x) (c .x), dist-sym (a' .y) (c .y)) in
+  pub step : {row : Bool} {f c g a'' b'' : Cell} {n from : ℕ} {part : List ℕ} → Peel a' b' t row f c g a'' b'' n → from + 2 * n ≡ at
+      → Drawn (Inside c g) c (sweepEnd row c g) (area c g) (take (length new - from) (drop from new)) part → Ended a b t old a'' b'' from (putMid from (length new - from) new part)
+  step {row} {f} {c} {g} {a''} {b''} {n} {from} {part} p q e =
       let l : from ≤ at = omega arith in
-      let w : from + 2 * k ≡ at = omega arith in
+      let w : from + 2 * area c g ≡ at = omega (arith, p .size-back) in
+      let back : TrackIn (Inside c g) c a' (e .cells) = subst (λ (z : Cell). TrackIn (Inside c g) c z (e .cells)) (sym (p .end-back)) (e .track) in
       record {
         corner = small-inside (d .corner) (d .opposite) (p .rest a'' (first-inside a'' b''));
         opposite = small-inside (d .corner) (d .opposite) (p .rest b'' (last-inside a'' b''));
         target = p .target;
         cells = e .cells ++ d .cells;
         size = omega (arith, d .size, p .counts);
-        counts = omega (arith, length-append (e .cells) (d .cells), d .counts, p .counts, e .size);
+        counts = omega (arith, length-append (e .cells) (d .cells), d .counts, p .counts, e .size, p .size-back);
         written =
-            part-written new part from k (e .cells) (omega (arith, fits)) (e .written)
+            part-written new part from (area c g) (e .cells) (omega (arith, fits)) (e .written)
             ∙ (λ i. front l i ++ (bytes (e .cells) ++ drop (w i) new))
             ∙ ap (λ (r : List ℕ). take from old ++ r) (joined (e .cells));
         whole = λ m x. subst (TrackIn (Inside a b) t a) (append-assoc m (e .cells) (d .cells))
-            (d .whole (m ++ e .cells) (join (p .rest) (λ g i. p .line g (inside-sym i)) (λ g i j. p .apart g (inside-sym j) i) x (beside-sym (p .beside)) (e .track)));
+            (d .whole (m ++ e .cells) (join (p .rest) (λ z i. p .lines z (p .same z i)) (λ z i j. p .apart z (p .same z j) i) x (beside-sym (p .beside)) back));
       }
     where
       front : from ≤ at → take from new ≡ take from old
       front l = ap (take from) (d .written) ∙ take-append-le from (take at old) _ (omega (arith, front-long)) ∙ take-take from at old l
 
   -- the last line, at the front
-  pub ask-last : Only a' b' t → Small t × (Small a' × (Straight t a' × (2 * (dist (t .x) (a' .x) + dist (t .y) (a' .y) + 1) ≤ length new)))
+  pub ask-last : {row : Bool} → Only a' b' t row → Small t × (Small a' × (2 * area t a' ≤ length new))
   ask-last o = (
     small-inside (d .corner) (d .opposite) (d .target),
     (
       d .corner,
-      (
-        straight-sym (o .straight),
-        omega (arith, fits, d .size, o .counts, dist-sym (a' .x) (t .x), dist-sym (a' .y) (t .y)),
-      ),
+      omega (arith, fits, d .size, o .counts, area-sym a' t),
     ),
   )
 
-  pub finish : {k : ℕ} {last : List ℕ} → Only a' b' t → k ≡ dist (t .x) (a' .x) + dist (t .y) (a' .y) + 1
-      → Drawn (Inside t a') t a' k new last → Drawn (Inside a b) t a (trackCount a b t) old last
-  finish {k} {last} o u e =
-      let v : 2 * k ≡ at = omega (arith, u, d .size, o .counts, dist-sym (a' .x) (t .x), dist-sym (a' .y) (t .y)) in
+  pub finish : {row : Bool} {last : List ℕ} → Only a' b' t row
+      → Drawn (Inside t a') t (sweepEnd row t a') (area t a') new last → Drawn (Inside a b) t a (trackCount a b t) old last
+  finish o e =
+      let v : 2 * area t a' ≡ at = omega (arith, d .size, o .counts, area-sym a' t) in
       record {
         cells = e .cells ++ d .cells;
         size = omega (arith, length-append (e .cells) (d .cells), d .size, d .counts, e .size);
-        track = d .whole (e .cells) (widen (λ c i. inside-part (d .target) (first-inside a' b') i) (e .track));
+        track = d .whole (e .cells) (subst (λ (z : Cell). TrackIn (Inside a' b') t z (e .cells)) (o .end-back) (widen (λ c i. inside-part (d .target) (first-inside a' b') i) (e .track)));
         written = e .written ∙ ap (λ (i : ℕ). bytes (e .cells) ++ drop i new) v ∙ joined (e .cells);
       }

@@ -6,9 +6,9 @@ use mathlib.Core.Logic.{_≢_}
 use mathlib.Core.Bool.{Bool, cond}
 use native.Mathlib.Omega.{arith}
 use native.Mathlib.Decide.{decLe, ℕ-discrete}
-use borrow.Author.Tests.{lt-ltb, le-ltb}
+use borrow.Author.Tests.{le-leb, lt-leb}
 use Rattle.grid.specs.Panel.{dist}
-use Rattle.corner.specs.Corner.{toward}
+use Rattle.corner.specs.Corner.{ahead}
 
 -- ---- cases
 
@@ -25,6 +25,9 @@ by-eq {C = C} a b f g = go (ℕ-discrete a b)
     go : Dec (a ≡ b) → C
     go (yes h) = f h
     go (no h) = g h
+
+pub lt-le : {p q : ℕ} → q < p → q ≤ p
+lt-le h = omega arith
 
 -- ---- distances
 
@@ -70,74 +73,68 @@ pub parts : {p q r : ℕ} → Between p q r → dist p r + dist q r ≡ dist p q
 parts {p} {q} (Between.up l h) = let e : p ≤ q = omega arith in omega (arith, dist-up l, dist-down h, dist-up e)
 parts {p} {q} (Between.down l h) = let e : q ≤ p = omega arith in omega (arith, dist-down h, dist-up l, dist-down e)
 
--- ---- one step
+-- ---- k steps ahead
 
-toward-up : {p q : ℕ} → p < q → toward p q ≡ p + 1
-unfolding toward
-toward-up {p} {q} h = ap (λ (b : Bool). cond b (p + 1) (p - 1)) (lt-ltb p q h)
+pub ahead-up : {p q : ℕ} (k : ℕ) → p ≤ q → ahead p q k ≡ p + k
+unfolding ahead
+ahead-up {p} {q} k h = ap (λ (b : Bool). cond b (p + k) (p - k)) (le-leb p q h)
 
-toward-down : {p q : ℕ} → q < p → toward p q + 1 ≡ p
-unfolding toward
-toward-down {p} {q} h = ap (λ (b : Bool). cond b (p + 1) (p - 1) + 1) (le-ltb p q (omega arith)) ∙ omega arith
+pub ahead-down : {p q : ℕ} (k : ℕ) → q < p → ahead p q k ≡ p - k
+unfolding ahead
+ahead-down {p} {q} k h = ap (λ (b : Bool). cond b (p + k) (p - k)) (lt-leb p q h)
 
--- p' is one step from p on the way to q, and r lies on that way behind it
-pub record Step (p q r p' : ℕ) : Type 0 where
-  pub one : dist p p' ≡ 1
-  pub left : dist p' q + 1 ≡ dist p q
-  pub near : dist p' r + 1 ≡ dist p r
-  pub behind : Between p' q r
-  pub within : (s : ℕ) → Between p' q s → Between p q s
-  pub past : (s : ℕ) → Between p' q s → s ≢ p
+lies-up : {p q r : ℕ} → p ≤ q → Between p q r → (p ≤ r) × (r ≤ q)
+lies-up e (Between.up l h) = (l, h)
+lies-up e (Between.down l h) = (omega arith, omega arith)
 
-step-up : {p q r p' : ℕ} → p' ≡ p + 1 → p' ≤ r → r ≤ q → Step p q r p'
-step-up {p} {q} {r} {p'} e l h =
-    let a : p ≤ p' = omega arith in
-    let b : p' ≤ q = omega arith in
+lies-down : {p q r : ℕ} → q ≤ p → Between p q r → (q ≤ r) × (r ≤ p)
+lies-down e b = lies-up e (between-sym b)
+
+-- the way from p to q, cut: k numbers from p to l, then those from m on
+pub record Cut (p q k l m : ℕ) : Type 0 where
+  pub before : (s : ℕ) → Between p l s → Between p q s
+  pub behind : (s : ℕ) → Between m q s → Between p q s
+  pub apart : (s : ℕ) → Between p l s → Between m q s → ⊥
+  pub beside : dist l m ≡ 1
+  pub size : dist p l + 1 ≡ k
+  pub left : dist m q + k ≡ dist p q
+  pub rest : (r : ℕ) → Between p q r → k ≤ dist p r → Between m q r × (dist m r + k ≡ dist p r)
+
+cut-up : {p q k l m : ℕ} → 1 ≤ k → l + 1 ≡ p + k → m ≡ p + k → m ≤ q → Cut p q k l m
+cut-up {p} {q} {k} {l} {m} o e f h =
+    let a : p ≤ l = omega arith in
+    let b : l ≤ m = omega arith in
     let c : p ≤ q = omega arith in
-    let d : p ≤ r = omega arith in
     record {
-      one = omega (arith, dist-up a);
-      left = omega (arith, dist-up b, dist-up c);
-      near = omega (arith, dist-up l, dist-up d);
-      behind = Between.up l h;
-      within = w;
-      past = v;
+      before = λ s i. let x = lies-up a i in Between.up (x .0) (omega (arith, x));
+      behind = λ s i. let x = lies-up h i in Between.up (omega (arith, x)) (x .1);
+      apart = λ s i j. let x = lies-up a i in let y = lies-up h j in omega (arith, x, y);
+      beside = omega (arith, dist-up b);
+      size = omega (arith, dist-up a);
+      left = omega (arith, dist-up h, dist-up c);
+      rest = λ r i d. let x = lies-up c i in let y = dist-up (x .0) in let z : m ≤ r = omega arith in (Between.up z (x .1), omega (arith, dist-up z));
     }
-  where
-    w : (s : ℕ) → Between p' q s → Between p q s
-    w s (Between.up x y) = Between.up (omega arith) y
-    w s (Between.down x y) = Between.up (omega arith) (omega arith)
 
-    v : (s : ℕ) → Between p' q s → s ≢ p
-    v s (Between.up x y) = omega arith
-    v s (Between.down x y) = omega arith
-
-step-down : {p q r p' : ℕ} → p' + 1 ≡ p → r ≤ p' → q ≤ r → Step p q r p'
-step-down {p} {q} {r} {p'} e h l =
-    let a : p' ≤ p = omega arith in
-    let b : q ≤ p' = omega arith in
+cut-down : {p q k l m : ℕ} → 1 ≤ k → l + k ≡ p + 1 → m + k ≡ p → q ≤ m → Cut p q k l m
+cut-down {p} {q} {k} {l} {m} o e f h =
+    let a : l ≤ p = omega arith in
+    let b : m ≤ l = omega arith in
     let c : q ≤ p = omega arith in
-    let d : r ≤ p = omega arith in
     record {
-      one = omega (arith, dist-down a);
-      left = omega (arith, dist-down b, dist-down c);
-      near = omega (arith, dist-down h, dist-down d);
-      behind = Between.down l h;
-      within = w;
-      past = v;
+      before = λ s i. let x = lies-down a i in Between.down (omega (arith, x)) (x .1);
+      behind = λ s i. let x = lies-down h i in Between.down (x .0) (omega (arith, x));
+      apart = λ s i j. let x = lies-down a i in let y = lies-down h j in omega (arith, x, y);
+      beside = omega (arith, dist-down b);
+      size = omega (arith, dist-down a);
+      left = omega (arith, dist-down h, dist-down c);
+      rest = λ r i d. let x = lies-down c i in let y = dist-down (x .1) in let z : r ≤ m = omega arith in (Between.down (x .0) z, omega (arith, dist-down z));
     }
-  where
-    w : (s : ℕ) → Between p' q s → Between p q s
-    w s (Between.up x y) = Between.down (omega arith) (omega arith)
-    w s (Between.down x y) = Between.down x (omega arith)
 
-    v : (s : ℕ) → Between p' q s → s ≢ p
-    v s (Between.up x y) = omega arith
-    v s (Between.down x y) = omega arith
-
-pub step-toward : {p q r : ℕ} → Between p q r → r ≢ p → Step p q r (toward p q)
-step-toward {p} {q} {r} (Between.up l h) n = let e : toward p q ≡ p + 1 = toward-up (omega arith) in step-up e (omega arith) h
-step-toward {p} {q} {r} (Between.down l h) n = let e : toward p q + 1 ≡ p = toward-down (omega arith) in step-down e (omega arith) l
+pub cut : (p q k : ℕ) → 1 ≤ k → k ≤ dist p q → Cut p q k (ahead p q (k - 1)) (ahead p q k)
+cut p q k o h =
+    by-le p q
+    (λ e. let d = dist-up e in let a = ahead-up {p = p} {q = q} (k - 1) e in let b = ahead-up {p = p} {q = q} k e in cut-up o (omega arith) (omega arith) (omega arith))
+    (λ e. let f : q ≤ p = omega arith in let d = dist-down f in let a = ahead-down {p = p} {q = q} (k - 1) e in let b = ahead-down {p = p} {q = q} k e in cut-down o (omega arith) (omega arith) (omega arith))
 
 pub between-part : {p q r s u : ℕ} → Between p q r → Between p q s → Between r s u → Between p q u
 between-part {p} {q} {r} {s} {u} i j k =

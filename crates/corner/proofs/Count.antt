@@ -1,16 +1,15 @@
--- The count of a corner track: a line that `rowFirst` chooses, and the track of what remains, have the count's cells together.
+-- The count of a corner track: the lines that go first, and the track of what remains, have the count's cells together.
 -- Outside the degenerate cases w * h + dx + dy keeps its parity when a row is taken away, so the rest is linear with w * h as an unknown.
-use Prim.Native.Nat.{ℕ, _+_, _-_, _*_, _%_, _≤_, _<_}
-use mathlib.Core.Path.{_≡_, refl, sym, ap, _∙_, subst}
-use mathlib.Core.Logic.{_≢_}
-use mathlib.Core.Bool.{Bool, true, false, cond, not}
+use Prim.Native.Nat.{ℕ, _+_, _-_, _*_, _/_, _%_, _≤_, _<_}
+use mathlib.Core.Path.{_≡_, refl, sym, ap, _∙_}
+use mathlib.Core.Logic.{_≢_, _⊎_, inl, inr}
 use native.Mathlib.Omega.{arith}
-use native.Mathlib.Nat.{mul-comm, mul-suc, mul-pos}
+use native.Mathlib.Nat.{mul-comm, mul-one, mul-suc, mul-add, mul-pos}
 use native.Mathlib.Numerals.{add-one}
-use lib.Dec.{leb, eqb}
-use borrow.Author.Tests.{eq-eqb, ne-eqb, lt-ltb, le-ltb, le-leb, lt-leb}
+use borrow.Author.Tests.{eq-eqb, ne-eqb}
 use Rattle.grid.proofs.Tests.{cond-yes, cond-no}
-use Rattle.corner.specs.Corner.{cornerCount, rowFirst}
+use Rattle.corner.specs.Corner.{cornerCount}
+use Rattle.corner.specs.Peel.{Open, Turned, First}
 use Rattle.corner.proofs.Between.{by-eq, by-le}
 
 -- ---- the count, case by case
@@ -64,15 +63,18 @@ same-parity p w dx ex dy l e =
     let f : (p + w + (dx + (dy + 1))) % 2 ≡ (p + (ex + dy)) % 2 = omega arith in
     omega arith
 
--- the row from the corner is a right first line: the target is not in it, and its cells and the count of what remains add up
-pub record Row (w h dx dy : ℕ) : Type 0 where
-  pub some : 1 ≤ dy
-  pub counts : (k ex ey : ℕ) → h ≡ k + 1 → dx + ex + 1 ≡ w → dy ≡ ey + 1 → cornerCount w h dx dy ≡ w + cornerCount w k ex ey
-
--- when it is
-row-right : (w h dx dy : ℕ) → dx < w → dy < h → 1 ≤ dy → (h ≡ 2 → dx ≤ 1) → (h ≢ 2 → w ≢ 1 → w + dy ≢ dx + 2) → Row w h dx dy
-row-right w h dx dy x y l two many = record { some = l; counts = go }
+-- when the row from the corner may go first
+row-right : (w h dx dy : ℕ) → dx < w → dy < h → 1 ≤ dy → (h ≡ 2 → dx ≤ 1) → (h ≢ 2 → w ≢ 1 → w + dy ≢ dx + 2) → First 1 w h dx dy
+row-right w h dx dy x y l two many = record {
+  some = omega arith;
+  far = l;
+  counts = λ k ex ey f t d. go k ex ey f (other t) d ∙ ap (λ (i : ℕ). i + cornerCount w k ex ey) (sym (mul-one w));
+}
   where
+    other : {ex : ℕ} → Turned 1 w dx ex → dx + ex + 1 ≡ w
+    other (Turned.even e f) = absurd (omega arith)
+    other (Turned.odd e f) = f
+
     thin : (k ex ey : ℕ) → h ≡ k + 1 → dx + ex + 1 ≡ w → dy ≡ ey + 1 → w ≡ 1 → cornerCount w h dx dy ≡ w + cornerCount w k ex ey
     thin k ex ey f g d e = let r = count-thin w k ex ey e (omega arith) (omega arith) in count-thin w h dx dy e (omega arith) y ∙ omega arith
 
@@ -96,64 +98,68 @@ row-right w h dx dy x y l two many = record { some = l; counts = go }
     go : (k ex ey : ℕ) → h ≡ k + 1 → dx + ex + 1 ≡ w → dy ≡ ey + 1 → cornerCount w h dx dy ≡ w + cornerCount w k ex ey
     go k ex ey f g d = by-eq w 1 (thin k ex ey f g d) (λ e. by-eq h 2 (flat k ex ey f g d e) (full k ex ey f g d e))
 
+-- ---- k rows taken away
+
+turned-parity : {k w dx ex : ℕ} → Turned k w dx ex → (q : ℕ) × (w * k + (dx + k) ≡ ex + 2 * q)
+turned-parity {k} {w} {dx} {ex} t = go t (k / 2) (omega arith)
+  where
+    twice : (j : ℕ) → w * (j + j) ≡ w * j + w * j
+    twice j = mul-add w j j
+
+    go : Turned k w dx ex → (j : ℕ) → k ≡ j + j + k % 2 → (q : ℕ) × (w * k + (dx + k) ≡ ex + 2 * q)
+    go (Turned.even e f) j h =
+        let d : k ≡ j + j = omega arith in
+        let p : w * k ≡ w * j + w * j = ap (λ (i : ℕ). w * i) d ∙ twice j in
+        (w * j + j, omega arith)
+    go (Turned.odd e f) j h =
+        let d : k ≡ j + j + 1 = omega arith in
+        let p : w * k ≡ w * j + w * j + w = ap (λ (i : ℕ). w * i) (d ∙ add-one (j + j)) ∙ mul-suc w (j + j) ∙ ap (λ (i : ℕ). i + w) (twice j) in
+        (w * j + j + dx + 1, omega arith)
+
+-- rows up to the one before the target's may go first, all at once
+pub rows-right : (k w h dx dy : ℕ) → 2 ≤ w → 1 ≤ k → k + 1 ≡ dy → dy < h → First k w h dx dy
+rows-right k w h dx dy v some e y = record { some = some; far = omega arith; counts = go }
+  where
+    parity : (p b ex ey q : ℕ) → 1 ≤ p → b + (dx + k) ≡ ex + 2 * q → p + b - 1 + (p + b + (dx + (ey + k))) % 2 ≡ b + (p - 1 + (p + (ex + ey)) % 2)
+    parity p b ex ey q l e =
+        let f : (p + b + (dx + (ey + k))) % 2 ≡ (p + (ex + ey)) % 2 = omega arith in
+        omega arith
+
+    go : (h' ex ey : ℕ) → h ≡ h' + k → Turned k w dx ex → dy ≡ ey + k → cornerCount w h dx dy ≡ w * k + cornerCount w h' ex ey
+    go h' ex ey f t d =
+        let p : w * h ≡ w * h' + w * k = ap (λ (i : ℕ). w * i) f ∙ mul-add w h' k in
+        let o : 0 < w * h' = mul-pos (omega arith) (omega arith) in
+        let q = turned-parity t in
+        let r = count-full w h' ex ey (omega arith) (omega arith) (omega arith) in
+        let s = count-full w h dx dy (omega arith) (omega arith) (omega arith) in
+        s ∙ (λ i. p i - 1 + (p i + (dx + d i)) % 2) ∙ parity (w * h') (w * k) ex ey (q .0) o (q .1) ∙ ap (λ (i : ℕ). w * k + i) (sym r)
+
 -- ---- the choice
 
--- the row, or the column, which is the row of the turned rectangle
-abbrev pub Chosen : ℕ → ℕ → ℕ → ℕ → Bool → Type 0
-Chosen w h dx dy true = Row w h dx dy
-Chosen w h dx dy false = Row h w dy dx
-
--- a property of a definition that goes by a test of two numbers
-when-eq : (P : Bool → Type 0) (a b : ℕ) {u v : Bool} → (a ≡ b → P u) → (a ≢ b → P v) → P (cond (eqb a b) u v)
-when-eq P a b f g = by-eq a b (λ e. subst P (cond-yes _ _ (eq-eqb a b e) refl) (f e)) (λ e. subst P (cond-no _ _ (ne-eqb a b e) refl) (g e))
-
-when-zero : (P : Bool → Type 0) (a : ℕ) {u v : Bool} → (a ≡ 0 → P u) → (1 ≤ a → P v) → P (cond (eqb a 0) u v)
-when-zero P a f g = when-eq P a 0 f (λ e. g (omega arith))
-
-pub choice : (w h dx dy : ℕ) → dx < w → dy < h → 1 ≤ dx + dy → Chosen w h dx dy (rowFirst w h dx dy)
-unfolding rowFirst
-choice w h dx dy x y z =
-    by-le dy 1
-    (λ c. subst P (cond-no _ _ (le-ltb 1 dy c) refl)
-    (when-zero P dy
-    (λ a. row-right h w dy dx y x (omega arith) (λ u. omega arith) (λ u v. omega arith))
-    (λ a. when-zero P dx
-    (λ b. row-right w h dx dy x y (omega arith) (λ u. omega arith) (λ u v. omega arith))
-    (λ b. when-eq P h 2
-    (λ d. by-le dx 1
-    (λ e. subst P (sym (le-leb dx 1 e)) (row-right w h dx dy x y (omega arith) (λ u. omega arith) (λ u v. omega arith)))
-    (λ e. subst P (sym (lt-leb dx 1 e)) (row-right h w dy dx y x (omega arith) (λ u. omega arith) (λ u v. omega arith))))
-    (λ d. by-eq (dx + 1) w
-    (λ e. subst P (ap not (sym (eq-eqb _ _ e))) (row-right h w dy dx y x (omega arith) (λ u. omega arith) (λ u v. omega arith)))
-    (λ e. subst P (ap not (sym (ne-eqb _ _ e))) (row-right w h dx dy x y (omega arith) (λ u. omega arith) (λ u v. omega arith))))))))
-    (λ c. subst P (cond-yes _ _ (lt-ltb 1 dy c) refl) (row-right w h dx dy x y (omega arith) (λ u. omega arith) (λ u v. omega arith)))
+-- the row or the column, in any rectangle whose target is not the corner
+pub line-right : (w h dx dy : ℕ) → dx < w → dy < h → 1 ≤ dx + dy → First 1 w h dx dy ⊎ First 1 h w dy dx
+line-right w h dx dy x y z =
+    by-eq dy 0
+    (λ a. inr (row-right h w dy dx y x (omega arith) (λ u. omega arith) (λ u v. omega arith)))
+    (λ a. by-le dy 1
+    (λ b. by-eq h 2
+    (λ c. by-le dx 1 (λ d. inl (row-right w h dx dy x y (omega arith) (λ u. omega arith) (λ u v. omega arith))) (λ d. inr (row-right h w dy dx y x (omega arith) (λ u. omega arith) (λ u v. omega arith))))
+    (λ c. by-eq (dx + 1) w (λ d. far (omega arith) d) (λ d. inl (row-right w h dx dy x y (omega arith) (λ u. omega arith) (λ u v. omega arith)))))
+    (λ b. inl (row-right w h dx dy x y (omega arith) (λ u. omega arith) (λ u v. omega arith))))
   where
-    P : Bool → Type 0
-    P = Chosen w h dx dy
+    far : dy ≡ 1 → dx + 1 ≡ w → First 1 w h dx dy ⊎ First 1 h w dy dx
+    far b d = by-eq dx 0 (λ e. inl (row-right w h dx dy x y (omega arith) (λ u. omega arith) (λ u v. omega arith))) (λ e. inr (row-right h w dy dx y x (omega arith) (λ u. omega arith) (λ u v. omega arith)))
 
--- ---- the choice as the code makes it, from the distances that it has computed
+-- the choice as the code makes it
+module _ {w h dx dy : ℕ} (o : Open w h dx dy) where
+  pub chosen-level : dy ≡ 0 → First 1 h w dy dx
+  chosen-level a = row-right h w dy dx (o .down) (o .across) (let z = o .away in omega arith) (λ u. omega arith) (λ u v. omega arith)
 
-module _ (w h dx dy : ℕ) where
-  pub first-far : {r : ℕ} → r ≡ dy → 1 < r → true ≡ rowFirst w h dx dy
-  unfolding rowFirst
-  first-far e l = cond-yes _ _ (lt-ltb 1 dy (omega arith)) refl
+  pub chosen-two : dy ≡ 1 → dx ≤ 1 → h ≡ 2 → First 1 w h dx dy
+  chosen-two a b c = row-right w h dx dy (o .across) (o .down) (omega arith) (λ u. b) (λ u v. absurd (u c))
 
-  pub first-level : {r : ℕ} → r ≡ dy → r ≡ 0 → false ≡ rowFirst w h dx dy
-  unfolding rowFirst
-  first-level e z = cond-no _ _ (le-ltb 1 dy (omega arith)) (cond-yes _ _ (eq-eqb dy 0 (omega arith)) refl)
+  pub chosen-far : dy ≡ 1 → dx + 1 ≡ w → h ≢ 2 → First 1 h w dy dx
+  chosen-far a b c = let z = o .wide in row-right h w dy dx (o .down) (o .across) (omega arith) (λ u. omega arith) (λ u v. omega arith)
 
-  pub first-same : {r s : ℕ} → r ≡ dy → r ≤ 1 → r ≢ 0 → s ≡ dx → s ≡ 0 → true ≡ rowFirst w h dx dy
-  unfolding rowFirst
-  first-same e l n f z = cond-no _ _ (le-ltb 1 dy (omega arith)) (cond-no _ _ (ne-eqb dy 0 (omega arith)) (cond-yes _ _ (eq-eqb dx 0 (omega arith)) refl))
-
-  pub first-two : {r s : ℕ} (k : ℕ) → r ≡ dy → r ≤ 1 → r ≢ 0 → s ≡ dx → s ≢ 0 → k + 1 ≡ h → k ≡ 1 → leb s 1 ≡ rowFirst w h dx dy
-  unfolding rowFirst
-  first-two k e l n f m g z =
-      cond-no _ _ (le-ltb 1 dy (omega arith)) (cond-no _ _ (ne-eqb dy 0 (omega arith)) (cond-no _ _ (ne-eqb dx 0 (omega arith))
-      (cond-yes _ _ (eq-eqb h 2 (omega arith)) (ap (λ (i : ℕ). leb i 1) f))))
-
-  pub first-more : {r s : ℕ} (k j : ℕ) → r ≡ dy → r ≤ 1 → r ≢ 0 → s ≡ dx → s ≢ 0 → k + 1 ≡ h → k ≢ 1 → j + 1 ≡ w → not (eqb s j) ≡ rowFirst w h dx dy
-  unfolding rowFirst
-  first-more {s = s} k j e l n f m g z q =
-      cond-no _ _ (le-ltb 1 dy (omega arith)) (cond-no _ _ (ne-eqb dy 0 (omega arith)) (cond-no _ _ (ne-eqb dx 0 (omega arith))
-      (cond-no _ _ (ne-eqb h 2 (omega arith)) (ap not (by-eq s j (λ u. eq-eqb s j u ∙ sym (eq-eqb (dx + 1) w (omega arith))) (λ u. ne-eqb s j u ∙ sym (ne-eqb (dx + 1) w (omega arith))))))))
+  pub chosen-else : dy ≡ 1 → dx + 1 ≢ w → h ≢ 2 → First 1 w h dx dy
+  chosen-else a b c = row-right w h dx dy (o .across) (o .down) (omega arith) (λ u. absurd (c u)) (λ u v. omega arith)

@@ -1,66 +1,18 @@
--- Tracks drawn into a buffer: a straight line, and a track drawn behind another one.
-use Prim.Native.Nat.{ℕ, _+_, _-_, _*_, _≤_, _<_}
-use mathlib.Core.Path.{_≡_, refl, sym, ap, _∙_, subst₂}
-use mathlib.Core.List.{List, [], _++_, append-nil}
+-- Tracks drawn into a buffer, one behind another, and the ends of the rectangle where a track is drawn.
+use Prim.Native.Nat.{ℕ, _+_, _-_, _*_, _≤_}
+use mathlib.Core.Path.{_≡_, sym, ap, _∙_}
+use mathlib.Core.List.{List, [], _++_, append-nil, append-assoc}
 use native.Mathlib.Omega.{arith}
 use lib.ListN.{length, take, drop, length-append, length-take, length-drop, drop-of-length-le}
-use lib.Seq.{take-all, drop-drop}
+use lib.Seq.{take-all, take-at, drop-at, drop-drop}
 use borrow.Rule.Slice.PartMut.{putMid}
 use Rattle.grid.specs.declared.Cell.{Cell}
-use Rattle.grid.specs.Panel.{dist}
-use Rattle.grid.specs.Track.{TrackIn}
 use Rattle.grid.specs.Bytes.{bytes}
-use Rattle.grid.proofs.Facts.{cell-eq}
-use Rattle.grid.proofs.Bytes.{length-bytes}
+use Rattle.grid.proofs.Bytes.{bytes-append, length-bytes}
 use Rattle.corner.specs.Corner.{Inside}
-use Rattle.corner.specs.Line.{line, Straight}
 use Rattle.corner.specs.Drawn.{Drawn}
-use Rattle.corner.proofs.Between.{dist-up, dist-down, dist-zero, start-between, between-sym, between-part}
+use Rattle.corner.proofs.Between.{start-between, between-sym, between-part}
 use Rattle.corner.proofs.First.{inside, inside-x, inside-y}
-use Rattle.corner.proofs.Line.{Axis, Way, in-row, in-column, line-track, length-line}
-
--- ---- a straight line
-
--- what a line of n cells from p towards q asks for, up and down; m + 1 cells have room
-pub ask-up : (p q m : ℕ) {n len : ℕ} → p ≤ q → q ≤ 255 → n ≤ dist p q + 1 → dist p q ≤ m → 2 * (m + 1) ≤ len → (p + n ≤ 256) × (2 * n ≤ len)
-ask-up p q m h l k o r = let d = dist-up h in (omega arith, omega arith)
-
-pub ask-down : (p q m : ℕ) {n len : ℕ} → q ≤ p → n ≤ dist p q + 1 → dist p q ≤ m → 2 * (m + 1) ≤ len → (n ≤ p + 1) × (2 * n ≤ len)
-ask-down p q m h k o r = let d = dist-down h in (omega arith, omega arith)
-
-pub line-drawn : {e : ℕ → Cell} {p q : ℕ} {g : ℕ → ℕ} {a c : Cell} (A : Axis e) (W : Way p q g) → e p ≡ a → e q ≡ c → (k n : ℕ) {old new : List ℕ}
-    → n ≡ dist p q + 1 → k ≡ dist p q + 1 → new ≡ bytes (line (λ i. e (g i)) n) ++ drop (2 * n) old → Drawn (Inside a c) a c k old new
-line-drawn {e} {p} {q} {g} {a} {c} A W s t k n {old} {new} u v w = record {
-  cells = line (λ i. e (g i)) (dist p q + 1);
-  size = length-line (λ i. e (g i)) (dist p q + 1) ∙ sym v;
-  track = subst₂ (λ (x y : Cell). TrackIn (Inside x y) x y (line (λ i. e (g i)) (dist p q + 1))) s t (line-track A W);
-  written = w ∙ (λ i. bytes (line (λ i. e (g i)) (u i)) ++ drop (2 * (u ∙ sym v) i) old);
-}
-
-pub lt-le : {p q : ℕ} → q < p → q ≤ p
-lt-le h = omega arith
-
--- in a row, and in a column
-pub row-drawn : {a c : Cell} {g : ℕ → ℕ} → Way (a .x) (c .x) g → a .y ≡ c .y → {n : ℕ} {old new : List ℕ} → n ≡ dist (a .x) (c .x) + 1
-    → new ≡ bytes (line (λ i. record { x = g i; y = a .y }) n) ++ drop (2 * n) old → Drawn (Inside a c) a c (dist (a .x) (c .x) + dist (a .y) (c .y) + 1) old new
-row-drawn {a} {c} W e {n} u w =
-    let z : dist (a .y) (c .y) ≡ 0 = ap (dist (a .y)) (sym e) ∙ dist-zero (a .y) in
-    line-drawn (in-row (a .y)) W refl (cell-eq refl e) _ n u (omega arith) w
-
-pub column-drawn : {a c : Cell} {g : ℕ → ℕ} → Way (a .y) (c .y) g → a .x ≡ c .x → {n : ℕ} {old new : List ℕ} → n ≡ dist (a .y) (c .y) + 1
-    → new ≡ bytes (line (λ i. record { x = a .x; y = g i }) n) ++ drop (2 * n) old → Drawn (Inside a c) a c (dist (a .x) (c .x) + dist (a .y) (c .y) + 1) old new
-column-drawn {a} {c} W e {n} u w =
-    let z : dist (a .x) (c .x) ≡ 0 = ap (dist (a .x)) (sym e) ∙ dist-zero (a .x) in
-    line-drawn (in-column (a .x)) W refl (cell-eq e refl) _ n u (omega arith) w
-
--- a straight line that is no row is a column
-pub upright : {a c : Cell} → Straight a c → (a .y ≡ c .y → ⊥) → a .x ≡ c .x
-upright (Straight.row e) n = absurd (n e)
-upright (Straight.column e) n = e
-
-pub straight-sym : {a c : Cell} → Straight a c → Straight c a
-straight-sym (Straight.row h) = Straight.row (sym h)
-straight-sym (Straight.column h) = Straight.column (sym h)
 
 -- ---- a part of the buffer
 
@@ -80,6 +32,24 @@ part-written b part at k l h e =
 
     nothing : drop (length b - at) (drop at b) ≡ []
     nothing = drop-of-length-le (drop at b) size
+
+-- the same behind cells drawn before
+pub part-behind : (l m : List Cell) (old new part : List ℕ) (at k : ℕ) → new ≡ bytes l ++ drop at old → 2 * length l ≡ at → at ≤ length new
+    → part ≡ bytes m ++ drop (2 * k) (take (length new - at) (drop at new)) → putMid at (length new - at) new part ≡ bytes (l ++ m) ++ drop (at + 2 * k) old
+part-behind l m old new part at k w s h e =
+    part-written new part at k m h e
+    ∙ (λ i. front i ++ (bytes m ++ rest i))
+    ∙ sym (append-assoc (bytes l) (bytes m) (drop (at + 2 * k) old))
+    ∙ ap (λ (r : List ℕ). r ++ drop (at + 2 * k) old) (sym (bytes-append l m))
+  where
+    size : length (bytes l) ≡ at
+    size = length-bytes l ∙ s
+
+    front : take at new ≡ bytes l
+    front = ap (take at) w ∙ take-at (bytes l) (drop at old) at size
+
+    rest : drop (at + 2 * k) new ≡ drop (at + 2 * k) old
+    rest = sym (drop-drop (2 * k) at new) ∙ ap (drop (2 * k)) (ap (drop at) w ∙ drop-at (bytes l) (drop at old) at size) ∙ drop-drop (2 * k) at old
 
 pub part-long : (b : List ℕ) (at : ℕ) → at ≤ length b → length (take (length b - at) (drop at b)) ≡ length b - at
 part-long b at h = length-take (length b - at) (drop at b) ∙ omega (arith, length-drop at b)

@@ -1,23 +1,23 @@
 -- A corner track drawn line by line from its corner: what has been drawn, and any track of the rectangle that remains, are together a track of the whole.
 use Prim.Native.Nat.{ℕ, _+_, _-_, _*_, _≤_}
 use mathlib.Core.Path.{_≡_, refl, sym, ap, _∙_, subst}
+use mathlib.Core.Bool.{Bool}
 use mathlib.Core.List.{List, [], _++_, append-assoc}
 use native.Mathlib.Omega.{arith}
 use lib.ListN.{length, take, drop, length-append, length-drop}
-use lib.Seq.{take-at, drop-at, drop-drop}
 use Rattle.grid.specs.declared.Cell.{Cell}
-use Rattle.grid.specs.Panel.{dist}
+use Rattle.grid.specs.Panel.{Neighbours}
 use Rattle.grid.specs.Track.{TrackIn}
 use Rattle.grid.specs.Bytes.{bytes}
-use Rattle.grid.proofs.Bytes.{bytes-append, length-bytes}
+use Rattle.grid.proofs.Bytes.{length-bytes}
 use Rattle.grid.proofs.Track.{join, widen}
 use Rattle.corner.specs.Corner.{Inside, trackCount}
-use Rattle.corner.specs.Line.{Straight}
+use Rattle.corner.specs.Line.{area, sweepEnd}
 use Rattle.corner.specs.Peel.{Peel}
 use Rattle.corner.specs.Drawn.{Small, Ready, Drawn}
 use borrow.Rule.Slice.PartMut.{putMid}
 use Rattle.corner.proofs.First.{Only, small-inside}
-use Rattle.corner.proofs.Drawn.{part-written, part-long, first-inside, last-inside, inside-part}
+use Rattle.corner.proofs.Drawn.{part-behind, part-long, first-inside, last-inside, inside-part}
 
 -- the lines before the rectangle of a' and b' stand at the front of the buffer, `at` bytes
 pub record Begun (a b t : Cell) (old : List ℕ) (a' b' : Cell) (at : ℕ) (new : List ℕ) : Type 0 where
@@ -53,75 +53,52 @@ module _ {a b t : Cell} {old : List ℕ} (ready : Ready a b t old) {a' b' : Cell
   pub room : at + 2 * trackCount a' b' t ≤ length new
   room = omega (arith, long, d .size, d .counts, ready .room)
 
-  -- a track drawn behind the lines so far
-  behind : {c : Cell} {k : ℕ} {part : List ℕ} (e : Drawn (Inside a' c) a' c k (take (length new - at) (drop at new)) part)
-      → putMid at (length new - at) new part ≡ bytes (d .cells ++ e .cells) ++ drop (at + 2 * k) old
-  behind {k = k} {part = part} e =
-      part-written new part at k (e .cells) (omega (arith, room)) (e .written)
-      ∙ (λ i. front i ++ (bytes (e .cells) ++ rest i))
-      ∙ sym (append-assoc (bytes (d .cells)) (bytes (e .cells)) (drop (at + 2 * k) old))
-      ∙ ap (λ (l : List ℕ). l ++ drop (at + 2 * k) old) (sym (bytes-append (d .cells) (e .cells)))
-    where
-      size : length (bytes (d .cells)) ≡ at
-      size = length-bytes (d .cells) ∙ d .size
-
-      front : take at new ≡ bytes (d .cells)
-      front = ap (take at) (d .written) ∙ take-at (bytes (d .cells)) (drop at old) at size
-
-      rest : drop (at + 2 * k) new ≡ drop (at + 2 * k) old
-      rest = sym (drop-drop (2 * k) at new) ∙ ap (drop (2 * k)) (ap (drop at) (d .written) ∙ drop-at (bytes (d .cells)) (drop at old) at size) ∙ drop-drop (2 * k) at old
-
-  pub step : {c a'' b'' : Cell} {n k at' : ℕ} {part : List ℕ} → Peel a' b' t c a'' b'' n → k ≡ n → at' ≡ at + 2 * n
-      → Drawn (Inside a' c) a' c k (take (length new - at) (drop at new)) part → Begun a b t old a'' b'' at' (putMid at (length new - at) new part)
-  step {c} {a''} {b''} {n} {k} {at'} {part} p q u e = record {
-    corner = small-inside (d .corner) (d .opposite) (p .rest a'' (first-inside a'' b''));
-    opposite = small-inside (d .corner) (d .opposite) (p .rest b'' (last-inside a'' b''));
-    target = p .target;
-    cells = d .cells ++ e .cells;
-    size = omega (arith, length-append (d .cells) (e .cells), d .size, e .size, u);
-    counts = omega (arith, length-append (d .cells) (e .cells), d .counts, p .counts, e .size);
-    written = behind e ∙ ap (λ (i : ℕ). bytes (d .cells ++ e .cells) ++ drop i old) (ap (λ (i : ℕ). at + 2 * i) q ∙ sym u);
-    whole = λ m w. subst (TrackIn (Inside a b) a t) (sym (append-assoc (d .cells) (e .cells) m)) (d .whole (e .cells ++ m) (join (p .line) (p .rest) (p .apart) (e .track) (p .beside) w));
-  }
-
-  -- the last line
-  pub finish : {k : ℕ} {part : List ℕ} → trackCount a' b' t ≡ k
-      → Drawn (Inside a' t) a' t k (take (length new - at) (drop at new)) part → Drawn (Inside a b) a t (trackCount a b t) old (putMid at (length new - at) new part)
-  finish {k} {part} q e =
-      let n : at + 2 * k ≡ 2 * trackCount a b t = omega (arith, d .size, d .counts) in
+  pub step : {row : Bool} {f c g a'' b'' : Cell} {n at' : ℕ} {part : List ℕ} → Peel a' b' t row f c g a'' b'' n → at' ≡ at + 2 * n
+      → Drawn (Inside a' f) a' (sweepEnd row a' f) (area a' f) (take (length new - at) (drop at new)) part → Begun a b t old a'' b'' at' (putMid at (length new - at) new part)
+  step {f = f} {a'' = a''} {b'' = b''} {at' = at'} p u e =
+      let q : at + 2 * area a' f ≡ at' = omega (arith, p .size, u) in
       record {
+        corner = small-inside (d .corner) (d .opposite) (p .rest a'' (first-inside a'' b''));
+        opposite = small-inside (d .corner) (d .opposite) (p .rest b'' (last-inside a'' b''));
+        target = p .target;
         cells = d .cells ++ e .cells;
-        size = omega (arith, length-append (d .cells) (e .cells), d .counts, e .size);
-        track = d .whole (e .cells) (widen (λ c i. inside-part (first-inside a' b') (d .target) i) (e .track));
-        written = behind e ∙ ap (λ (i : ℕ). bytes (d .cells ++ e .cells) ++ drop i old) n;
+        size = omega (arith, length-append (d .cells) (e .cells), d .size, e .size, q);
+        counts = omega (arith, length-append (d .cells) (e .cells), d .counts, p .counts, e .size, p .size);
+        written = part-behind (d .cells) (e .cells) old new _ at (area a' f) (d .written) (d .size) (omega (arith, room)) (e .written) ∙ ap (λ (i : ℕ). bytes (d .cells ++ e .cells) ++ drop i old) q;
+        whole = λ m w. subst (TrackIn (Inside a b) a t) (sym (append-assoc (d .cells) (e .cells) m)) (d .whole (e .cells ++ m) (join (p .lines) (p .rest) (p .apart) (e .track) (subst (λ (z : Cell). Neighbours z a'') (p .end) (p .beside)) w));
       }
 
-  -- what drawing the next line asks for, and the numbers on the way
-  pub ask-line : {c a'' b'' : Cell} {n : ℕ} → Peel a' b' t c a'' b'' n
-      → Small a' × (Small c × (Straight a' c × (2 * (dist (a' .x) (c .x) + dist (a' .y) (c .y) + 1) ≤ length (take (length new - at) (drop at new)))))
-  ask-line {c} p = (
+  -- the last line
+  pub finish : {row : Bool} {part : List ℕ} → Only a' b' t row
+      → Drawn (Inside a' t) a' (sweepEnd row a' t) (area a' t) (take (length new - at) (drop at new)) part → Drawn (Inside a b) a t (trackCount a b t) old (putMid at (length new - at) new part)
+  finish o e =
+      let n : at + 2 * area a' t ≡ 2 * trackCount a b t = omega (arith, d .size, d .counts, o .counts) in
+      record {
+        cells = d .cells ++ e .cells;
+        size = omega (arith, length-append (d .cells) (e .cells), d .counts, e .size, o .counts);
+        track = d .whole (e .cells) (subst (λ (z : Cell). TrackIn (Inside a' b') a' z (e .cells)) (o .end) (widen (λ c i. inside-part (first-inside a' b') (d .target) i) (e .track)));
+        written = part-behind (d .cells) (e .cells) old new _ at (area a' t) (d .written) (d .size) (omega (arith, room)) (e .written) ∙ ap (λ (i : ℕ). bytes (d .cells ++ e .cells) ++ drop i old) n;
+      }
+
+  -- what drawing the next lines asks for, and the numbers on the way
+  pub ask-lines : {row : Bool} {f c g a'' b'' : Cell} {n : ℕ} → Peel a' b' t row f c g a'' b'' n
+      → Small a' × (Small f × (2 * area a' f ≤ length (take (length new - at) (drop at new))))
+  ask-lines {f = f} p = (
     d .corner,
     (
-      small-inside (d .corner) (d .opposite) (p .line c (last-inside a' c)),
-      (
-        p .straight,
-        omega (arith, part-long new at (omega (arith, room)), room, p .counts, p .long),
-      ),
+      small-inside (d .corner) (d .opposite) (p .lines f (last-inside a' f)),
+      omega (arith, part-long new at (omega (arith, room)), room, p .counts, p .size),
     ),
   )
 
-  pub ask-last : Only a' b' t
-      → Small a' × (Small t × (Straight a' t × (2 * (dist (a' .x) (t .x) + dist (a' .y) (t .y) + 1) ≤ length (take (length new - at) (drop at new)))))
+  pub ask-last : {row : Bool} → Only a' b' t row → Small a' × (Small t × (2 * area a' t ≤ length (take (length new - at) (drop at new))))
   ask-last o = (
     d .corner,
     (
       small-inside (d .corner) (d .opposite) (d .target),
-      (
-        o .straight,
-        omega (arith, part-long new at (omega (arith, room)), room, o .counts),
-      ),
+      omega (arith, part-long new at (omega (arith, room)), room, o .counts),
     ),
   )
 
-  pub line-end : {c a'' b'' : Cell} {n : ℕ} → Peel a' b' t c a'' b'' n → at + 2 * n ≤ length old
+  pub line-end : {row : Bool} {f c g a'' b'' : Cell} {n : ℕ} → Peel a' b' t row f c g a'' b'' n → at + 2 * n ≤ length old
   line-end p = omega (arith, room, long, p .counts)

@@ -1,9 +1,11 @@
 pub mod Between
 pub mod Count
 pub mod Line
-pub mod First
-pub mod Track
 pub mod Written
+pub mod First
+pub mod Sweep
+pub mod Track
 pub mod Drawn
+pub mod Snake
 pub mod Forward
 pub mod Backward

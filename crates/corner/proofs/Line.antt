@@ -1,18 +1,23 @@
--- A straight line is a track. Cell i of a line is i steps from its first cell (`Way`), in a row or in a column (`Axis`):
--- one law for the four directions.
-use Prim.Native.Nat.{ℕ, zero, suc, _+_, _-_, _≤_, _<_, suc-le-suc, zero-le}
+-- A straight line is a track. Cell i of a line is i steps ahead of its first cell (`Along`), in a row or in a column (`Axis`), and i steps on in number
+-- (`Unit`): one law for the four directions.
+use Prim.Native.Nat.{ℕ, zero, suc, _+_, _-_, _*_, _%_, _≤_, _<_, suc-le-suc, zero-le}
 use mathlib.Core.Path.{_≡_, refl, sym, ap, _∙_, subst, subst₂}
 use mathlib.Core.Logic.{_≢_}
+use mathlib.Core.Bool.{Bool, cond}
 use mathlib.Core.List.{List, [], _∷_, _++_}
 use native.Mathlib.Omega.{arith}
+use native.Mathlib.Nat.{add-mul}
 use native.Mathlib.Numerals.{add-one}
 use lib.ListN.{length}
+use borrow.Author.Tests.{le-leb, lt-leb}
 use Rattle.grid.specs.declared.Cell.{Cell}
 use Rattle.grid.specs.Panel.{dist, apart, Neighbours}
 use Rattle.grid.specs.Track.{Walk, All, Once, TrackIn}
-use Rattle.corner.specs.Corner.{Inside}
-use Rattle.corner.specs.Line.{line}
-use Rattle.corner.proofs.Between.{Between, between, least, most, start-between, dist-up, dist-down, dist-zero, by-le}
+use Rattle.grid.proofs.Facts.{cell-eq}
+use Rattle.corner.specs.Corner.{Inside, ahead}
+use Rattle.corner.specs.Line.{line, number, cellOf, numbered, stepTo}
+use Rattle.corner.specs.Drawn.{Small}
+use Rattle.corner.proofs.Between.{Between, least, most, start-between, dist-up, dist-down, dist-zero, by-le, ahead-up, ahead-down}
 
 -- ---- lists f 0, f 1, ..
 
@@ -37,37 +42,51 @@ once-line : (f : ℕ → Cell) (n : ℕ) → ((i j : ℕ) → i < j → j < n �
 once-line f zero h = Once.none
 once-line f (suc n) h = Once.more (all-line (λ i. f (suc i)) n (λ i l. h 0 (suc i) (suc-le-suc zero-le) (suc-le-suc l))) (once-line (λ i. f (suc i)) n (λ i j k l. h (suc i) (suc j) (suc-le-suc k) (suc-le-suc l)))
 
+-- equal cell by cell
+pub line-same : (f g : ℕ → Cell) (n : ℕ) → ((i : ℕ) → i < n → f i ≡ g i) → line f n ≡ line g n
+line-same f g zero h = refl
+line-same f g (suc n) h = λ j. h 0 (suc-le-suc zero-le) j ∷ line-same (λ i. f (suc i)) (λ i. g (suc i)) n (λ i l. h (suc i) (suc-le-suc l)) j
+
 -- ---- ways and axes
 
--- g i is i steps from p on the way to q
-pub record Way (p q : ℕ) (g : ℕ → ℕ) : Type 0 where
-  pub start : g 0 ≡ p
-  pub stop : g (dist p q) ≡ q
-  pub far : (i : ℕ) → i ≤ dist p q → dist p (g i) ≡ i
-  pub beside : (i : ℕ) → i < dist p q → dist (g i) (g (suc i)) ≡ 1
-  pub between : (i : ℕ) → i ≤ dist p q → Between p q (g i)
+-- r is i steps from p on the way to q
+pub data Along (p q i r : ℕ) : Type 0 where
+  up : p ≤ q → r ≡ p + i → r ≤ q → Along p q i r
+  down : q < p → r + i ≡ p → q ≤ r → Along p q i r
 
-pub way-up : {p q : ℕ} → p ≤ q → Way p q (λ i. p + i)
-way-up {p} {q} h =
-    let d = dist-up h in
-    record {
-      start = omega arith;
-      stop = omega arith;
-      far = λ i l. let k : p ≤ p + i = omega arith in omega (arith, dist-up k);
-      beside = λ i l. let k : p + i ≤ p + suc i = omega arith in omega (arith, dist-up k);
-      between = λ i l. Between.up (omega arith) (omega arith);
-    }
+pub along : (p q i : ℕ) → i ≤ dist p q → Along p q i (ahead p q i)
+along p q i h =
+    by-le p q
+    (λ e. Along.up e (ahead-up i e) (omega (arith, ahead-up {p = p} {q = q} i e, dist-up e)))
+    (λ e. let f : q ≤ p = omega arith in Along.down e (omega (arith, ahead-down {p = p} {q = q} i e, dist-down f)) (omega (arith, ahead-down {p = p} {q = q} i e, dist-down f)))
 
-pub way-down : {p q : ℕ} → q ≤ p → Way p q (λ i. p - i)
-way-down {p} {q} h =
-    let d = dist-down h in
-    record {
-      start = omega arith;
-      stop = omega arith;
-      far = λ i l. let k : p - i ≤ p = omega arith in omega (arith, dist-down k);
-      beside = λ i l. let k : p - suc i ≤ p - i = omega arith in omega (arith, dist-down k);
-      between = λ i l. Between.down (omega arith) (omega arith);
-    }
+along-far : {p q i r : ℕ} → Along p q i r → dist p r ≡ i
+along-far {p} {r = r} (Along.up l e h) = let k : p ≤ r = omega arith in omega (arith, dist-up k)
+along-far {p} {r = r} (Along.down l e h) = let k : r ≤ p = omega arith in omega (arith, dist-down k)
+
+along-beside : {p q i r s : ℕ} → Along p q i r → Along p q (suc i) s → dist r s ≡ 1
+along-beside {r = r} {s = s} (Along.up l e h) (Along.up m f k) = let o : r ≤ s = omega arith in omega (arith, dist-up o)
+along-beside (Along.up l e h) (Along.down m f k) = absurd (omega arith)
+along-beside (Along.down l e h) (Along.up m f k) = absurd (omega arith)
+along-beside {r = r} {s = s} (Along.down l e h) (Along.down m f k) = let o : s ≤ r = omega arith in omega (arith, dist-down o)
+
+along-between : {p q i r : ℕ} → Along p q i r → Between p q r
+along-between (Along.up l e h) = Between.up (omega arith) h
+along-between (Along.down l e h) = Between.down h (omega arith)
+
+along-start : {p q r : ℕ} → Along p q 0 r → r ≡ p
+along-start (Along.up l e h) = omega arith
+along-start (Along.down l e h) = omega arith
+
+along-stop : {p q r : ℕ} → Along p q (dist p q) r → r ≡ q
+along-stop {p} {q} (Along.up l e h) = omega (arith, dist-up l)
+along-stop {p} {q} (Along.down l e h) = let f : q ≤ p = omega arith in omega (arith, dist-down f)
+
+pub ahead-start : (p q : ℕ) → ahead p q 0 ≡ p
+ahead-start p q = along-start (along p q 0 (omega arith))
+
+pub ahead-stop : (p q : ℕ) → ahead p q (dist p q) ≡ q
+ahead-stop p q = along-stop (along p q (dist p q) (omega arith))
 
 -- e takes the numbers to the cells of a row, or of a column
 pub record Axis (e : ℕ → Cell) : Type 0 where
@@ -99,22 +118,85 @@ in-column x = record {
 
 -- ---- the law
 
-module _ {e : ℕ → Cell} (A : Axis e) {p q : ℕ} {g : ℕ → ℕ} (W : Way p q g) where
-  different : (i j : ℕ) → i < j → j < suc (dist p q) → e (g i) ≢ e (g j)
+module _ {e : ℕ → Cell} (A : Axis e) (p q : ℕ) where
+  different : (i j : ℕ) → i < j → j < suc (dist p q) → e (ahead p q i) ≢ e (ahead p q j)
   different i j l h z =
-      let s : g i ≡ g j = sym (A .undo (g i)) ∙ ap (A .back) z ∙ A .undo (g j) in
-      let u = W .far i (omega arith) in
-      let v = W .far j (omega arith) in
-      let t : dist p (g i) ≡ dist p (g j) = ap (dist p) s in
+      let s : ahead p q i ≡ ahead p q j = sym (A .undo _) ∙ ap (A .back) z ∙ A .undo _ in
+      let u = along-far (along p q i (omega arith)) in
+      let v = along-far (along p q j (omega arith)) in
+      let t : dist p (ahead p q i) ≡ dist p (ahead p q j) = ap (dist p) s in
       omega arith
 
-  pub line-track : TrackIn (Inside (e p) (e q)) (e p) (e q) (line (λ i. e (g i)) (dist p q + 1))
-  line-track = record {
-    walk = subst₂ (λ (s t : Cell). Walk s t (line (λ i. e (g i)) (dist p q + 1))) (ap e (W .start)) (ap e (W .stop)) (subst (λ (n : ℕ). Walk (e (g 0)) (e (g (dist p q))) (line (λ i. e (g i)) n)) (sym (add-one (dist p q))) (walk-line (λ i. e (g i)) (dist p q) (λ i h. A .keeps (g i) (g (suc i)) (W .beside i h))));
-    once = subst (λ (n : ℕ). Once (line (λ i. e (g i)) n)) (sym (add-one (dist p q))) (once-line (λ i. e (g i)) (suc (dist p q)) different);
-    within = all-line (λ i. e (g i)) (dist p q + 1) (λ i h. A .inside p q (g i) (W .between i (omega arith)));
-  }
+  walked : (n : ℕ) → dist p q ≡ n → Walk (e (ahead p q 0)) (e (ahead p q n)) (line (λ i. e (ahead p q i)) (suc n))
+  walked n d = walk-line (λ i. e (ahead p q i)) n (λ i h. A .keeps _ _ (along-beside (along p q i (omega arith)) (along p q (suc i) (omega arith))))
 
--- a way from p to q, up or down
-pub way : (p q : ℕ) → (g : ℕ → ℕ) × Way p q g
-way p q = by-le p q (λ h. (_, way-up h)) (λ h. (_, way-down (omega arith)))
+  pub line-track : TrackIn (Inside (e p) (e q)) (e p) (e q) (line (λ i. e (ahead p q i)) (dist p q + 1))
+  line-track = subst (λ (n : ℕ). TrackIn (Inside (e p) (e q)) (e p) (e q) (line (λ i. e (ahead p q i)) n)) (sym (add-one (dist p q))) (record {
+    walk = subst₂ (λ (s t : Cell). Walk s t (line (λ i. e (ahead p q i)) (suc (dist p q)))) (ap e (ahead-start p q)) (ap e (ahead-stop p q)) (walked (dist p q) refl);
+    once = once-line (λ i. e (ahead p q i)) (suc (dist p q)) different;
+    within = all-line (λ i. e (ahead p q i)) (suc (dist p q)) (λ i h. A .inside p q _ (along-between (along p q i (omega arith))));
+  })
+
+-- ---- the law in numbers
+
+pub number-small : {c : Cell} → Small c → number c ≤ 65535
+unfolding number
+number-small s = omega (arith, s .across, s .down)
+
+number-cell : {c : Cell} → Small c → cellOf (number c) ≡ c
+unfolding number
+number-cell s = cell-eq (omega (arith, s .across, s .down)) (omega (arith, s .across, s .down))
+
+-- one cell further along a row or a column is u more in number
+pub record Unit (e : ℕ → Cell) (u : ℕ) : Type 0 where
+  pub least : 1 ≤ u
+  pub most : u ≤ 65535
+  pub more : (p i : ℕ) → number (e (p + i)) ≡ number (e p) + u * i
+  pub small : (p : ℕ) → p ≤ 255 → Small (e p)
+
+pub row-unit : (y : ℕ) → y ≤ 255 → Unit (λ x. record { x = x; y = y }) 1
+unfolding number
+row-unit y h = record { least = omega arith; most = omega arith; more = λ p i. omega arith; small = λ p l. record { across = l; down = h } }
+
+pub column-unit : (x : ℕ) → x ≤ 255 → Unit (λ y. record { x = x; y = y }) 256
+unfolding number
+column-unit x h = record { least = omega arith; most = omega arith; more = λ p i. omega arith; small = λ p l. record { across = h; down = l } }
+
+pub step-small : {e : ℕ → Cell} {u : ℕ} → Unit e u → (p q : ℕ) → stepTo u p q ≤ 65535
+unfolding stepTo
+step-small {u = u} U p q =
+    let l = U .least in
+    let m = U .most in
+    by-le p q
+    (λ h. let s : stepTo u p q ≡ u = ap (λ (b : Bool). cond b u (65536 - u)) (le-leb p q h) in omega arith)
+    (λ h. let s : stepTo u p q ≡ 65536 - u = ap (λ (b : Bool). cond b u (65536 - u)) (lt-leb p q h) in omega arith)
+
+module _ {e : ℕ → Cell} {u : ℕ} (U : Unit e u) (p q : ℕ) (hp : p ≤ 255) (hq : q ≤ 255) where
+  near : {i r : ℕ} → Along p q i r → r ≤ 255
+  near (Along.up l f h) = omega arith
+  near (Along.down l f h) = omega arith
+
+  taken : (i : ℕ) → (65536 - u) * i + u * i ≡ 65536 * i
+  taken i = sym (add-mul (65536 - u) u i) ∙ ap (λ (k : ℕ). k * i) (let h = U .most in omega arith)
+
+  go : {i r : ℕ} → Along p q i r → (number (e p) + stepTo u p q * i) % 65536 ≡ number (e r)
+  unfolding stepTo
+  go {i} {r} (Along.up l f h) =
+      let s : stepTo u p q * i ≡ u * i = ap (λ (b : Bool). cond b u (65536 - u) * i) (le-leb p q l) in
+      let n = number-small (U .small r (omega arith)) in
+      let m : number (e r) ≡ number (e p) + u * i = ap (λ (k : ℕ). number (e k)) f ∙ U .more p i in
+      omega (arith, s, n, m)
+  go {i} {r} (Along.down l f h) =
+      let s : stepTo u p q * i ≡ (65536 - u) * i = ap (λ (b : Bool). cond b u (65536 - u) * i) (lt-leb p q l) in
+      let n = number-small (U .small r (omega arith)) in
+      let m : number (e p) ≡ number (e r) + u * i = ap (λ (k : ℕ). number (e k)) (sym f) ∙ U .more r i in
+      let t = taken i in
+      omega (arith, s, n, m, t)
+
+  -- i steps on
+  pub stepped : (i : ℕ) → i ≤ dist p q → (number (e p) + stepTo u p q * i) % 65536 ≡ number (e (ahead p q i))
+  stepped i h = go (along p q i h)
+
+  -- the line by its numbers
+  pub line-numbered : line (numbered (number (e p)) (stepTo u p q)) (dist p q + 1) ≡ line (λ i. e (ahead p q i)) (dist p q + 1)
+  line-numbered = line-same _ _ (dist p q + 1) (λ i h. ap cellOf (stepped i (omega arith)) ∙ number-cell (U .small _ (near (along p q i (omega arith)))))

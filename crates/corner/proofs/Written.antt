@@ -1,9 +1,10 @@
 -- A line written cell by cell: the buffer begins with the bytes of the cells so far, and is the old one behind them.
 -- One law for a turn of the loop, whatever the direction.
-use Prim.Native.Nat.{ℕ, _+_, _*_, _≤_, _<_}
+use Prim.Native.Nat.{ℕ, _+_, _*_, _%_, _≤_, _<_}
 use mathlib.Core.Path.{_≡_, refl, sym, ap, _∙_}
 use mathlib.Core.List.{List, [], _∷_, _++_, append-assoc}
 use native.Mathlib.Omega.{arith}
+use native.Mathlib.Nat.{mul-suc}
 use native.Mathlib.Numerals.{add-one}
 use lib.ListN.{length, drop, set, length-set, length-append, length-drop}
 use lib.Seq.{drop-drop, set-at}
@@ -58,3 +59,7 @@ module _ (f : ℕ → Cell) (n : ℕ) (old : List ℕ) where
   -- the whole line
   pub whole : (new : List ℕ) (i : ℕ) → Written f n old new i → n ≤ i → new ≡ bytes (line f n) ++ drop (2 * n) old
   whole new i w h = let e : i ≡ n = omega (arith, w .most) in w .content ∙ ap (λ (k : ℕ). bytes (line f k) ++ drop (2 * k) old) e
+
+-- the number of the next cell
+pub next-number : (f s i : ℕ) {cell next : ℕ} → cell ≡ (f + s * i) % 65536 → next ≡ (cell + s) % 65536 → next ≡ (f + s * (i + 1)) % 65536
+next-number f s i e h = let m : s * (i + 1) ≡ s * i + s = ap (λ (j : ℕ). s * j) (add-one i) ∙ mul-suc s i in omega arith

@@ -1,7 +1,7 @@
 -- A rectangle of cells is given by two opposite corners a and b, in either order; a corner track runs from the corner a to a cell t of it.
 use Prim.Native.Nat.{ℕ, _+_, _-_, _*_, _%_, _≤_, min, max}
-use mathlib.Core.Bool.{Bool, true, false, cond, not}
-use lib.Dec.{leb, ltb, eqb}
+use mathlib.Core.Bool.{cond}
+use lib.Dec.{leb, eqb}
 use Rattle.grid.specs.declared.Cell.{Cell}
 use Rattle.grid.specs.Panel.{dist}
 
@@ -24,15 +24,10 @@ cornerCount w h dx dy =
 unfoldable pub trackCount : Cell → Cell → Cell → ℕ
 trackCount a b t = cornerCount (dist (a .x) (b .x) + 1) (dist (a .y) (b .y) + 1) (dist (a .x) (t .x)) (dist (a .y) (t .y))
 
--- whether the first line of a corner track is the row from the corner (else the column), where the target is not the corner
-unfoldable pub rowFirst : ℕ → ℕ → ℕ → ℕ → Bool
-rowFirst w h dx dy =
-    cond (ltb 1 dy) true
-    (cond (eqb dy 0) false
-    (cond (eqb dx 0) true
-    (cond (eqb h 2) (leb dx 1)
-    (not (eqb (dx + 1) w)))))
+-- k steps from p towards q
+unfoldable pub ahead : ℕ → ℕ → ℕ → ℕ
+ahead p q k = cond (leb p q) (p + k) (p - k)
 
--- one step from p towards q
-unfoldable pub toward : ℕ → ℕ → ℕ
-toward p q = cond (ltb p q) (p + 1) (p - 1)
+-- where k lines there and back between p and q end that begin at p: at p if k is even
+unfoldable pub turning : ℕ → ℕ → ℕ → ℕ
+turning k p q = cond (eqb (k % 2) 0) p q

@@ -13,6 +13,16 @@ pub record Small (c : Cell) : Type 0 where
   pub across : c .x ≤ 255
   pub down : c .y ≤ 255
 
+-- lines there and back: numbers of 16 bits, at most 256 cells in a line, and room for all
+pub record Steps (first there back across n lines : ℕ) (buf : List ℕ) : Type 0 where
+  pub start : first ≤ 65535
+  pub forth : there ≤ 65535
+  pub home : back ≤ 65535
+  pub beside : across ≤ 65535
+  pub some : 1 ≤ n
+  pub most : n ≤ 256
+  pub room : 2 * (n * lines) ≤ length buf
+
 -- a rectangle of such cells, a target in it, and room for the corner track
 pub record Ready (a b t : Cell) (buf : List ℕ) : Type 0 where
   pub corner : Small a

@@ -1,85 +1,66 @@
 // Corner tracks: from a corner of a rectangle to any cell of it, forwards and backwards, written
-// line by line into a lent buffer.
+// line by line into a lent buffer. Lines that go the same way are drawn in one loop.
 use grid::Cell;
 use grid::Cells;
 use grid::same_cell;
+use std::num::wrapping_add_u16;
 ghost use mathlib.Core.Path.{_≡_};
 ghost use mathlib.Core.Bool.{false};
 ghost use mathlib.Core.List.{_++_};
-ghost use Prim.Native.Nat.{_+_, _*_, _≤_};
+ghost use Prim.Native.Nat.{_+_, _-_, _*_, _%_, _≤_};
 ghost use lib.ListN.{length, drop};
 ghost use Rattle.grid.specs.Panel.{dist};
 ghost use Rattle.grid.specs.Bytes.{bytes};
-ghost use Rattle.corner.specs.Corner.{Inside, trackCount, toward};
-ghost use Rattle.corner.specs.Line.{line, rightward, leftward, downward, upward, Straight};
-ghost use Rattle.corner.specs.Peel.{oneLine, rowOf, Peel};
-ghost use Rattle.corner.specs.Drawn.{Small, Ready, Drawn};
+ghost use Rattle.corner.specs.Corner.{Inside, trackCount, ahead, turning};
+ghost use Rattle.corner.specs.Line.{line, number, numbered, stepTo, snake, area, sweepEnd};
+ghost use Rattle.corner.specs.Peel.{oneLine, Open, First, Chosen, Peel};
+ghost use Rattle.corner.specs.Drawn.{Small, Steps, Ready, Drawn};
 
-// The four straight lines from (x, y), n cells each. Cell i is written from its number alone, a row's
-// as one 16-bit number with x in the low byte: the compiler then stores eight cells at a time.
-fn right(x: u8, y: u8, n: usize, buf: &mut [u8])
-    requires { ⌜ (x + n ≤ 256) × (2 * n ≤ length (now buf)) ⌝ }
-    ensures { λ _. ⌜ now (buf .exit) ≡ bytes (line (rightward x y) n) ++ drop (2 * n) (now (buf .entry)) ⌝ }
+// n cells from the number `first` on, each `step` further: one loop for the four directions, since
+// taking away is adding modulo 65536. The compiler stores eight cells at a time.
+fn draw_line(first: u16, step: u16, n: usize, buf: &mut [u8])
+    requires { ⌜ 2 * n ≤ length (now buf) ⌝ }
+    ensures { λ _. ⌜ now (buf .exit) ≡ bytes (line (numbered first step) n) ++ drop (2 * n) (now (buf .entry)) ⌝ }
 {
-    let first = 256 * (y as u16) + (x as u16);
+    let mut cell = first;
     for i in 0..n {
-        let cell = first + (i as u16);
         buf[2 * i] = (cell % 256) as u8;
         buf[2 * i + 1] = (cell / 256) as u8;
+        cell = wrapping_add_u16(cell, step);
     }
 }
 
-fn left(x: u8, y: u8, n: usize, buf: &mut [u8])
-    requires { ⌜ (n ≤ x + 1) × (2 * n ≤ length (now buf)) ⌝ }
-    ensures { λ _. ⌜ now (buf .exit) ≡ bytes (line (leftward x y) n) ++ drop (2 * n) (now (buf .entry)) ⌝ }
+// One of several lines: also the number where the next one begins, `across` from this one's end.
+fn draw_next(from: u32, way: u32, across: u32, n: usize, buf: &mut [u8]) -> u32
+    requires { ⌜ Steps from way way across n 1 (now buf) ⌝ }
+    ensures { λ r. ⌜ (r ≡ (from + way * (n - 1) + across) % 65536) × (now (buf .exit) ≡ bytes (line (numbered from way) n) ++ drop (2 * n) (now (buf .entry))) ⌝ }
 {
-    let first = 256 * (y as u16) + (x as u16);
-    for i in 0..n {
-        let cell = first - (i as u16);
-        buf[2 * i] = (cell % 256) as u8;
-        buf[2 * i + 1] = (cell / 256) as u8;
-    }
+    draw_line(from as u16, way as u16, n, buf);
+    (from + way * ((n - 1) as u32) + across) % 65536
 }
 
-fn down(x: u8, y: u8, n: usize, buf: &mut [u8])
-    requires { ⌜ (y + n ≤ 256) × (2 * n ≤ length (now buf)) ⌝ }
-    ensures { λ _. ⌜ now (buf .exit) ≡ bytes (line (downward x y) n) ++ drop (2 * n) (now (buf .entry)) ⌝ }
+// Lines of n cells there and back, in pairs, so that both steps are known before the loop.
+fn draw_snake(
+    first: u32,
+    there: u32,
+    back: u32,
+    across: u32,
+    n: usize,
+    lines: usize,
+    buf: &mut [u8],
+)
+    requires { ⌜ Steps first there back across n lines (now buf) ⌝ }
+    ensures { λ _. ⌜ now (buf .exit) ≡ bytes (snake first there back across n lines) ++ drop (2 * (n * lines)) (now (buf .entry)) ⌝ }
 {
-    for i in 0..n {
-        buf[2 * i] = x;
-        buf[2 * i + 1] = y + (i as u8);
+    let mut from = first;
+    let mut at: usize = 0;
+    for i in 0..lines / 2 {
+        let middle = draw_next(from, there, across, n, &mut buf[at..]);
+        from = draw_next(middle, back, across, n, &mut buf[at + 2 * n..]);
+        at = at + 4 * n;
     }
-}
-
-fn up(x: u8, y: u8, n: usize, buf: &mut [u8])
-    requires { ⌜ (n ≤ y + 1) × (2 * n ≤ length (now buf)) ⌝ }
-    ensures { λ _. ⌜ now (buf .exit) ≡ bytes (line (upward x y) n) ++ drop (2 * n) (now (buf .entry)) ⌝ }
-{
-    for i in 0..n {
-        buf[2 * i] = x;
-        buf[2 * i + 1] = y - (i as u8);
-    }
-}
-
-// The straight line from a to c, both included.
-fn straight(a: Cell, c: Cell, buf: &mut [u8])
-    requires { ⌜ Small a ⌝ ∗ ⌜ Small c ⌝ ∗ ⌜ Straight a c ⌝ ∗ ⌜ 2 * (dist (a .x) (c .x) + dist (a .y) (c .y) + 1) ≤ length (now buf) ⌝ }
-    ensures { λ _. ⌜ Drawn (Inside a c) a c (dist (a .x) (c .x) + dist (a .y) (c .y) + 1) (now (buf .entry)) (now (buf .exit)) ⌝ }
-{
-    let ax = a.x;
-    let ay = a.y;
-    let cx = c.x;
-    let cy = c.y;
-    if ay == cy {
-        if ax <= cx {
-            right(ax as u8, ay as u8, (cx - ax + 1) as usize, buf);
-        } else {
-            left(ax as u8, ay as u8, (ax - cx + 1) as usize, buf);
-        }
-    } else if ay <= cy {
-        down(ax as u8, ay as u8, (cy - ay + 1) as usize, buf);
-    } else {
-        up(ax as u8, ay as u8, (ay - cy + 1) as usize, buf);
+    if lines % 2 == 1 {
+        draw_next(from, there, across, n, &mut buf[at..]);
     }
 }
 
@@ -89,12 +70,65 @@ fn distance(p: u32, q: u32) -> u32
     if p <= q { q - p } else { p - q }
 }
 
-// One step from p towards q, another number.
-fn step_toward(p: u32, q: u32) -> u32
-    requires { ⌜ (p ≤ 255) × ((p ≡ q) → ⊥) ⌝ }
-    ensures { λ r. ⌜ r ≡ toward p q ⌝ }
+// k steps from p towards q.
+fn move_ahead(p: u32, q: u32, k: u32) -> u32
+    requires { ⌜ (p ≤ 255) × (k ≤ dist p q) ⌝ }
+    ensures { λ r. ⌜ r ≡ ahead p q k ⌝ }
 {
-    if p < q { p + 1 } else { p - 1 }
+    if p <= q { p + k } else { p - k }
+}
+
+// Where k lines there and back between p and q end that begin at p.
+fn turn(k: u32, p: u32, q: u32) -> u32
+    ensures { λ r. ⌜ r ≡ turning k p q ⌝ }
+{
+    if k % 2 == 0 { p } else { q }
+}
+
+// The step from p towards q, where one cell further is `unit` more.
+fn step_to(unit: u32, p: u32, q: u32) -> u32
+    requires { ⌜ unit ≤ 65536 ⌝ }
+    ensures { λ r. ⌜ r ≡ stepTo unit p q ⌝ }
+{
+    if p <= q { unit } else { 65536 - unit }
+}
+
+fn cell_number(c: Cell) -> u32
+    requires { ⌜ Small c ⌝ }
+    ensures { λ r. ⌜ r ≡ number c ⌝ }
+{
+    c.x + 256 * c.y
+}
+
+// All rows or all columns of the rectangle of a and f, there and back from the corner a.
+fn draw_sweep(row: bool, a: Cell, f: Cell, buf: &mut [u8])
+    requires { ⌜ Small a ⌝ ∗ ⌜ Small f ⌝ ∗ ⌜ 2 * area a f ≤ length (now buf) ⌝ }
+    ensures { λ _. ⌜ Drawn (Inside a f) a (sweepEnd row a f) (area a f) (now (buf .entry)) (now (buf .exit)) ⌝ }
+{
+    let width = distance(a.x, f.x) + 1;
+    let height = distance(a.y, f.y) + 1;
+    let first = cell_number(a);
+    if row {
+        draw_snake(
+            first,
+            step_to(1, a.x, f.x),
+            step_to(1, f.x, a.x),
+            step_to(256, a.y, f.y),
+            width as usize,
+            height as usize,
+            buf,
+        );
+    } else {
+        draw_snake(
+            first,
+            step_to(256, a.y, f.y),
+            step_to(256, f.y, a.y),
+            step_to(1, a.x, f.x),
+            height as usize,
+            width as usize,
+            buf,
+        );
+    }
 }
 
 // Whether the track from a to t in the rectangle of a and b is one line.
@@ -108,27 +142,6 @@ fn one_line(a: Cell, b: Cell, t: Cell) -> bool
         return true;
     }
     same_cell(a, t)
-}
-
-// Whether its first line is a row.
-fn row_first(a: Cell, b: Cell, t: Cell) -> bool
-    ensures { λ r. ⌜ r ≡ rowOf a b t ⌝ }
-{
-    let dy = distance(a.y, t.y);
-    if 1 < dy {
-        return true;
-    }
-    if dy == 0 {
-        return false;
-    }
-    let dx = distance(a.x, t.x);
-    if dx == 0 {
-        return true;
-    }
-    if distance(a.y, b.y) == 1 {
-        return dx <= 1;
-    }
-    dx != distance(a.x, b.x)
 }
 
 // The number of cells of the track from a to t in the rectangle of a and b.
@@ -153,42 +166,133 @@ pub fn corner_count(a: Cell, b: Cell, t: Cell) -> Cells
     Cells(all - 1 + (all + (dx + dy)) % 2)
 }
 
-// The first line of a track, `cells` cells from the corner to `end`, and the rectangle that remains.
+// The first lines of a track: rows or columns of the rectangle of the corner and `far`, `cells` cells,
+// which end in `end`; backwards those of the rectangle of `end` and `home`; and the rectangle that remains.
 struct Peeled {
+    row: bool,
+    far: Cell,
     end: Cell,
+    home: Cell,
     cells: usize,
     corner: Cell,
     opposite: Cell,
 }
 
-fn peel(a: Cell, b: Cell, t: Cell) -> Peeled
-    requires { ⌜ Small a ⌝ ∗ ⌜ Small b ⌝ ∗ ⌜ Inside a b t ⌝ ∗ ⌜ oneLine a b t ≡ false ⌝ }
-    ensures { λ r. ⌜ Peel a b t (r .end) (r .corner) (r .opposite) (r .cells) ⌝ }
+fn rows(a: Cell, b: Cell, t: Cell, k: u32) -> Peeled
+    requires { ⌜ Small a ⌝ ∗ ⌜ Small b ⌝ ∗ ⌜ Inside a b t ⌝ ∗ ⌜ First k (dist (a .x) (b .x) + 1) (dist (a .y) (b .y) + 1) (dist (a .x) (t .x)) (dist (a .y) (t .y)) ⌝ }
+    ensures { λ r. ⌜ Peel a b t (r .row) (r .far) (r .end) (r .home) (r .corner) (r .opposite) (r .cells) ⌝ }
 {
-    if row_first(a, b, t) {
-        return Peeled {
-            end: Cell { x: b.x, y: a.y },
-            cells: (distance(a.x, b.x) + 1) as usize,
-            corner: Cell {
-                x: b.x,
-                y: step_toward(a.y, b.y),
-            },
-            opposite: Cell { x: a.x, y: b.y },
-        };
-    }
+    let x = turn(k, a.x, b.x);
+    let other = turn(k, b.x, a.x);
+    let y = move_ahead(a.y, b.y, k - 1);
     Peeled {
-        end: Cell { x: a.x, y: b.y },
-        cells: (distance(a.y, b.y) + 1) as usize,
+        row: true,
+        far: Cell { x: b.x, y: y },
+        end: Cell { x: x, y: y },
+        home: Cell { x: other, y: a.y },
+        cells: ((distance(a.x, b.x) + 1) * k) as usize,
         corner: Cell {
-            x: step_toward(a.x, b.x),
-            y: b.y,
+            x: x,
+            y: move_ahead(a.y, b.y, k),
         },
-        opposite: Cell { x: b.x, y: a.y },
+        opposite: Cell { x: other, y: b.y },
     }
 }
 
-// Writes the track from the corner a to t in the rectangle of a and b at the front of the buffer: each
-// line goes into the part of the buffer behind the lines before it.
+fn columns(a: Cell, b: Cell, t: Cell, k: u32) -> Peeled
+    requires { ⌜ Small a ⌝ ∗ ⌜ Small b ⌝ ∗ ⌜ Inside a b t ⌝ ∗ ⌜ First k (dist (a .y) (b .y) + 1) (dist (a .x) (b .x) + 1) (dist (a .y) (t .y)) (dist (a .x) (t .x)) ⌝ }
+    ensures { λ r. ⌜ Peel a b t (r .row) (r .far) (r .end) (r .home) (r .corner) (r .opposite) (r .cells) ⌝ }
+{
+    let y = turn(k, a.y, b.y);
+    let other = turn(k, b.y, a.y);
+    let x = move_ahead(a.x, b.x, k - 1);
+    Peeled {
+        row: false,
+        far: Cell { x: x, y: b.y },
+        end: Cell { x: x, y: y },
+        home: Cell { x: a.x, y: other },
+        cells: ((distance(a.y, b.y) + 1) * k) as usize,
+        corner: Cell {
+            x: move_ahead(a.x, b.x, k),
+            y: y,
+        },
+        opposite: Cell { x: b.x, y: other },
+    }
+}
+
+// The lines that go first, of w columns and h rows: rows, or else columns, and how many.
+struct Lines {
+    row: bool,
+    count: u32,
+}
+
+// All rows up to the one before the target's, or, in two rows, all columns up to the one before the
+// target's; else one line.
+fn choose(w: u32, h: u32, dx: u32, dy: u32) -> Lines
+    requires { ⌜ Open w h dx dy ⌝ }
+    ensures { λ r. ⌜ Chosen (r .row) (r .count) w h dx dy ⌝ }
+{
+    if 1 < dy {
+        return Lines {
+            row: true,
+            count: dy - 1,
+        };
+    }
+    if dy == 0 {
+        return Lines {
+            row: false,
+            count: 1,
+        };
+    }
+    if h == 2 {
+        if 1 < dx {
+            return Lines {
+                row: false,
+                count: dx - 1,
+            };
+        }
+        return Lines {
+            row: true,
+            count: 1,
+        };
+    }
+    if dx == w - 1 {
+        return Lines {
+            row: false,
+            count: 1,
+        };
+    }
+    Lines {
+        row: true,
+        count: 1,
+    }
+}
+
+// The choice is made along the longer side, since few long lines are faster than many short ones.
+fn peel(a: Cell, b: Cell, t: Cell) -> Peeled
+    requires { ⌜ Small a ⌝ ∗ ⌜ Small b ⌝ ∗ ⌜ Inside a b t ⌝ ∗ ⌜ oneLine a b t ≡ false ⌝ }
+    ensures { λ r. ⌜ Peel a b t (r .row) (r .far) (r .end) (r .home) (r .corner) (r .opposite) (r .cells) ⌝ }
+{
+    let w = distance(a.x, b.x) + 1;
+    let h = distance(a.y, b.y) + 1;
+    let dx = distance(a.x, t.x);
+    let dy = distance(a.y, t.y);
+    if h <= w {
+        let wide = choose(w, h, dx, dy);
+        if wide.row {
+            return rows(a, b, t, wide.count);
+        }
+        return columns(a, b, t, wide.count);
+    }
+    let tall = choose(h, w, dy, dx);
+    if tall.row {
+        return columns(a, b, t, tall.count);
+    }
+    rows(a, b, t, tall.count)
+}
+
+// Writes the track from the corner a to t in the rectangle of a and b at the front of the buffer: the
+// next lines go into the part of the buffer behind the lines before them.
 pub fn corner_track(a: Cell, b: Cell, t: Cell, buf: &mut [u8]) -> Cells
     requires { ⌜ Ready a b t (now buf) ⌝ }
     ensures { λ r. ⌜ (r .0 ≡ trackCount a b t) × Drawn (Inside a b) a t (trackCount a b t) (now (buf .entry)) (now (buf .exit)) ⌝ }
@@ -199,17 +303,17 @@ pub fn corner_track(a: Cell, b: Cell, t: Cell, buf: &mut [u8]) -> Cells
     let mut at: usize = 0;
     while !one_line(corner, opposite, t) {
         let p = peel(corner, opposite, t);
-        straight(corner, p.end, &mut buf[at..]);
+        draw_sweep(p.row, corner, p.far, &mut buf[at..]);
         at = at + 2 * p.cells;
         corner = p.corner;
         opposite = p.opposite;
     }
-    straight(corner, t, &mut buf[at..]);
+    draw_sweep(corner.y == t.y, corner, t, &mut buf[at..]);
     count
 }
 
-// The same track from t to a, written in that order: its size is known first, and each line goes before
-// the lines drawn so far.
+// The same track from t to a, written in that order: its size is known first, and the next lines go
+// before the lines drawn so far.
 pub fn corner_track_back(a: Cell, b: Cell, t: Cell, buf: &mut [u8]) -> Cells
     requires { ⌜ Ready a b t (now buf) ⌝ }
     ensures { λ r. ⌜ (r .0 ≡ trackCount a b t) × Drawn (Inside a b) t a (trackCount a b t) (now (buf .entry)) (now (buf .exit)) ⌝ }
@@ -219,12 +323,12 @@ pub fn corner_track_back(a: Cell, b: Cell, t: Cell, buf: &mut [u8]) -> Cells
     let mut opposite = b;
     let mut at: usize = 2 * (count.0 as usize);
     while !one_line(corner, opposite, t) {
-        let first = peel(corner, opposite, t);
-        at = at - 2 * first.cells;
-        straight(first.end, corner, &mut buf[at..]);
-        corner = first.corner;
-        opposite = first.opposite;
+        let p = peel(corner, opposite, t);
+        at = at - 2 * p.cells;
+        draw_sweep(p.row, p.end, p.home, &mut buf[at..]);
+        corner = p.corner;
+        opposite = p.opposite;
     }
-    straight(t, corner, buf);
+    draw_sweep(corner.y == t.y, t, corner, buf);
     count
 }

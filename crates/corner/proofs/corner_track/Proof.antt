@@ -1,13 +1,13 @@
 -- Line by line from the corner: the invariant is `Begun`, the measure the sum of the sides that remain.
 use Prim.Native.Nat.{_+_}
-use mathlib.Core.Path.{sym, _∙_}
+use mathlib.Core.Path.{refl, sym, _∙_}
 use borrow.Author.Needs.{needs}
 use borrow.Author.Tests.{not-true, not-false}
 use native.Mathlib.Omega.{arith}
 use Rattle.grid.specs.Panel.{dist}
 use Rattle.corner.proofs.First.{only}
 use Rattle.corner.proofs.Drawn.{drawn-long}
-use Rattle.corner.proofs.Forward.{Begun, begun, room, ask-line, ask-last, line-end, step, finish}
+use Rattle.corner.proofs.Forward.{Begun, begun, room, ask-lines, ask-last, line-end, step, finish}
 use Rattle.corner.proofs.corner_track.Statement.{statement}
 use Rattle.corner.proofs.corner_track.Tie as tie
 
@@ -31,17 +31,17 @@ peel-requires c κs =
     let d = c .before .before .loop .inv in
     (d .corner, (d .opposite, (d .target, sym (c .before .one-line .ensures) ∙ not-true _ (c .if1 .taken))))
 
-sub-straight : tie.Need-sub-straight Inv-loop μ-loop
-sub-straight c = omega (arith, room (c .before .before .before .before .before .before .pre) (c .before .before .before .loop .inv))
+sub-draw-sweep : tie.Need-sub-draw-sweep Inv-loop μ-loop
+sub-draw-sweep c = omega (arith, room (c .before .before .before .before .before .before .pre) (c .before .before .before .loop .inv))
 
-part-straight-start : tie.Need-part-straight-start Inv-loop μ-loop
-part-straight-start c = omega (arith, room (c .before .before .before .before .before .before .pre) (c .before .before .before .loop .inv))
+part-draw-sweep-start : tie.Need-part-draw-sweep-start Inv-loop μ-loop
+part-draw-sweep-start c = omega (arith, room (c .before .before .before .before .before .before .pre) (c .before .before .before .loop .inv))
 
-part-straight-end : tie.Need-part-straight-end Inv-loop μ-loop
-part-straight-end c = search needs
+part-draw-sweep-end : tie.Need-part-draw-sweep-end Inv-loop μ-loop
+part-draw-sweep-end c = search needs
 
-straight-requires : tie.Need-straight-requires Inv-loop μ-loop
-straight-requires c κs = ask-line (c .before .before .before .before .before .before .before .pre) (c .before .before .before .before .loop .inv) (c .before .peel .ensures)
+draw-sweep-requires : tie.Need-draw-sweep-requires Inv-loop μ-loop
+draw-sweep-requires c κs = ask-lines (c .before .before .before .before .before .before .before .pre) (c .before .before .before .before .loop .inv) (c .before .peel .ensures)
 
 mul-at : tie.Need-mul-at Inv-loop μ-loop
 mul-at c = omega (arith, line-end (c .before .before .before .before .before .before .before .before .before .before .before .pre) (c .before .before .before .before .before .before .before .before .loop .inv) (c .before .before .before .before .before .peel .ensures), c .before .before .before .before .before .before .before .before .before .before .before .good)
@@ -53,30 +53,30 @@ loop-less : tie.Need-loop-less Inv-loop μ-loop
 loop-less c = omega (arith, c .before .before .before .before .before .before .before .peel .ensures .less)
 
 loop-again : tie.Need-loop-again Inv-loop μ-loop
-loop-again c = let p = c .before .before .before .before .before .before .before .peel .ensures in step (c .before .before .before .before .before .before .before .before .before .before .before .before .before .pre) (c .before .before .before .before .before .before .before .before .before .before .loop .inv) p (sym (p .long)) (omega arith) (c .before .before .before .before .before .straight .ensures)
+loop-again c = let p = c .before .before .before .before .before .before .before .peel .ensures in step (c .before .before .before .before .before .before .before .before .before .before .before .before .before .pre) (c .before .before .before .before .before .before .before .before .before .before .loop .inv) p (omega arith) (c .before .before .before .before .before .draw-sweep .ensures)
 
-sub-straight-2 : tie.Need-sub-straight-2 Inv-loop μ-loop
-sub-straight-2 c = omega (arith, room (c .before .before .before .before .before .pre) (c .before .before .loop .inv))
+sub-draw-sweep-2 : tie.Need-sub-draw-sweep-2 Inv-loop μ-loop
+sub-draw-sweep-2 c = omega (arith, room (c .before .before .before .before .before .before .before .pre) (c .before .before .before .before .loop .inv))
 
-part-straight-start-2 : tie.Need-part-straight-start-2 Inv-loop μ-loop
-part-straight-start-2 c = omega (arith, room (c .before .before .before .before .before .pre) (c .before .before .loop .inv))
+part-draw-sweep-start-2 : tie.Need-part-draw-sweep-start-2 Inv-loop μ-loop
+part-draw-sweep-start-2 c = omega (arith, room (c .before .before .before .before .before .before .before .pre) (c .before .before .before .before .loop .inv))
 
-part-straight-end-2 : tie.Need-part-straight-end-2 Inv-loop μ-loop
-part-straight-end-2 c = search needs
+part-draw-sweep-end-2 : tie.Need-part-draw-sweep-end-2 Inv-loop μ-loop
+part-draw-sweep-end-2 c = search needs
 
-straight-requires-2 : tie.Need-straight-requires-2 Inv-loop μ-loop
-straight-requires-2 c κs =
-    let d = c .before .before .before .loop .inv in
-    ask-last (c .before .before .before .before .before .before .pre) d (only _ _ _ (d .target) (sym (c .before .before .one-line .ensures) ∙ not-false _ (c .before .if1 .left)))
+draw-sweep-requires-2 : tie.Need-draw-sweep-requires-2 Inv-loop μ-loop
+draw-sweep-requires-2 c κs =
+    let d = c .before .before .before .before .before .loop .inv in
+    ask-last (c .before .before .before .before .before .before .before .before .pre) d (only _ _ _ (d .target) refl (sym (c .before .before .before .before .one-line .ensures) ∙ not-false _ (c .before .before .before .if1 .left)))
 
 returns : tie.Need-returns Inv-loop μ-loop
 returns c =
-    let d = c .before .before .before .before .before .before .loop .inv in
-    let o = only _ _ _ (d .target) (sym (c .before .before .before .before .before .one-line .ensures) ∙ not-false _ (c .before .before .before .before .if1 .left)) in
-    (c .before .before .before .before .before .before .before .corner-count .ensures, finish (c .before .before .before .before .before .before .before .before .before .pre) d (o .counts) (c .before .before .straight2 .ensures))
+    let d = c .before .before .before .before .before .before .before .before .loop .inv in
+    let o = only _ _ _ (d .target) refl (sym (c .before .before .before .before .before .before .before .one-line .ensures) ∙ not-false _ (c .before .before .before .before .before .before .if1 .left)) in
+    (c .before .before .before .before .before .before .before .before .before .corner-count .ensures, finish (c .before .before .before .before .before .before .before .before .before .before .before .pre) d o (c .before .before .draw-sweep2 .ensures))
 
 same-length : tie.Need-same-length Inv-loop μ-loop
-same-length c = drawn-long (returns c .1) (c .before .before .before .before .before .before .before .before .before .pre .room)
+same-length c = drawn-long (returns c .1) (c .before .before .before .before .before .before .before .before .before .before .before .pre .room)
 
 pub corner-track-spec : {M : Type 1} → statement M
 corner-track-spec =
@@ -88,17 +88,17 @@ corner-track-spec =
     loop-holds
     one-line-requires
     peel-requires
-    sub-straight
-    part-straight-start
-    part-straight-end
-    straight-requires
+    sub-draw-sweep
+    part-draw-sweep-start
+    part-draw-sweep-end
+    draw-sweep-requires
     mul-at
     add-at
     loop-less
     loop-again
-    sub-straight-2
-    part-straight-start-2
-    part-straight-end-2
-    straight-requires-2
+    sub-draw-sweep-2
+    part-draw-sweep-start-2
+    part-draw-sweep-end-2
+    draw-sweep-requires-2
     same-length
     returns)

@@ -7,7 +7,7 @@ use native.Mathlib.Omega.{arith}
 use Rattle.grid.specs.Panel.{dist}
 use Rattle.corner.proofs.First.{only}
 use Rattle.corner.proofs.Drawn.{drawn-long}
-use Rattle.corner.proofs.Backward.{Ended, ended, long, fits, ask-line, ask-last, line-start, put-back, step, finish}
+use Rattle.corner.proofs.Backward.{Ended, ended, long, fits, ask-lines, ask-last, line-start, put-back, step, finish}
 use Rattle.corner.proofs.corner_track_back.Statement.{statement}
 use Rattle.corner.proofs.corner_track_back.Tie as tie
 
@@ -45,20 +45,20 @@ mul-at-2 c =
 sub-at : tie.Need-sub-at Inv-loop μ-loop
 sub-at c = line-start (c .before .before .before .before .before .before .before .before .pre) (c .before .before .before .before .loop .inv) (c .before .peel .ensures)
 
-sub-straight : tie.Need-sub-straight Inv-loop μ-loop
-sub-straight c = omega (arith, fits (c .before .before .before .before .before .before .before .before .pre) (c .before .before .before .before .loop .inv))
+sub-draw-sweep : tie.Need-sub-draw-sweep Inv-loop μ-loop
+sub-draw-sweep c = omega (arith, fits (c .before .before .before .before .before .before .before .before .pre) (c .before .before .before .before .loop .inv))
 
-part-straight-start : tie.Need-part-straight-start Inv-loop μ-loop
-part-straight-start c = omega (arith, fits (c .before .before .before .before .before .before .before .before .pre) (c .before .before .before .before .loop .inv))
+part-draw-sweep-start : tie.Need-part-draw-sweep-start Inv-loop μ-loop
+part-draw-sweep-start c = omega (arith, fits (c .before .before .before .before .before .before .before .before .pre) (c .before .before .before .before .loop .inv))
 
-part-straight-end : tie.Need-part-straight-end Inv-loop μ-loop
-part-straight-end c = search needs
+part-draw-sweep-end : tie.Need-part-draw-sweep-end Inv-loop μ-loop
+part-draw-sweep-end c = search needs
 
-straight-requires : tie.Need-straight-requires Inv-loop μ-loop
-straight-requires c κs =
+draw-sweep-requires : tie.Need-draw-sweep-requires Inv-loop μ-loop
+draw-sweep-requires c κs =
     let p = c .before .before .peel .ensures in
     let d = c .before .before .before .before .before .loop .inv in
-    ask-line (c .before .before .before .before .before .before .before .before .before .pre) d _ p (put-back _ _ (line-start (c .before .before .before .before .before .before .before .before .before .pre) d p))
+    ask-lines (c .before .before .before .before .before .before .before .before .before .pre) d _ p (put-back _ _ (line-start (c .before .before .before .before .before .before .before .before .before .pre) d p))
 
 loop-less : tie.Need-loop-less Inv-loop μ-loop
 loop-less c = omega (arith, c .before .before .before .before .before .before .before .peel .ensures .less)
@@ -67,21 +67,21 @@ loop-again : tie.Need-loop-again Inv-loop μ-loop
 loop-again c =
     let p = c .before .before .before .before .before .before .before .peel .ensures in
     let d = c .before .before .before .before .before .before .before .before .before .before .loop .inv in
-    step (c .before .before .before .before .before .before .before .before .before .before .before .before .before .before .pre) d p (put-back _ _ (line-start (c .before .before .before .before .before .before .before .before .before .before .before .before .before .before .pre) d p)) refl (c .before .before .before .before .straight .ensures)
+    step (c .before .before .before .before .before .before .before .before .before .before .before .before .before .before .pre) d p (put-back _ _ (line-start (c .before .before .before .before .before .before .before .before .before .before .before .before .before .before .pre) d p)) (c .before .before .before .before .draw-sweep .ensures)
 
-straight-requires-2 : tie.Need-straight-requires-2 Inv-loop μ-loop
-straight-requires-2 c κs =
-    let d = c .before .before .before .loop .inv in
-    ask-last (c .before .before .before .before .before .before .before .pre) d (only _ _ _ (d .target) (sym (c .before .before .one-line .ensures) ∙ not-false _ (c .before .if1 .left)))
+draw-sweep-requires-2 : tie.Need-draw-sweep-requires-2 Inv-loop μ-loop
+draw-sweep-requires-2 c κs =
+    let d = c .before .before .before .before .before .loop .inv in
+    ask-last (c .before .before .before .before .before .before .before .before .before .pre) d (only _ _ _ (d .target) refl (sym (c .before .before .before .before .one-line .ensures) ∙ not-false _ (c .before .before .before .if1 .left)))
 
 returns : tie.Need-returns Inv-loop μ-loop
 returns c =
-    let d = c .before .before .before .before .before .before .loop .inv in
-    let o = only _ _ _ (d .target) (sym (c .before .before .before .before .before .one-line .ensures) ∙ not-false _ (c .before .before .before .before .if1 .left)) in
-    (c .before .before .before .before .before .before .before .before .corner-count .ensures, finish (c .before .before .before .before .before .before .before .before .before .before .pre) d o refl (c .before .before .straight2 .ensures))
+    let d = c .before .before .before .before .before .before .before .before .loop .inv in
+    let o = only _ _ _ (d .target) refl (sym (c .before .before .before .before .before .before .before .one-line .ensures) ∙ not-false _ (c .before .before .before .before .before .before .if1 .left)) in
+    (c .before .before .before .before .before .before .before .before .before .before .corner-count .ensures, finish (c .before .before .before .before .before .before .before .before .before .before .before .before .pre) d o (c .before .before .draw-sweep2 .ensures))
 
 same-length : tie.Need-same-length Inv-loop μ-loop
-same-length c = drawn-long (returns c .1) (c .before .before .before .before .before .before .before .before .before .before .pre .room)
+same-length c = drawn-long (returns c .1) (c .before .before .before .before .before .before .before .before .before .before .before .before .pre .room)
 
 pub corner-track-back-spec : {M : Type 1} → statement M
 corner-track-back-spec =
@@ -97,12 +97,12 @@ corner-track-back-spec =
     peel-requires
     mul-at-2
     sub-at
-    sub-straight
-    part-straight-start
-    part-straight-end
-    straight-requires
+    sub-draw-sweep
+    part-draw-sweep-start
+    part-draw-sweep-end
+    draw-sweep-requires
     loop-less
     loop-again
-    straight-requires-2
+    draw-sweep-requires-2
     same-length
     returns)
