@@ -1,7 +1,7 @@
 -- Numbers between two others, in either order, and one step on the way: what a row's x and a column's y have in common.
 -- Everything goes by whether the way leads up or down, in sums.
 use Prim.Native.Nat.{ℕ, _+_, _-_, _≤_, _<_, min, max}
-use mathlib.Core.Path.{_≡_, ap, _∙_}
+use mathlib.Core.Path.{_≡_, ap}
 use mathlib.Core.Logic.{_≢_}
 use mathlib.Core.Bool.{Bool, cond}
 use native.Mathlib.Omega.{arith}

@@ -62,9 +62,6 @@ first-inside a c = inside (start-between _ _) (start-between _ _)
 pub last-inside : (a c : Cell) → Inside a c c
 last-inside a c = inside (between-sym (start-between _ _)) (between-sym (start-between _ _))
 
-pub inside-sym : {a b c : Cell} → Inside a b c → Inside b a c
-inside-sym i = inside (between-sym (inside-x i)) (between-sym (inside-y i))
-
 -- the smallest rectangle of two cells of a rectangle
 pub inside-part : {a b c d e : Cell} → Inside a b c → Inside a b d → Inside c d e → Inside a b e
 inside-part i j k = inside (between-part (inside-x i) (inside-x j) (inside-x k)) (between-part (inside-y i) (inside-y j) (inside-y k))

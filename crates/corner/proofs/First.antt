@@ -11,11 +11,11 @@ use Rattle.grid.specs.Panel.{dist, apart, Neighbours}
 use lib.Dec.{eqb}
 use borrow.Author.Tests.{eqb-true, eqb-false, eq-eqb, ne-eqb}
 use Rattle.grid.proofs.Facts.{cell-eq, dist-sym, ne-cases, same-ne, same-eq}
-use Rattle.corner.specs.Corner.{Inside, cornerCount, trackCount, ahead, turning}
+use Rattle.corner.specs.Corner.{Inside, cornerCount, trackCount, turning}
 use Rattle.corner.specs.Line.{area, sweepEnd}
-use Rattle.corner.specs.Peel.{Open, Turned, First, Chosen, Peel, oneLine}
+use Rattle.corner.specs.Peel.{Open, Turned, First, Chosen, Sides, Numbers, Peel, oneLine}
 use Rattle.corner.specs.Drawn.{Small}
-use Rattle.corner.proofs.Between.{Between, between, least, most, between-sym, start-between, parts, dist-zero, dist-up, dist-down, by-le, by-eq, Cut, cut}
+use Rattle.corner.proofs.Between.{Between, between, least, most, between-sym, parts, dist-zero, dist-up, dist-down, by-le, by-eq, Cut, cut}
 use Rattle.corner.proofs.Count.{line-right, count-turned, count-thin, count-flat, count-here, count-full}
 
 -- ---- rectangles, coordinate by coordinate
@@ -32,7 +32,7 @@ inside p q = record { left = least p; right = most p; top = least q; bottom = mo
 dist-less : {p q r : ℕ} → Between p q r → dist p r < dist p q + 1
 dist-less b = omega (arith, parts b)
 
-pub at-once : {p r : ℕ} → Between p p r → r ≡ p
+at-once : {p r : ℕ} → Between p p r → r ≡ p
 at-once (Between.up l h) = omega arith
 at-once (Between.down l h) = omega arith
 
@@ -166,26 +166,23 @@ module _ {row : Bool} {E : ℕ → ℕ → Cell} (F : Frame row E) {p q p' q' k 
 
 -- by the numbers that the code computes
 taken-off : {row : Bool} {E : ℕ → ℕ → Cell} (F : Frame row E) (p q p' q' : ℕ) (t : Cell) → Inside (E p q) (E p' q') t → {k x o l m n : ℕ}
-    → First k (dist p p' + 1) (dist q q' + 1) (dist p (F .along t)) (dist q (F .over t))
-    → x ≡ turning k p p' → o ≡ turning k p' p → l ≡ ahead q q' (k - 1) → m ≡ ahead q q' k → n ≡ (dist p p' + 1) * k
+    → First k (dist p p' + 1) (dist q q' + 1) (dist p (F .along t)) (dist q (F .over t)) → Numbers p q p' q' k x o l m n
     → Peel (E p q) (E p' q') t row (E p' l) (E x l) (E o q) (E x m) (E o q') n
-taken-off F p q p' q' t i {k} r ex eo el em =
+taken-off F p q p' q' t i {k} r n =
     peeled F
-    (subst₂ (λ (x o : ℕ). Ends k p p' x o) (sym ex) (sym eo) (ends k p p'))
-    (subst₂ (λ (l m : ℕ). Cut q q' k l m) (sym el) (sym em) (cut q q' k (r .some) (omega (arith, parts (F .inside-over i), r .far))))
-    i r
+    (subst₂ (λ (x o : ℕ). Ends k p p' x o) (sym (n .end)) (sym (n .other)) (ends k p p'))
+    (subst₂ (λ (l m : ℕ). Cut q q' k l m) (sym (n .last)) (sym (n .next)) (cut q q' k (r .some) (omega (arith, parts (F .inside-over i), r .far))))
+    i r (n .cells)
 
 -- rows and columns
 module _ (a b t : Cell) (i : Inside a b t) where
   pub rows-taken : {k x o l m n : ℕ} → First k (dist (a .x) (b .x) + 1) (dist (a .y) (b .y) + 1) (dist (a .x) (t .x)) (dist (a .y) (t .y))
-      → x ≡ turning k (a .x) (b .x) → o ≡ turning k (b .x) (a .x) → l ≡ ahead (a .y) (b .y) (k - 1) → m ≡ ahead (a .y) (b .y) k
-      → n ≡ (dist (a .x) (b .x) + 1) * k → Peel a b t true (record { x = b .x; y = l }) (record { x = x; y = l }) (record { x = o; y = a .y }) (record { x = x; y = m }) (record { x = o; y = b .y }) n
+      → Numbers (a .x) (a .y) (b .x) (b .y) k x o l m n → Peel a b t true (record { x = b .x; y = l }) (record { x = x; y = l }) (record { x = o; y = a .y }) (record { x = x; y = m }) (record { x = o; y = b .y }) n
   unfolding in-rows
   rows-taken = taken-off in-rows (a .x) (a .y) (b .x) (b .y) t i
 
   pub columns-taken : {k x o l m n : ℕ} → First k (dist (a .y) (b .y) + 1) (dist (a .x) (b .x) + 1) (dist (a .y) (t .y)) (dist (a .x) (t .x))
-      → x ≡ turning k (a .y) (b .y) → o ≡ turning k (b .y) (a .y) → l ≡ ahead (a .x) (b .x) (k - 1) → m ≡ ahead (a .x) (b .x) k
-      → n ≡ (dist (a .y) (b .y) + 1) * k → Peel a b t false (record { x = l; y = b .y }) (record { x = l; y = x }) (record { x = a .x; y = o }) (record { x = m; y = x }) (record { x = b .x; y = o }) n
+      → Numbers (a .y) (a .x) (b .y) (b .x) k x o l m n → Peel a b t false (record { x = l; y = b .y }) (record { x = l; y = x }) (record { x = a .x; y = o }) (record { x = m; y = x }) (record { x = b .x; y = o }) n
   unfolding in-columns
   columns-taken = taken-off in-columns (a .y) (a .x) (b .y) (b .x) t i
 
@@ -335,12 +332,17 @@ pub area-small : (w h : ℕ) → w ≤ 255 → h ≤ 255 → (w + 1) * (h + 1) �
 area-small w h u v = let p : w + 1 ≤ 256 = omega arith in let q : h + 1 ≤ 256 = omega arith in mul-le-mul p q
 
 -- k lines of a rectangle of small cells
-pub lines-small : {p q r k d : ℕ} → p ≤ 255 → q ≤ 255 → Between p q r → d ≤ 255 → k ≤ dist p r → (k ≤ dist p q) × ((d + 1) * k ≤ 65536)
-lines-small {p} {q} {r} {k} {d} hp hq b hd h =
-    let l : k ≤ dist p q = omega (arith, parts b) in
-    let a : d + 1 ≤ 256 = omega arith in
-    let c : k ≤ 256 = omega (arith, dist-small p q hp hq) in
-    (l, mul-le-mul a c)
+pub lines-small : {p q p' q' k d : ℕ} → Sides p q p' q' k → d ≡ dist p p' → (d + 1) * k ≤ 65536
+lines-small {p} {q} {p'} {q'} {k} {d} s e =
+    let a : d + 1 ≤ 256 = omega (arith, dist-small p p' (s .left) (s .right)) in
+    let c : k ≤ 256 = omega (arith, s .most, dist-small q q' (s .top) (s .bottom)) in
+    mul-le-mul a c
+
+pub row-sides : {a b t : Cell} {k w dx : ℕ} → Small a → Small b → Inside a b t → First k w (dist (a .y) (b .y) + 1) dx (dist (a .y) (t .y)) → Sides (a .x) (a .y) (b .x) (b .y) k
+row-sides s u i r = record { left = s .across; right = u .across; top = s .down; bottom = u .down; some = r .some; most = omega (arith, r .far, parts (inside-y i)) }
+
+pub column-sides : {a b t : Cell} {k h dy : ℕ} → Small a → Small b → Inside a b t → First k h (dist (a .x) (b .x) + 1) dy (dist (a .x) (t .x)) → Sides (a .y) (a .x) (b .y) (b .x) k
+column-sides s u i r = record { left = s .down; right = u .down; top = s .across; bottom = u .across; some = r .some; most = omega (arith, r .far, parts (inside-x i)) }
 
 -- ---- the count, by the distances that the code computes
 

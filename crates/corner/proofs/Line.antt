@@ -43,7 +43,7 @@ once-line f zero h = Once.none
 once-line f (suc n) h = Once.more (all-line (λ i. f (suc i)) n (λ i l. h 0 (suc i) (suc-le-suc zero-le) (suc-le-suc l))) (once-line (λ i. f (suc i)) n (λ i j k l. h (suc i) (suc j) (suc-le-suc k) (suc-le-suc l)))
 
 -- equal cell by cell
-pub line-same : (f g : ℕ → Cell) (n : ℕ) → ((i : ℕ) → i < n → f i ≡ g i) → line f n ≡ line g n
+line-same : (f g : ℕ → Cell) (n : ℕ) → ((i : ℕ) → i < n → f i ≡ g i) → line f n ≡ line g n
 line-same f g zero h = refl
 line-same f g (suc n) h = λ j. h 0 (suc-le-suc zero-le) j ∷ line-same (λ i. f (suc i)) (λ i. g (suc i)) n (λ i l. h (suc i) (suc-le-suc l)) j
 

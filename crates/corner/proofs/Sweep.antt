@@ -2,7 +2,7 @@
 use Prim.Native.Nat.{ℕ, zero, suc, _+_, _-_, _*_, _%_, _≤_}
 use mathlib.Core.Path.{_≡_, refl, sym, ap, _∙_, subst, subst₂}
 use mathlib.Core.Logic.{_≢_}
-use mathlib.Core.Bool.{Bool, true, false, cond}
+use mathlib.Core.Bool.{Bool, cond}
 use mathlib.Core.List.{List, _++_, append-nil}
 use native.Mathlib.Omega.{arith}
 use native.Mathlib.Numerals.{add-one}
@@ -10,7 +10,7 @@ use native.Mathlib.Nat.{mul-zero, mul-suc, add-comm}
 use lib.ListN.{length, drop, length-append}
 use borrow.Author.Tests.{le-leb, lt-leb}
 use Rattle.grid.specs.declared.Cell.{Cell}
-use Rattle.grid.specs.Panel.{dist, Neighbours}
+use Rattle.grid.specs.Panel.{dist}
 use Rattle.grid.specs.Track.{TrackIn}
 use Rattle.grid.specs.Bytes.{bytes}
 use Rattle.grid.proofs.Facts.{dist-sym}
@@ -42,7 +42,7 @@ step-next v q q' h l =
     ap (λ (b : Bool). cond b v (65536 - v)) (lt-leb (ahead q q' 1) q' (omega arith) ∙ sym (lt-leb q q' e)))
 
 -- the length of the lines
-pub length-snake : (f s r c n k : ℕ) → length (snake f s r c n k) ≡ n * k
+length-snake : (f s r c n k : ℕ) → length (snake f s r c n k) ≡ n * k
 length-snake f s r c n zero = sym (mul-zero n)
 length-snake f s r c n (suc k) =
     length-append (line (numbered f s) n) _ ∙ (λ i. length-line (numbered f s) n i + length-snake ((f + s * (n - 1) + c) % 65536) r s c n k i) ∙ add-comm n (n * k) ∙ sym (mul-suc n k)
@@ -71,7 +71,7 @@ module _ {row : Bool} {E : ℕ → ℕ → Cell} {F : Frame row E} {u v : ℕ} (
       let w : stepTo u p p' * (dist p p' + 1 - 1) ≡ stepTo u p p' * dist p p' = let z : dist p p' + 1 - 1 ≡ dist p p' = omega arith in ap (λ (k : ℕ). stepTo u p p' * k) z in
       omega (arith, a, b, w, e)
 
-  pub swept : (k p q p' q' c : ℕ) → p ≤ 255 → p' ≤ 255 → q ≤ 255 → q' ≤ 255 → dist q q' ≡ k → (k ≢ 0 → c ≡ stepTo v q q')
+  swept : (k p q p' q' c : ℕ) → p ≤ 255 → p' ≤ 255 → q ≤ 255 → q' ≤ 255 → dist q q' ≡ k → (k ≢ 0 → c ≡ stepTo v q q')
       → TrackIn (Inside (E p q) (E p' q')) (E p q) (E (turning (k + 1) p p') q') (snake (number (E p q)) (stepTo u p p') (stepTo u p' p) c (dist p p' + 1) (suc k))
   swept zero p q p' q' c hp hp' hq hq' d e =
       let z : q ≡ q' = same q q' d in

@@ -16,7 +16,7 @@ use Rattle.corner.specs.Corner.{Inside, trackCount, ahead}
 use Rattle.corner.proofs.Between.{by-eq, dist-up, dist-down, by-le, start-between}
 use Rattle.corner.proofs.Count.{count-here}
 use Rattle.corner.proofs.Line.{Axis, in-row, in-column, line-track, ahead-start, length-line}
-use Rattle.corner.specs.Peel.{Peel}
+use Rattle.corner.specs.Peel.{Numbers, Peel}
 use Rattle.corner.proofs.First.{inside, turning-once, rows-taken, columns-taken, first-line}
 
 -- a track with a given number of cells
@@ -40,13 +40,16 @@ here a b t e =
 joined : {row : Bool} {a b t f c g a' b' : Cell} {n : ℕ} → Peel a b t row f c g a' b' n → Sized (Inside a f) a c n → Sized (Inside a' b') a' t (trackCount a' b' t) → Sized (Inside a b) a t (trackCount a b t)
 joined p l r = (l .0 ++ r .0, (join (p .lines) (p .rest) (p .apart) (l .1 .0) (p .beside) (r .1 .0), length-append (l .0) (r .0) ∙ (λ i. l .1 .1 i + r .1 .1 i) ∙ sym (p .counts)))
 
+one : (p q p' q' : ℕ) → Numbers p q p' q' 1 p' p q (ahead q q' 1) (dist p p' + 1)
+one p q p' q' = record { end = sym (turning-once p p'); other = sym (turning-once p' p); last = sym (ahead-start q q'); next = refl; cells = sym (mul-one _) }
+
 -- by the sum of the sides
 go : (k : ℕ) (a b t : Cell) → Inside a b t → dist (a .x) (b .x) + dist (a .y) (b .y) < k → Sized (Inside a b) a t (trackCount a b t)
 go zero a b t i h = absurd (omega arith)
 go (suc k) a b t i h = by-eq (dist (a .x) (t .x) + dist (a .y) (t .y)) 0 (here a b t) (λ n. ⊎-elim
-    (λ r. let p = rows-taken a b t i r (sym (turning-once _ _)) (sym (turning-once _ _)) (sym (ahead-start _ _)) refl (sym (mul-one _)) in
+    (λ r. let p = rows-taken a b t i r (one (a .x) (a .y) (b .x) (b .y)) in
     joined p (straight (in-row (a .y)) (a .x) (b .x)) (go k _ _ t (p .target) (omega (arith, p .less))))
-    (λ r. let p = columns-taken a b t i r (sym (turning-once _ _)) (sym (turning-once _ _)) (sym (ahead-start _ _)) refl (sym (mul-one _)) in
+    (λ r. let p = columns-taken a b t i r (one (a .y) (a .x) (b .y) (b .x)) in
     joined p (straight (in-column (a .x)) (a .y) (b .y)) (go k _ _ t (p .target) (omega (arith, p .less))))
     (first-line a b t i (omega arith)))
 

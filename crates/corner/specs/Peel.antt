@@ -1,12 +1,12 @@
 -- A corner track taken apart: its first lines, which sweep the rectangle of a and f from the corner a to c, and the corner track of what remains,
 -- from a' in the rectangle of a' and b'. Backwards the same lines sweep the rectangle of c and g from c to a.
-use Prim.Native.Nat.{ℕ, _+_, _*_, _%_, _≤_, _<_}
+use Prim.Native.Nat.{ℕ, _+_, _-_, _*_, _%_, _≤_, _<_}
 use mathlib.Core.Path.{_≡_}
 use mathlib.Core.Bool.{Bool, true, false, _||_}
 use lib.Dec.{eqb}
 use Rattle.grid.specs.declared.Cell.{Cell}
 use Rattle.grid.specs.Panel.{dist, Neighbours, sameCell}
-use Rattle.corner.specs.Corner.{Inside, cornerCount, trackCount}
+use Rattle.corner.specs.Corner.{Inside, cornerCount, trackCount, ahead, turning}
 use Rattle.corner.specs.Line.{area, sweepEnd}
 
 -- the track is one line: the rectangle has one column or one row, or the target is the corner
@@ -36,6 +36,23 @@ pub record First (k w h dx dy : ℕ) : Type 0 where
 abbrev pub Chosen : Bool → ℕ → ℕ → ℕ → ℕ → ℕ → Type 0
 Chosen true k w h dx dy = First k w h dx dy
 Chosen false k w h dx dy = First k h w dy dx
+
+-- k lines, each from p to p', off the lines q to q'
+pub record Sides (p q p' q' k : ℕ) : Type 0 where
+  pub left : p ≤ 255
+  pub right : p' ≤ 255
+  pub top : q ≤ 255
+  pub bottom : q' ≤ 255
+  pub some : 1 ≤ k
+  pub most : k ≤ dist q q'
+
+-- they end at x in line l; o is the other side, m the next line, and n the number of their cells
+pub record Numbers (p q p' q' k x o l m n : ℕ) : Type 0 where
+  pub end : x ≡ turning k p p'
+  pub other : o ≡ turning k p' p
+  pub last : l ≡ ahead q q' (k - 1)
+  pub next : m ≡ ahead q q' k
+  pub cells : n ≡ (dist p p' + 1) * k
 
 -- lines and rest lie in the rectangle and have no cell in common, the rest begins beside the lines' end, and the cells add up
 pub record Peel (a b t : Cell) (row : Bool) (f c g a' b' : Cell) (n : ℕ) : Type 0 where

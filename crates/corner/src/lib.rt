@@ -13,7 +13,7 @@ ghost use Rattle.grid.specs.Panel.{dist};
 ghost use Rattle.grid.specs.Bytes.{bytes};
 ghost use Rattle.corner.specs.Corner.{Inside, trackCount, ahead, turning};
 ghost use Rattle.corner.specs.Line.{line, number, numbered, stepTo, snake, area, sweepEnd};
-ghost use Rattle.corner.specs.Peel.{oneLine, Open, First, Chosen, Peel};
+ghost use Rattle.corner.specs.Peel.{oneLine, Open, First, Chosen, Sides, Numbers, Peel};
 ghost use Rattle.corner.specs.Drawn.{Small, Steps, Ready, Drawn};
 
 // n cells from the number `first` on, each `step` further: one loop for the four directions, since
@@ -178,24 +178,48 @@ struct Peeled {
     opposite: Cell,
 }
 
+// k lines off a rectangle, the p-th cells of lines q to q2: where they end and on which side the rest
+// begins, the last line and the next one, and how many cells they have.
+struct TakenOff {
+    end: u32,
+    other: u32,
+    last: u32,
+    next: u32,
+    cells: usize,
+}
+
+fn take_off(p: u32, q: u32, p2: u32, q2: u32, k: u32) -> TakenOff
+    requires { ⌜ Sides p q p2 q2 k ⌝ }
+    ensures { λ r. ⌜ Numbers p q p2 q2 k (r .end) (r .other) (r .last) (r .next) (r .cells) ⌝ }
+{
+    TakenOff {
+        end: turn(k, p, p2),
+        other: turn(k, p2, p),
+        last: move_ahead(q, q2, k - 1),
+        next: move_ahead(q, q2, k),
+        cells: ((distance(p, p2) + 1) * k) as usize,
+    }
+}
+
 fn rows(a: Cell, b: Cell, t: Cell, k: u32) -> Peeled
     requires { ⌜ Small a ⌝ ∗ ⌜ Small b ⌝ ∗ ⌜ Inside a b t ⌝ ∗ ⌜ First k (dist (a .x) (b .x) + 1) (dist (a .y) (b .y) + 1) (dist (a .x) (t .x)) (dist (a .y) (t .y)) ⌝ }
     ensures { λ r. ⌜ Peel a b t (r .row) (r .far) (r .end) (r .home) (r .corner) (r .opposite) (r .cells) ⌝ }
 {
-    let x = turn(k, a.x, b.x);
-    let other = turn(k, b.x, a.x);
-    let y = move_ahead(a.y, b.y, k - 1);
+    let o = take_off(a.x, a.y, b.x, b.y, k);
     Peeled {
         row: true,
-        far: Cell { x: b.x, y: y },
-        end: Cell { x: x, y: y },
-        home: Cell { x: other, y: a.y },
-        cells: ((distance(a.x, b.x) + 1) * k) as usize,
-        corner: Cell {
-            x: x,
-            y: move_ahead(a.y, b.y, k),
+        far: Cell { x: b.x, y: o.last },
+        end: Cell {
+            x: o.end,
+            y: o.last,
         },
-        opposite: Cell { x: other, y: b.y },
+        home: Cell { x: o.other, y: a.y },
+        cells: o.cells,
+        corner: Cell {
+            x: o.end,
+            y: o.next,
+        },
+        opposite: Cell { x: o.other, y: b.y },
     }
 }
 
@@ -203,20 +227,21 @@ fn columns(a: Cell, b: Cell, t: Cell, k: u32) -> Peeled
     requires { ⌜ Small a ⌝ ∗ ⌜ Small b ⌝ ∗ ⌜ Inside a b t ⌝ ∗ ⌜ First k (dist (a .y) (b .y) + 1) (dist (a .x) (b .x) + 1) (dist (a .y) (t .y)) (dist (a .x) (t .x)) ⌝ }
     ensures { λ r. ⌜ Peel a b t (r .row) (r .far) (r .end) (r .home) (r .corner) (r .opposite) (r .cells) ⌝ }
 {
-    let y = turn(k, a.y, b.y);
-    let other = turn(k, b.y, a.y);
-    let x = move_ahead(a.x, b.x, k - 1);
+    let o = take_off(a.y, a.x, b.y, b.x, k);
     Peeled {
         row: false,
-        far: Cell { x: x, y: b.y },
-        end: Cell { x: x, y: y },
-        home: Cell { x: a.x, y: other },
-        cells: ((distance(a.y, b.y) + 1) * k) as usize,
-        corner: Cell {
-            x: move_ahead(a.x, b.x, k),
-            y: y,
+        far: Cell { x: o.last, y: b.y },
+        end: Cell {
+            x: o.last,
+            y: o.end,
         },
-        opposite: Cell { x: b.x, y: other },
+        home: Cell { x: a.x, y: o.other },
+        cells: o.cells,
+        corner: Cell {
+            x: o.next,
+            y: o.end,
+        },
+        opposite: Cell { x: b.x, y: o.other },
     }
 }
 
