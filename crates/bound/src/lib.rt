@@ -11,8 +11,7 @@ ghost use mathlib.Core.Path.{_≡_};
 ghost use mathlib.Core.Bool.{cond, not, _&&_, _||_};
 ghost use Prim.Native.Nat.{_≤_, _+_, _-_, _*_, _%_, min, max};
 ghost use lib.Dec.{leb, eqb};
-ghost use Rattle.grid.specs.Panel.{OnPanel, maxSide, black, turned, turnedCell};
-ghost use Rattle.grid.proofs.Facts.{Good};
+ghost use Rattle.grid.specs.Panel.{OnPanel, maxSide, black, turned, turnedCell, GoodPanel};
 ghost use Rattle.count.specs.Count.{area, odd, endCell, f1, f2, f3, c0, found, decided, named, classCount};
 ghost use Rattle.bound.specs.Bound.{boundOf, numberOf, classOf, countOf};
 
@@ -45,7 +44,7 @@ pub fn turn_cell(c: Cell) -> Cell
 }
 
 pub fn area_of(p: Panel) -> u32
-    requires { ⌜ Good p ⌝ }
+    requires { ⌜ GoodPanel p ⌝ }
     ensures { λ r. ⌜ r ≡ area p ⌝ }
 {
     p.width * p.height
@@ -146,7 +145,7 @@ fn lost(area: u32, blacks: u32) -> u32
 // The classes 3, 4 and, F3 aside, 5 lose 0, 1 and 2 cells. A sum and no tests: on random orders a jump
 // by colour would be mispredicted half of the time.
 fn by_colour(p: Panel, s: Cell, t: Cell) -> ClassCount
-    requires { ⌜ Good p ⌝ }
+    requires { ⌜ GoodPanel p ⌝ }
     requires { ⌜ OnPanel p s ⌝ }
     requires { ⌜ OnPanel p t ⌝ }
     ensures { λ r. ⌜ r ≡ cond (odd (area p) && (black s && black t)) (found 5 (area p - 2)) (cond (c0 p s t) (found 3 (area p)) (found 4 (area p - 1))) ⌝ }
@@ -162,7 +161,7 @@ fn by_colour(p: Panel, s: Cell, t: Cell) -> ClassCount
 
 // The cells on one side of the terminals in two rows, or on the other, whichever is more.
 fn f2_count(p: Panel, s: Cell, t: Cell) -> u32
-    requires { ⌜ Good p ⌝ }
+    requires { ⌜ GoodPanel p ⌝ }
     requires { ⌜ OnPanel p s ⌝ }
     requires { ⌜ OnPanel p t ⌝ }
     ensures { λ r. ⌜ r ≡ max (s .x + t .x) (2 * p .width - (s .x + t .x) + 2) ⌝ }
@@ -173,7 +172,7 @@ fn f2_count(p: Panel, s: Cell, t: Cell) -> u32
 }
 
 fn decide(p: Panel, s: Cell, t: Cell) -> ClassCount
-    requires { ⌜ Good p ⌝ }
+    requires { ⌜ GoodPanel p ⌝ }
     requires { ⌜ OnPanel p s ⌝ }
     requires { ⌜ OnPanel p t ⌝ }
     requires { ⌜ s .x ≤ t .x ⌝ }
@@ -201,7 +200,7 @@ fn decide(p: Panel, s: Cell, t: Cell) -> ClassCount
 }
 
 fn name_terminals(p: Panel, s: Cell, t: Cell) -> ClassCount
-    requires { ⌜ Good p ⌝ }
+    requires { ⌜ GoodPanel p ⌝ }
     requires { ⌜ OnPanel p s ⌝ }
     requires { ⌜ OnPanel p t ⌝ }
     ensures { λ r. ⌜ r ≡ named p s t ⌝ }
@@ -218,7 +217,7 @@ fn name_terminals(p: Panel, s: Cell, t: Cell) -> ClassCount
 
 // The definition as it stands: the panel turned, the terminals named, the first line that fits.
 fn line_by_line(p: Panel, s: Cell, t: Cell) -> ClassCount
-    requires { ⌜ Good p ⌝ }
+    requires { ⌜ GoodPanel p ⌝ }
     requires { ⌜ OnPanel p s ⌝ }
     requires { ⌜ OnPanel p t ⌝ }
     ensures { λ r. ⌜ r ≡ classCount p s t ⌝ }
@@ -242,7 +241,7 @@ fn shorter_side(p: Panel) -> u32
 // Class and count of two cells on a good panel. With more than 3 rows and columns only the colours
 // matter, which are the same turned and in either order.
 pub fn class_count(p: Panel, s: Cell, t: Cell) -> ClassCount
-    requires { ⌜ Good p ⌝ }
+    requires { ⌜ GoodPanel p ⌝ }
     requires { ⌜ OnPanel p s ⌝ }
     requires { ⌜ OnPanel p t ⌝ }
     ensures { λ r. ⌜ r ≡ classCount p s t ⌝ }

@@ -10,10 +10,9 @@ use lib.Seq.{take-at, drop-at, drop-drop}
 use borrow.Rule.Slice.PartMut.{putMid}
 use Rattle.grid.specs.declared.Panel.{Panel}
 use Rattle.grid.specs.declared.Cell.{Cell}
-use Rattle.grid.specs.Panel.{OnPanel}
+use Rattle.grid.specs.Panel.{OnPanel, GoodPanel}
 use Rattle.grid.specs.Track.{TrackIn}
 use Rattle.grid.specs.Bytes.{bytes}
-use Rattle.grid.proofs.Facts.{Good}
 use Rattle.grid.proofs.Bytes.{bytes-append, length-bytes}
 use Rattle.corner.specs.Corner.{Inside, trackCount}
 use Rattle.corner.specs.Drawn.{Small, Ready}
@@ -119,13 +118,13 @@ module _ (l k : List Leg) {old : List ℕ} (room : Room (l ++ k) old) where
 -- ---- a good plan
 
 -- a leg of a good panel is drawable
-leg-drawable : {p : Panel} {g : Leg} {s t : Cell} → Good p → LegFrom p g s t → Drawable g
+leg-drawable : {p : Panel} {g : Leg} {s t : Cell} → GoodPanel p → LegFrom p g s t → Drawable g
 leg-drawable {p} h f = record { corner = byte (f .corner); opposite = byte (f .opposite); inside = f .target }
   where
     byte : {c : Cell} → OnPanel p c → Small c
     byte o = record { across = let e = o .right in omega (arith, h .widest); down = let e = o .bottom in omega (arith, h .highest) }
 
-chain-drawable : {p : Panel} {s t : Cell} {l : List Leg} → Good p → Chain p s t l → Each Drawable l
+chain-drawable : {p : Panel} {s t : Cell} {l : List Leg} → GoodPanel p → Chain p s t l → Each Drawable l
 chain-drawable h (Chain.one f) = Each.more (leg-drawable h f) Each.none
 chain-drawable h (Chain.more f n e r) = Each.more (leg-drawable h f) (chain-drawable h r)
 
@@ -133,7 +132,7 @@ chain-drawable h (Chain.more f n e r) = Each.more (leg-drawable h f) (chain-draw
 pub chosen : (p : Panel) (s t : Cell) {q : Plan} → OnPanel p s → OnPanel p t → s ≢ t → q ≡ planOf (p .width) (p .height) s t → Plans p s t (count p s t) q
 chosen p s t os ot d e = subst (λ (q : Plan). Plans p s t (count p s t) q) (sym e) (plan-good p s t os ot d)
 
-pub plan-room : {p : Panel} {s t : Cell} {k : ℕ} {q : Plan} {buf : List ℕ} → Good p → Plans p s t k q → 2 * k ≤ length buf → Room (legs q) buf
+pub plan-room : {p : Panel} {s t : Cell} {k : ℕ} {q : Plan} {buf : List ℕ} → GoodPanel p → Plans p s t k q → 2 * k ≤ length buf → Room (legs q) buf
 plan-room h g r = record { each = chain-drawable h (g .chain); room = omega (arith, g .size) }
 
 pub plan-drawn : {p : Panel} {s t : Cell} {k r : ℕ} {q : Plan} {old new : List ℕ} → Plans p s t k q → Written (legs q) r old new → corner.Drawn (OnPanel p) s t k old new

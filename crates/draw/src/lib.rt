@@ -10,8 +10,7 @@ ghost use mathlib.Core.Path.{_≡_};
 ghost use mathlib.Core.Logic.{_≢_};
 ghost use Prim.Native.Nat.{_≤_, _*_};
 ghost use lib.ListN.{length};
-ghost use Rattle.grid.specs.Panel.{OnPanel};
-ghost use Rattle.grid.proofs.Facts.{Good};
+ghost use Rattle.grid.specs.Panel.{OnPanel, GoodPanel};
 ghost use Rattle.corner.specs.Drawn.{Drawn};
 ghost use Rattle.count.specs.Count.{count};
 ghost use Rattle.draw.specs.Draw.{Draws, numberOf, countOf};
@@ -37,7 +36,7 @@ pub enum DrawAnswer {
 
 // Draws by a plan.
 fn draw_planned(p: Panel, s: Cell, t: Cell, buf: &mut [u8])
-    requires { ⌜ Good p ⌝ }
+    requires { ⌜ GoodPanel p ⌝ }
     requires { ⌜ OnPanel p s ⌝ }
     requires { ⌜ OnPanel p t ⌝ }
     requires { ⌜ s ≢ t ⌝ }
@@ -50,7 +49,7 @@ fn draw_planned(p: Panel, s: Cell, t: Cell, buf: &mut [u8])
 
 // Draws a longest track between two different cells of a panel, where there is room for it.
 fn draw_longest(p: Panel, s: Cell, t: Cell, buf: &mut [u8])
-    requires { ⌜ Good p ⌝ }
+    requires { ⌜ GoodPanel p ⌝ }
     requires { ⌜ OnPanel p s ⌝ }
     requires { ⌜ OnPanel p t ⌝ }
     requires { ⌜ s ≢ t ⌝ }

@@ -6,8 +6,7 @@ use grid::Panel;
 use grid::Refusal;
 ghost use mathlib.Core.Path.{_≡_};
 ghost use Prim.Native.Nat.{_≤_};
-ghost use Rattle.grid.specs.Panel.{OnPanel};
-ghost use Rattle.grid.proofs.Facts.{Good};
+ghost use Rattle.grid.specs.Panel.{OnPanel, GoodPanel};
 ghost use Rattle.exit.specs.Exit.{fits, ExitIs, RowIs, SearchIs};
 
 // What Exit answers.
@@ -24,7 +23,7 @@ pub enum Search {
 
 // Whether the cell is not the entry and a track to it has at least the wanted number of cells.
 fn is_fit(p: Panel, entry: Cell, wanted: Cells, c: Cell) -> bool
-    requires { ⌜ Good p ⌝ }
+    requires { ⌜ GoodPanel p ⌝ }
     requires { ⌜ OnPanel p entry ⌝ }
     requires { ⌜ OnPanel p c ⌝ }
     ensures { λ r. ⌜ r ≡ fits p entry wanted c ⌝ }
@@ -38,7 +37,7 @@ fn is_fit(p: Panel, entry: Cell, wanted: Cells, c: Cell) -> bool
 
 // The first fit in row y.
 fn in_row(p: Panel, entry: Cell, wanted: Cells, y: u32) -> Search
-    requires { ⌜ Good p ⌝ }
+    requires { ⌜ GoodPanel p ⌝ }
     requires { ⌜ OnPanel p entry ⌝ }
     requires { ⌜ (1 ≤ y) × (y ≤ p .height) ⌝ }
     ensures { λ r. ⌜ RowIs p entry wanted y r ⌝ }
@@ -57,7 +56,7 @@ fn in_row(p: Panel, entry: Cell, wanted: Cells, y: u32) -> Search
 
 // The first fit, rows from the top, each from the left.
 fn in_panel(p: Panel, entry: Cell, wanted: Cells) -> Search
-    requires { ⌜ Good p ⌝ }
+    requires { ⌜ GoodPanel p ⌝ }
     requires { ⌜ OnPanel p entry ⌝ }
     ensures { λ r. ⌜ SearchIs p entry wanted r ⌝ }
 {

@@ -9,7 +9,7 @@ use lib.Dec.{leb, eqb}
 use borrow.Author.Tests.{leb-true, leb-false, le-leb, lt-leb, eqb-true, eqb-false, eq-eqb, ne-eqb}
 use Rattle.grid.specs.declared.Panel.{Panel}
 use Rattle.grid.specs.declared.Cell.{Cell}
-use Rattle.grid.specs.Panel.{maxSide, upTo, goodPanel, area, onPanel, OnPanel, sameCell, dist, apart, Neighbours, neighbours, turned, turnedCell}
+use Rattle.grid.specs.Panel.{maxSide, upTo, goodPanel, GoodPanel, area, onPanel, OnPanel, sameCell, dist, apart, Neighbours, neighbours, turned, turnedCell}
 
 -- ---- Boolean "and"
 
@@ -27,14 +27,7 @@ and-both p q = λ i. p i && q i
 
 -- ---- panels
 
--- the sides of a good panel
-pub record Good (p : Panel) : Type 0 where
-  pub wide : 1 ≤ p .width
-  pub widest : p .width ≤ maxSide
-  pub high : 1 ≤ p .height
-  pub highest : p .height ≤ maxSide
-
-pub good : (p : Panel) → goodPanel p ≡ true → Good p
+pub good : (p : Panel) → goodPanel p ≡ true → GoodPanel p
 good p e =
     let w = and-left (upTo maxSide (p .width)) (upTo maxSide (p .height)) e in
     let h = and-right (upTo maxSide (p .width)) (upTo maxSide (p .height)) e in
@@ -45,11 +38,11 @@ good p e =
       highest = leb-true (p .height) maxSide (and-right (leb 1 (p .height)) (leb (p .height) maxSide) h);
     }
 
-pub is-good : {p : Panel} → Good p → goodPanel p ≡ true
+pub is-good : {p : Panel} → GoodPanel p → goodPanel p ≡ true
 is-good g = and-both (and-both (le-leb _ _ (g .wide)) (le-leb _ _ (g .widest))) (and-both (le-leb _ _ (g .high)) (le-leb _ _ (g .highest)))
 
 -- it has at most 128 by 128 cells
-pub area-small : {p : Panel} → Good p → area p ≤ 16384
+pub area-small : {p : Panel} → GoodPanel p → area p ≤ 16384
 area-small g = mul-le-mul (g .widest) (g .highest)
 
 pub on : (p : Panel) (c : Cell) → onPanel p c ≡ true → OnPanel p c

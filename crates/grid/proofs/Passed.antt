@@ -8,50 +8,50 @@ use Rattle.grid.specs.declared.Cell.{Cell}
 use Rattle.grid.specs.declared.Refusal.{Refusal}
 use Rattle.grid.specs.declared.Refusal.the-variants.{Side, EntryOff, ExitOff, SameCell}
 use Rattle.grid.specs.declared.Check.{Check}
-use Rattle.grid.specs.declared.Check.the-variants.{Good as Fine, Refused}
-use Rattle.grid.specs.Panel.{goodPanel, onPanel, OnPanel, sameCell}
+use Rattle.grid.specs.declared.Check.the-variants.{Good, Refused}
+use Rattle.grid.specs.Panel.{goodPanel, onPanel, OnPanel, sameCell, GoodPanel}
 use Rattle.grid.specs.Check.{expect, after, checkPanel, checkEntry, checkOrder}
 use Rattle.grid.proofs.Tests.{expect-yes, after-good}
-use Rattle.grid.proofs.Facts.{Good, good, is-good, on, is-on, same-ne, ne-same}
+use Rattle.grid.proofs.Facts.{good, is-good, on, is-on, same-ne, ne-same}
 
 abbrev IsFine : Check → Type 0
-IsFine Fine = Unit {0}
+IsFine Good = Unit {0}
 IsFine (Refused r) = ⊥
 
-pub expect-passed : (b : Bool) (r : Refusal) (k : Check) → expect b r k ≡ Fine → b ≡ true
+pub expect-passed : (b : Bool) (r : Refusal) (k : Check) → expect b r k ≡ Good → b ≡ true
 expect-passed true r k e = refl
 expect-passed false r k e = absurd (subst IsFine (sym e) tt)
 
-pub expect-rest : (b : Bool) (r : Refusal) (k : Check) → expect b r k ≡ Fine → k ≡ Fine
+pub expect-rest : (b : Bool) (r : Refusal) (k : Check) → expect b r k ≡ Good → k ≡ Good
 expect-rest true r k e = e
 expect-rest false r k e = absurd (subst IsFine (sym e) tt)
 
-pub after-passed : (c k : Check) → after c k ≡ Fine → c ≡ Fine
-after-passed Fine k e = refl
+pub after-passed : (c k : Check) → after c k ≡ Good → c ≡ Good
+after-passed Good k e = refl
 after-passed (Refused r) k e = absurd (subst IsFine (sym e) tt)
 
-pub after-rest : (c k : Check) → after c k ≡ Fine → k ≡ Fine
-after-rest Fine k e = e
+pub after-rest : (c k : Check) → after c k ≡ Good → k ≡ Good
+after-rest Good k e = e
 after-rest (Refused r) k e = absurd (subst IsFine (sym e) tt)
 
-pub good-panel : (p : Panel) → checkPanel p ≡ Fine → Good p
-good-panel p e = good p (expect-passed (goodPanel p) Side Fine e)
+pub good-panel : (p : Panel) → checkPanel p ≡ Good → GoodPanel p
+good-panel p e = good p (expect-passed (goodPanel p) Side Good e)
 
-pub good-entry : (p : Panel) (s : Cell) → checkEntry p s ≡ Fine → Good p × OnPanel p s
+pub good-entry : (p : Panel) (s : Cell) → checkEntry p s ≡ Good → GoodPanel p × OnPanel p s
 good-entry p s e =
-    let here = expect (onPanel p s) EntryOff Fine in
-    (good-panel p (after-passed (checkPanel p) here e), on p s (expect-passed (onPanel p s) EntryOff Fine (after-rest (checkPanel p) here e)))
+    let here = expect (onPanel p s) EntryOff Good in
+    (good-panel p (after-passed (checkPanel p) here e), on p s (expect-passed (onPanel p s) EntryOff Good (after-rest (checkPanel p) here e)))
 
 -- an order whose panel is good and whose terminals are two different cells of it: tests 1 to 4
 pub record GoodOrder (p : Panel) (s t : Cell) : Type 0 where
-  pub panel : Good p
+  pub panel : GoodPanel p
   pub entry : OnPanel p s
   pub exit : OnPanel p t
   pub differ : s ≢ t
 
-pub good-order : (p : Panel) (s t : Cell) → checkOrder p s t ≡ Fine → GoodOrder p s t
+pub good-order : (p : Panel) (s t : Cell) → checkOrder p s t ≡ Good → GoodOrder p s t
 good-order p s t e =
-    let last = expect (not (sameCell s t)) SameCell Fine in
+    let last = expect (not (sameCell s t)) SameCell Good in
     let here = expect (onPanel p t) ExitOff last in
     let front = good-entry p s (after-passed (checkEntry p s) here e) in
     let back = after-rest (checkEntry p s) here e in
@@ -59,10 +59,10 @@ good-order p s t e =
       panel = front .0;
       entry = front .1;
       exit = on p t (expect-passed (onPanel p t) ExitOff last back);
-      differ = same-ne s t (not-true (sameCell s t) (expect-passed (not (sameCell s t)) SameCell Fine (expect-rest (onPanel p t) ExitOff last back)));
+      differ = same-ne s t (not-true (sameCell s t) (expect-passed (not (sameCell s t)) SameCell Good (expect-rest (onPanel p t) ExitOff last back)));
     }
 
-pub is-order : {p : Panel} {s t : Cell} → GoodOrder p s t → Fine ≡ checkOrder p s t
+pub is-order : {p : Panel} {s t : Cell} → GoodOrder p s t → Good ≡ checkOrder p s t
 is-order {p} {s} {t} o =
     after-good _ (sym (after-good _ (sym (expect-yes _ _ (is-good (o .panel)) refl)) (expect-yes _ _ (is-on (o .entry)) refl)))
     (expect-yes _ _ (is-on (o .exit)) (expect-yes _ _ (ap not (ne-same s t (o .differ))) refl))

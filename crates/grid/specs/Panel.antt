@@ -18,6 +18,13 @@ upTo k a = leb 1 a && leb a k
 abbrev pub goodPanel : Panel → Bool
 goodPanel p = upTo maxSide (p .width) && upTo maxSide (p .height)
 
+-- the same, as a proposition
+pub record GoodPanel (p : Panel) : Type 0 where
+  pub wide : 1 ≤ p .width
+  pub widest : p .width ≤ maxSide
+  pub high : 1 ≤ p .height
+  pub highest : p .height ≤ maxSide
+
 -- mn, the number of a panel's cells
 abbrev pub area : Panel → ℕ
 area p = p .width * p .height

@@ -3,23 +3,24 @@ use Prim.Native.Nat.{ℕ, _*_, _≤_}
 use mathlib.Core.Path.{_≡_}
 use lib.Dec.{leb}
 use borrow.Author.Tests.{leb-true}
+use Rattle.grid.specs.Panel.{GoodPanel}
 use Rattle.grid.specs.declared.Panel.{Panel}
 use Rattle.grid.specs.declared.Refusal.the-variants.{OneWide, ShortBuffer}
-use Rattle.grid.specs.declared.Check.the-variants.{Good as Fine}
+use Rattle.grid.specs.declared.Check.the-variants.{Good}
 use Rattle.grid.specs.Check.{expect, checkPanel}
-use Rattle.grid.proofs.Facts.{Good, and-left, and-right}
+use Rattle.grid.proofs.Facts.{and-left, and-right}
 use Rattle.grid.proofs.Passed.{expect-passed, expect-rest, after-passed, after-rest, good-panel}
 use Rattle.ring.specs.Ring.{twoWide, ringCount, ringCheck}
 
 pub record Passed (p : Panel) (size : ℕ) : Type 0 where
-  pub panel : Good p
+  pub panel : GoodPanel p
   pub wide : 2 ≤ p .width
   pub high : 2 ≤ p .height
   pub room : 2 * ringCount p ≤ size
 
-pub passed : (p : Panel) (size : ℕ) → ringCheck p size ≡ Fine → Passed p size
+pub passed : (p : Panel) (size : ℕ) → ringCheck p size ≡ Good → Passed p size
 passed p size e =
-    let short = expect (leb (2 * ringCount p) size) ShortBuffer Fine in
+    let short = expect (leb (2 * ringCount p) size) ShortBuffer Good in
     let thin = expect (twoWide p) OneWide short in
     let rest = after-rest (checkPanel p) thin e in
     let two = expect-passed (twoWide p) OneWide short rest in
@@ -27,5 +28,5 @@ passed p size e =
       panel = good-panel p (after-passed (checkPanel p) thin e);
       wide = leb-true 2 (p .width) (and-left (leb 2 (p .width)) (leb 2 (p .height)) two);
       high = leb-true 2 (p .height) (and-right (leb 2 (p .width)) (leb 2 (p .height)) two);
-      room = leb-true (2 * ringCount p) size (expect-passed (leb (2 * ringCount p) size) ShortBuffer Fine (expect-rest (twoWide p) OneWide short rest));
+      room = leb-true (2 * ringCount p) size (expect-passed (leb (2 * ringCount p) size) ShortBuffer Good (expect-rest (twoWide p) OneWide short rest));
     }

@@ -7,7 +7,7 @@ use grid::Panel;
 use grid::Refusal;
 ghost use mathlib.Core.Path.{_≡_};
 ghost use lib.ListN.{length};
-ghost use Rattle.grid.proofs.Facts.{Good};
+ghost use Rattle.grid.specs.Panel.{GoodPanel};
 ghost use Rattle.ring.specs.Ring.{twoWide, ringCount, ringCheck, ringOf, Leaves, numberOf, countOf};
 
 // What Ring answers.
@@ -24,7 +24,7 @@ fn two_wide(p: Panel) -> bool
 
 // mn without its odd cell.
 fn ring_count(p: Panel) -> Cells
-    requires { ⌜ Good p ⌝ }
+    requires { ⌜ GoodPanel p ⌝ }
     ensures { λ r. ⌜ r .0 ≡ ringCount p ⌝ }
 {
     Cells(p.width * p.height / 2 * 2)

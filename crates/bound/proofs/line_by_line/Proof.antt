@@ -4,8 +4,7 @@ use native.Mathlib.Omega.{arith}
 use mathlib.Core.Path.{_≡_, _∙_, subst⁻¹, sym, subst₂}
 use Rattle.grid.specs.declared.Panel.{Panel}
 use Rattle.grid.specs.declared.Cell.{Cell}
-use Rattle.grid.specs.Panel.{OnPanel, turned, turnedCell}
-use Rattle.grid.proofs.Facts.{Good}
+use Rattle.grid.specs.Panel.{OnPanel, turned, turnedCell, GoodPanel}
 use Rattle.grid.proofs.Moves.{turn-on}
 use Rattle.grid.proofs.Tests.{cond-yes, cond-no}
 use Rattle.count.specs.Count.{named, classCount}
@@ -13,8 +12,8 @@ use borrow.Author.Needs.{needs}
 use Rattle.bound.proofs.line_by_line.Statement.{statement}
 use Rattle.bound.proofs.line_by_line.Tie as tie
 
-good-turned : {p q : Panel} → q ≡ turned p → Good p → Good q
-good-turned e g = subst⁻¹ Good e (record { wide = g .high; widest = g .highest; high = g .wide; highest = g .widest })
+good-turned : {p q : Panel} → q ≡ turned p → GoodPanel p → GoodPanel q
+good-turned e g = subst⁻¹ GoodPanel e (record { wide = g .high; widest = g .highest; high = g .wide; highest = g .widest })
 
 on-turned : {p q : Panel} {c d : Cell} → q ≡ turned p → d ≡ turnedCell c → OnPanel p c → OnPanel q d
 on-turned e f o = subst₂ OnPanel (sym e) (sym f) (turn-on o)

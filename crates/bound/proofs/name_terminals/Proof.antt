@@ -6,17 +6,16 @@ use mathlib.Core.Path.{_≡_, _∙_, sym, subst₂}
 use mathlib.Core.Logic.{⊎-elim}
 use Rattle.grid.specs.declared.Panel.{Panel}
 use Rattle.grid.specs.declared.Cell.{Cell}
-use Rattle.grid.specs.Panel.{OnPanel}
+use Rattle.grid.specs.Panel.{OnPanel, GoodPanel}
 use Rattle.grid.proofs.Tests.{cond-yes, cond-no}
-use Rattle.grid.proofs.Facts.{Good}
 use Rattle.count.specs.Count.{named, decided}
 use Rattle.bound.proofs.name_terminals.Statement.{statement}
 use Rattle.bound.proofs.name_terminals.Tie as tie
 
 -- what `decide` asks, of cells that are a and b
-chosen : {p : Panel} {a b left right : Cell} → left ≡ a → right ≡ b → Good p → OnPanel p a → OnPanel p b → a .x ≤ b .x
-    → Good p × (OnPanel p left × (OnPanel p right × (left .x ≤ right .x)))
-chosen {p} e f g o q h = subst₂ (λ (l r : Cell). Good p × (OnPanel p l × (OnPanel p r × (l .x ≤ r .x)))) (sym e) (sym f) (g, (o, (q, h)))
+chosen : {p : Panel} {a b left right : Cell} → left ≡ a → right ≡ b → GoodPanel p → OnPanel p a → OnPanel p b → a .x ≤ b .x
+    → GoodPanel p × (OnPanel p left × (OnPanel p right × (left .x ≤ right .x)))
+chosen {p} e f g o q h = subst₂ (λ (l r : Cell). GoodPanel p × (OnPanel p l × (OnPanel p r × (l .x ≤ r .x)))) (sym e) (sym f) (g, (o, (q, h)))
 
 decide-requires : tie.Need-decide-requires
 decide-requires c κs =
