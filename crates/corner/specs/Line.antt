@@ -28,7 +28,7 @@ numbered f s i = cellOf ((f + s * i) % 65536)
 unfoldable pub stepTo : ℕ → ℕ → ℕ → ℕ
 stepTo u p q = cond (leb p q) u (65536 - u)
 
--- k lines of n cells from the number f on: one with the step s, the next one back with the step r; from the end of a line to the next it is c
+-- k lines of n cells there and back (boustrophedon) from the number f on: one with the step s, the next with the step r; from the end of a line to the next it is c
 abbrev pub snake : ℕ → ℕ → ℕ → ℕ → ℕ → ℕ → List Cell
 snake f s r c n zero = []
 snake f s r c n (suc k) = line (numbered f s) n ++ snake ((f + s * (n - 1) + c) % 65536) r s c n k
