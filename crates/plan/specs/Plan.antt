@@ -1,6 +1,6 @@
 -- Which plan is drawn, for m columns and n rows: the pure namesakes of the code's choosing functions. No promise of Draw rests on this file.
 use Prim.Native.Nat.{ℕ, _+_, _-_, _%_}
-use mathlib.Core.Bool.{Bool, true, false, cond, not, _&&_, _||_}
+use mathlib.Core.Bool.{Bool, true, cond, not, _&&_, _||_}
 use lib.Dec.{leb, ltb, eqb}
 use Rattle.grid.specs.declared.Cell.{Cell}
 use Rattle.grid.specs.Panel.{black, sameCell, turnedCell}
