@@ -22,19 +22,18 @@ use Rattle.exit.specs.declared.ExitAnswer.the-variants as E
 use Rattle.exit.specs.declared.Search.{Search}
 use Rattle.exit.specs.declared.Search.the-variants.{At, Nothing}
 
--- the k cells of row y from column x on
-abbrev pub rowFrom : ℕ → ℕ → ℕ → List Cell
-rowFrom y x zero = []
-rowFrom y x (suc k) = record { x = x; y = y } ∷ rowFrom y (suc x) k
+-- the lists of k numbers from x on, one after the other
+abbrev pub run : (ℕ → List Cell) → ℕ → ℕ → List Cell
+run g x zero = []
+run g x (suc k) = g x ++ run g (suc x) k
 
--- the cells of k rows of the panel from row y on
-abbrev pub rowsFrom : Panel → ℕ → ℕ → List Cell
-rowsFrom p y zero = []
-rowsFrom p y (suc k) = rowFrom y 1 (p .width) ++ rowsFrom p (suc y) k
+-- the cells of row y, from the left
+abbrev pub row : Panel → ℕ → List Cell
+row p y = run (λ x. record { x = x; y = y } ∷ []) 1 (p .width)
 
 -- the cells of the panel, rows from the top, each from the left
 abbrev pub reading : Panel → List Cell
-reading p = rowsFrom p 1 (p .height)
+reading p = run (row p) 1 (p .height)
 
 -- some cell of the list passes the test
 abbrev pub any : (Cell → Bool) → List Cell → Bool
@@ -78,7 +77,7 @@ SearchIn p s w l (At c) = (any (fits p s w) l ≡ true) × ((fits p s w c ≡ tr
 SearchIn p s w l Nothing = any (fits p s w) l ≡ false
 
 abbrev pub RowIs : Panel → Cell → Cells → ℕ → Search → Type 0
-RowIs p s w y r = SearchIn p s w (rowFrom y 1 (p .width)) r
+RowIs p s w y r = SearchIn p s w (row p y) r
 
 abbrev pub SearchIs : Panel → Cell → Cells → Search → Type 0
 SearchIs p s w r = SearchIn p s w (reading p) r
