@@ -12,7 +12,7 @@ use Rattle.grid.specs.declared.Cells.{Cells}
 use Rattle.grid.specs.declared.Refusal.the-variants.{NoExit}
 use Rattle.grid.specs.declared.Check.{Check}
 use Rattle.grid.specs.declared.Check.the-variants.{Good, Refused}
-use Rattle.grid.specs.Panel.{OnPanel, sameCell}
+use Rattle.grid.specs.Panel.{OnPanel, cell, sameCell}
 use Rattle.grid.specs.Track.{Track}
 use Rattle.grid.specs.Refusal.{number}
 use Rattle.grid.specs.Check.{expect, after, checkEntry}
@@ -29,7 +29,7 @@ run g x (suc k) = g x ++ run g (suc x) k
 
 -- the cells of row y, from the left
 abbrev pub row : Panel → ℕ → List Cell
-row p y = run (λ x. record { x = x; y = y } ∷ []) 1 (p .width)
+row p y = run (λ x. cell x y ∷ []) 1 (p .width)
 
 -- the cells of the panel, rows from the top, each from the left
 abbrev pub reading : Panel → List Cell
@@ -61,23 +61,27 @@ abbrev pub ExitIs : Panel → Cell → Cells → ExitAnswer → Type 0
 ExitIs p s w (E.Refused r) = exitCheck p s w ≡ Refused r
 ExitIs p s w (E.Found c) = (exitCheck p s w ≡ Good) × Exit p s w c
 
--- the refusal's number, 0 where nothing is refused; the cell, (0, 0) where refused
+-- the refusal's number, 0 where nothing is refused
 abbrev pub numberOf : ExitAnswer → ℕ
 numberOf (E.Refused r) = number r
 numberOf (E.Found c) = 0
 
+-- the cell, (0, 0) where refused
 abbrev pub cellOf : ExitAnswer → Cell
-cellOf (E.Refused r) = record { x = 0; y = 0 }
+cellOf (E.Refused r) = cell 0 0
 cellOf (E.Found c) = c
 
--- ---- what the search says of a row, and of the panel
+-- ---- the search: no promise of Exit rests on what follows
 
+-- what a search over a list of cells finds: a cell of the panel that fits, or that none of the list does
 abbrev pub SearchIn : Panel → Cell → Cells → List Cell → Search → Type 0
 SearchIn p s w l (At c) = (any (fits p s w) l ≡ true) × ((fits p s w c ≡ true) × OnPanel p c)
 SearchIn p s w l Nothing = any (fits p s w) l ≡ false
 
+-- what the search over row y finds
 abbrev pub RowIs : Panel → Cell → Cells → ℕ → Search → Type 0
 RowIs p s w y r = SearchIn p s w (row p y) r
 
+-- what the search over the panel finds
 abbrev pub SearchIs : Panel → Cell → Cells → Search → Type 0
 SearchIs p s w r = SearchIn p s w (reading p) r

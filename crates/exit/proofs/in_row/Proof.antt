@@ -4,13 +4,14 @@ use mathlib.Core.Path.{_≡_, refl, sym, ap, _∙_}
 use mathlib.Core.Bool.{Bool, false, _||_}
 use mathlib.Core.List.{[], _∷_}
 use native.Mathlib.Omega.{arith}
+use Rattle.grid.specs.Panel.{cell}
 use Rattle.exit.specs.Exit.{any, fits, run}
 use Rattle.exit.proofs.Reading.{hit, miss, all-passed}
 use Rattle.exit.proofs.in_row.Statement.{statement}
 use Rattle.exit.proofs.in_row.Tie as tie
 
 abbrev Inv-loop : tie.InvT-loop
-Inv-loop p entry wanted y width x₀ x = (1 ≤ x) × ((x ≤ width + 1) × (any (fits p entry wanted) (run (λ x. record { x = x; y = y } ∷ []) 1 (x - 1)) ≡ false))
+Inv-loop p entry wanted y width x₀ x = (1 ≤ x) × ((x ≤ width + 1) × (any (fits p entry wanted) (run (λ x. cell x y ∷ []) 1 (x - 1)) ≡ false))
 
 abbrev μ-loop : tie.MeasureT-loop
 μ-loop p entry wanted y width x₀ x = width + 1 - x
