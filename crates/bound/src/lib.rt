@@ -50,7 +50,7 @@ pub fn area_of(p: Panel) -> u32
     p.width * p.height
 }
 
-fn is_odd(k: u32) -> bool
+pub fn is_odd(k: u32) -> bool
     ensures { λ r. ⌜ r ≡ odd k ⌝ }
 {
     k % 2 == 1

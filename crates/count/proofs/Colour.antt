@@ -12,12 +12,12 @@ use lib.ListN.{length}
 use borrow.Author.Tests.{eqb-true, eqb-false}
 use Rattle.grid.specs.declared.Panel.{Panel}
 use Rattle.grid.specs.declared.Cell.{Cell}
-use Rattle.grid.specs.Panel.{Neighbours, OnPanel, black}
+use Rattle.grid.specs.Panel.{Neighbours, OnPanel, black, cell}
 use Rattle.grid.specs.Track.{Walk, All, Once}
 use Rattle.grid.proofs.Facts.{beside-is}
 use Rattle.grid.proofs.Track.{all-map}
 use Rattle.count.specs.Count.{area, odd}
-use Rattle.count.specs.Longest.{weight, partialSum, cellAt, columnsWeight, panelWeight, ifBlack, ifWhite, Closed}
+use Rattle.count.specs.Longest.{weight, partialSum, columnsWeight, panelWeight, ifBlack, ifWhite, Closed}
 use Rattle.count.proofs.Pigeon.{sum-both, pigeon, in-columns, at-most-area}
 
 -- ---- the colour of a cell as a number
@@ -75,7 +75,7 @@ even-length {s} {t} {l} w = go (length l) (ifBlack s) (ifBlack t) _ _ _ (black-w
 
 -- ---- on a panel
 
-column-black : (x n : ℕ) → partialSum (λ y. ifBlack (cellAt x y)) 0 n ≡ (n + (x + 1) % 2) / 2
+column-black : (x n : ℕ) → partialSum (λ y. ifBlack (cell x y)) 0 n ≡ (n + (x + 1) % 2) / 2
 unfolding ifBlack
 column-black x zero = omega arith
 column-black x (suc n) = omega (arith, column-black x n)
@@ -109,7 +109,7 @@ panel-black p = columns-black (p .width) (p .height)
 -- the rest of its cells are white
 pub panel-colours : (p : Panel) → panelWeight ifBlack p + panelWeight ifWhite p ≡ area p
 unfolding columnsWeight
-panel-colours p = sum-both _ _ 0 (p .width) (p .height) (λ x. sum-both _ _ 0 (p .height) 1 (λ y. black-white (cellAt x y)) ∙ mul-one (p .height))
+panel-colours p = sum-both _ _ 0 (p .width) (p .height) (λ x. sum-both _ _ 0 (p .height) 1 (λ y. black-white (cell x y)) ∙ mul-one (p .height))
 
 -- a list without repeats on a panel has no more black cells than the panel
 pub at-most-black : (p : Panel) {l : List Cell} → Once l → All (OnPanel p) l → weight ifBlack l ≤ area p / 2

@@ -15,7 +15,7 @@ use Rattle.grid.proofs.Facts.{and-left, and-right, cell-eq}
 use Rattle.grid.proofs.Moves.{turn-on}
 use Rattle.grid.proofs.Tests.{and-no, cond-yes, cond-no}
 use Rattle.count.specs.declared.ClassCount.{ClassCount}
-use Rattle.count.specs.Count.{area, odd, endCell, f1, f2, f3, c2, c0, found, decided, named, classCount, class, count}
+use Rattle.count.specs.Count.{area, odd, endCell, f1, f2, f3, c2, c0, found, decided, named, classCount, count}
 
 -- ---- Boolean laws
 

@@ -11,12 +11,12 @@ use native.Mathlib.Nat.{add-zero, add-suc, add-assoc, mul-one}
 use lib.ListN.{length}
 use Rattle.grid.specs.declared.Panel.{Panel}
 use Rattle.grid.specs.declared.Cell.{Cell}
-use Rattle.grid.specs.Panel.{OnPanel, sameCell}
+use Rattle.grid.specs.Panel.{OnPanel, cell, sameCell}
 use Rattle.grid.specs.Track.{All, Once}
 use Rattle.grid.proofs.Facts.{eq-same, ne-same, ne-x, ne-y}
 use Rattle.grid.proofs.Track.{all-map}
 use Rattle.count.specs.Count.{area}
-use Rattle.count.specs.Longest.{weight, partialSum, cellAt, columnsWeight}
+use Rattle.count.specs.Longest.{weight, partialSum, columnsWeight}
 
 -- ---- sums
 
@@ -81,12 +81,12 @@ put-bound c e w d k p q = go (sameCell c d)
 pub put-weight : (c : Cell) (e : ℕ) (w : Cell → ℕ) (a k n : ℕ) → InColumns a k n c → columnsWeight (put c e w) a k n + w c ≡ columnsWeight w a k n + e
 unfolding columnsWeight
 put-weight c e w a k n o =
-    let column : (Cell → ℕ) → ℕ → ℕ = λ v x. partialSum (λ y. v (cellAt x y)) 0 n in
+    let column : (Cell → ℕ) → ℕ → ℕ = λ v x. partialSum (λ y. v (cell x y)) 0 n in
     let v : Cell → ℕ = put c e w in
     omega (
       arith,
-      sum-change (column w) (column v) a k (c .x) (o .left) (o .right) (λ x h. sum-same _ _ 0 n (λ y p q. put-there c e w (cellAt x y) (ne-x h))),
-      sum-change (λ y. w (cellAt (c .x) y)) (λ y. v (cellAt (c .x) y)) 0 n (c .y) (o .top) (omega arith) (λ y h. put-there c e w (cellAt (c .x) y) (ne-y h)),
+      sum-change (column w) (column v) a k (c .x) (o .left) (o .right) (λ x h. sum-same _ _ 0 n (λ y p q. put-there c e w (cell x y) (ne-x h))),
+      sum-change (λ y. w (cell (c .x) y)) (λ y. v (cell (c .x) y)) 0 n (c .y) (o .top) (omega arith) (λ y h. put-there c e w (cell (c .x) y) (ne-y h)),
       put-here c e w c refl,
     )
 

@@ -12,10 +12,10 @@ use lib.ListN.{length}
 use lib.Dec.{leb}
 use borrow.Author.Tests.{le-leb, lt-leb}
 use Rattle.grid.specs.declared.Cell.{Cell}
-use Rattle.grid.specs.Panel.{Neighbours}
+use Rattle.grid.specs.Panel.{Neighbours, cell}
 use Rattle.grid.specs.Track.{Walk, All, Once}
 use Rattle.grid.proofs.Facts.{beside-is, cell-eq, ne-x, beside-sym}
-use Rattle.count.specs.Longest.{weight, partialSum, cellAt, columnsWeight, ifBlack}
+use Rattle.count.specs.Longest.{weight, partialSum, columnsWeight, ifBlack}
 use Rattle.count.proofs.Ends.{first-in, last-in}
 use Rattle.count.proofs.Pigeon.{InColumns, sum-linear, sum-const, sum-split, put, put-here, put-there, put-bound, put-weight, pigeon}
 use Rattle.count.proofs.Colour.{row-two, alternate, even-length, columns-black}
@@ -70,7 +70,7 @@ module _ (c : ℕ) where
 
   -- marks the two cells beside the edge in row y
   gate : ℕ → Cell → ℕ
-  gate y = put (cellAt c y) 1 (put (cellAt (c + 1) y) 1 blank)
+  gate y = put (cell c y) 1 (put (cell (c + 1) y) 1 blank)
 
   gate-left : (y : ℕ) (d : Cell) → c ≡ d .x → y ≡ d .y → gate y d ≡ 1
   unfolding gate
@@ -88,8 +88,8 @@ module _ (c : ℕ) where
   gate-weight : (y m n : ℕ) {l : List Cell} → 1 ≤ c → c + 1 ≤ m → 1 ≤ y → y ≤ n → Once l → All (InColumns 0 m n) l → weight (gate y) l ≤ 2
   unfolding gate
   gate-weight y m n p q u v o r =
-      let a : Cell = cellAt c y in
-      let b : Cell = cellAt (c + 1) y in
+      let a : Cell = cell c y in
+      let b : Cell = cell (c + 1) y in
       omega (arith, pigeon (put a 1 (put b 1 blank)) 0 m n o r, put-weight a 1 (put b 1 blank) 0 m n (omega arith), put-weight b 1 blank 0 m n (omega arith), blank-weight m n)
 
   -- ---- the weights
@@ -108,12 +108,12 @@ module _ (c : ℕ) where
   side-total : (r : ℕ) → c % 2 ≡ 1 → columnsWeight side 0 (c + r) 3 + 1 ≡ (c + r) * 3
   unfolding columnsWeight
   side-total r o =
-      let column : (ℕ → ℕ) = λ x. partialSum (λ y. side (cellAt x y)) 0 3 in
+      let column : (ℕ → ℕ) = λ x. partialSum (λ y. side (cell x y)) 0 3 in
       omega (
         arith,
         sum-split column 0 c r,
-        sum-linear column (λ x. partialSum (λ y. ifBlack (cellAt x y)) 0 3) 0 c 2 0 (λ x p q. sum-linear (λ y. side (cellAt x y)) (λ y. ifBlack (cellAt x y)) 0 3 2 0 (λ y u v. omega (arith, side-in (cellAt x y) (omega arith)))),
-        sum-const column (0 + c) r 3 (λ x p q. sum-const _ 0 3 1 (λ y u v. side-out (cellAt x y) (omega arith))),
+        sum-linear column (λ x. partialSum (λ y. ifBlack (cell x y)) 0 3) 0 c 2 0 (λ x p q. sum-linear (λ y. side (cell x y)) (λ y. ifBlack (cell x y)) 0 3 2 0 (λ y u v. omega (arith, side-in (cell x y) (omega arith)))),
+        sum-const column (0 + c) r 3 (λ x p q. sum-const _ 0 3 1 (λ y u v. side-out (cell x y) (omega arith))),
         columns-black c 3,
         odd-half c o,
       )

@@ -38,6 +38,7 @@ c2 p s t = (odd (area p) && (black s && black t)) || f3 p s t
 unfoldable pub c0 : Panel → Cell → Cell → Bool
 c0 p s t = cond (odd (area p)) (not (black s) && not (black t)) (cond (black s) (not (black t)) (black t))
 
+-- a class and a count of cells
 abbrev pub found : ℕ → ℕ → ClassCount
 found c k = record { class = c; count = record { 0 = k } }
 
@@ -58,8 +59,10 @@ named p s t = cond (ltb (t .x) (s .x)) (decided p t s) (decided p s t)
 unfoldable pub classCount : Panel → Cell → Cell → ClassCount
 classCount p s t = cond (ltb (p .width) (p .height)) (named (turned p) (turnedCell s) (turnedCell t)) (named p s t)
 
+-- the class
 abbrev pub class : Panel → Cell → Cell → ℕ
 class p s t = (classCount p s t) .class
 
+-- the count of cells
 abbrev pub count : Panel → Cell → Cell → ℕ
 count p s t = (classCount p s t) .count .0

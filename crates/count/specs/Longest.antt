@@ -4,7 +4,7 @@ use mathlib.Core.List.{List, [], _∷_}
 use lib.ListN.{length}
 use Rattle.grid.specs.declared.Panel.{Panel}
 use Rattle.grid.specs.declared.Cell.{Cell}
-use Rattle.grid.specs.Panel.{Neighbours}
+use Rattle.grid.specs.Panel.{Neighbours, cell}
 use Rattle.grid.specs.Track.{Track}
 
 -- every list of cells that is a track from s to t, however made, has at most k cells
@@ -28,20 +28,18 @@ abbrev pub partialSum : (ℕ → ℕ) → ℕ → ℕ → ℕ
 partialSum f a zero = 0
 partialSum f a (suc k) = f (a + suc k) + partialSum f a k
 
-abbrev pub cellAt : ℕ → ℕ → Cell
-cellAt x y = record { x = x; y = y }
-
 -- the weights of the cells in the columns a + 1 to a + k of n rows, added up
 unfoldable pub columnsWeight : (Cell → ℕ) → ℕ → ℕ → ℕ → ℕ
-columnsWeight w a k n = partialSum (λ x. partialSum (λ y. w (cellAt x y)) 0 n) a k
+columnsWeight w a k n = partialSum (λ x. partialSum (λ y. w (cell x y)) 0 n) a k
 
 -- the weights of all cells of a panel, added up
 abbrev pub panelWeight : (Cell → ℕ) → Panel → ℕ
 panelWeight w p = columnsWeight w 0 (p .width) (p .height)
 
--- 1 for a black cell, 0 for a white one; and the other way round
+-- 1 for a black cell, 0 for a white one
 unfoldable pub ifBlack : Cell → ℕ
 ifBlack c = (c .x + c .y) % 2
 
+-- 1 for a white cell, 0 for a black one
 unfoldable pub ifWhite : Cell → ℕ
 ifWhite c = (c .x + c .y + 1) % 2

@@ -86,8 +86,8 @@ module _ (l k : List Leg) {old : List ℕ} (room : Room (l ++ k) old) where
     pub start-fits : 2 * r ≤ length mid
     start-fits = omega (arith, fits, long)
 
-    pub room-rest : Room k (take (length mid - 2 * r) (drop (2 * r) mid))
-    room-rest = record { each = each-rest l k (room .each); room = omega (arith, fits, long, part-long mid (2 * r) start-fits) }
+    pub room-rest : {at : ℕ} → at ≤ 2 * r → Room k (take (length mid - at) (drop at mid))
+    room-rest {at} h = record { each = each-rest l k (room .each); room = omega (arith, fits, long, part-long mid at (omega (arith, h, start-fits))) }
 
     -- the legs k drawn behind the legs l
     pub written-rest : {q : ℕ} {part : List ℕ} → Written k q (take (length mid - 2 * r) (drop (2 * r) mid)) part → Written (l ++ k) (r + q) old (putMid (2 * r) (length mid - 2 * r) mid part)

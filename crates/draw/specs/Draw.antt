@@ -26,11 +26,12 @@ drawCheck p s t size = after (checkOrder p s t) (expect (leb (2 * count p s t) s
 abbrev pub drawOf : Panel → Cell → Cell → ℕ → DrawAnswer
 drawOf p s t size = answer (drawCheck p s t size) Refused (Drawn (record { 0 = count p s t }))
 
--- the refusal's number, 0 where nothing is refused; and the count of cells, 0 where refused
+-- the refusal's number, 0 where nothing is refused
 abbrev pub numberOf : DrawAnswer → ℕ
 numberOf (Refused r) = number r
 numberOf (Drawn k) = 0
 
+-- the count of cells, 0 where refused
 abbrev pub countOf : DrawAnswer → ℕ
 countOf (Refused r) = 0
 countOf (Drawn k) = k .0

@@ -12,7 +12,7 @@ use Rattle.grid.specs.declared.Cells.{Cells}
 use Rattle.grid.specs.declared.Refusal.the-variants.{NoExit}
 use Rattle.grid.specs.declared.Check.{Check}
 use Rattle.grid.specs.declared.Check.the-variants.{Good, Refused}
-use Rattle.grid.specs.Panel.{OnPanel, sameCell}
+use Rattle.grid.specs.Panel.{OnPanel, cell, sameCell}
 use Rattle.grid.specs.Track.{Track}
 use Rattle.grid.specs.Refusal.{number}
 use Rattle.grid.specs.Check.{expect, after, checkEntry}
@@ -22,19 +22,18 @@ use Rattle.exit.specs.declared.ExitAnswer.the-variants as E
 use Rattle.exit.specs.declared.Search.{Search}
 use Rattle.exit.specs.declared.Search.the-variants.{At, Nothing}
 
--- the k cells of row y from column x on
-abbrev pub rowFrom : ℕ → ℕ → ℕ → List Cell
-rowFrom y x zero = []
-rowFrom y x (suc k) = record { x = x; y = y } ∷ rowFrom y (suc x) k
+-- the lists of k numbers from x on, one after the other
+abbrev pub run : (ℕ → List Cell) → ℕ → ℕ → List Cell
+run g x zero = []
+run g x (suc k) = g x ++ run g (suc x) k
 
--- the cells of k rows of the panel from row y on
-abbrev pub rowsFrom : Panel → ℕ → ℕ → List Cell
-rowsFrom p y zero = []
-rowsFrom p y (suc k) = rowFrom y 1 (p .width) ++ rowsFrom p (suc y) k
+-- the cells of row y, from the left
+abbrev pub row : Panel → ℕ → List Cell
+row p y = run (λ x. cell x y ∷ []) 1 (p .width)
 
 -- the cells of the panel, rows from the top, each from the left
 abbrev pub reading : Panel → List Cell
-reading p = rowsFrom p 1 (p .height)
+reading p = run (row p) 1 (p .height)
 
 -- some cell of the list passes the test
 abbrev pub any : (Cell → Bool) → List Cell → Bool
@@ -62,23 +61,27 @@ abbrev pub ExitIs : Panel → Cell → Cells → ExitAnswer → Type 0
 ExitIs p s w (E.Refused r) = exitCheck p s w ≡ Refused r
 ExitIs p s w (E.Found c) = (exitCheck p s w ≡ Good) × Exit p s w c
 
--- the refusal's number, 0 where nothing is refused; the cell, (0, 0) where refused
+-- the refusal's number, 0 where nothing is refused
 abbrev pub numberOf : ExitAnswer → ℕ
 numberOf (E.Refused r) = number r
 numberOf (E.Found c) = 0
 
+-- the cell, (0, 0) where refused
 abbrev pub cellOf : ExitAnswer → Cell
-cellOf (E.Refused r) = record { x = 0; y = 0 }
+cellOf (E.Refused r) = cell 0 0
 cellOf (E.Found c) = c
 
--- ---- what the search says of a row, and of the panel
+-- ---- the search: no promise of Exit rests on what follows
 
+-- what a search over a list of cells finds: a cell of the panel that fits, or that none of the list does
 abbrev pub SearchIn : Panel → Cell → Cells → List Cell → Search → Type 0
 SearchIn p s w l (At c) = (any (fits p s w) l ≡ true) × ((fits p s w c ≡ true) × OnPanel p c)
 SearchIn p s w l Nothing = any (fits p s w) l ≡ false
 
+-- what the search over row y finds
 abbrev pub RowIs : Panel → Cell → Cells → ℕ → Search → Type 0
-RowIs p s w y r = SearchIn p s w (rowFrom y 1 (p .width)) r
+RowIs p s w y r = SearchIn p s w (row p y) r
 
+-- what the search over the panel finds
 abbrev pub SearchIs : Panel → Cell → Cells → Search → Type 0
 SearchIs p s w r = SearchIn p s w (reading p) r

@@ -7,7 +7,7 @@ use grid::Refusal;
 ghost use mathlib.Core.Path.{_≡_};
 ghost use Prim.Native.Nat.{_≤_};
 ghost use Rattle.grid.specs.Panel.{OnPanel, GoodPanel};
-ghost use Rattle.exit.specs.Exit.{fits, ExitIs, RowIs, SearchIs};
+ghost use Rattle.exit.specs.Exit.{fits, ExitIs, numberOf, cellOf, RowIs, SearchIs};
 
 // What Exit answers.
 pub enum ExitAnswer {
@@ -84,4 +84,24 @@ pub fn find_exit(p: Panel, entry: Cell, wanted: Cells) -> ExitAnswer
         return ExitAnswer::Found(c);
     }
     ExitAnswer::Refused(Refusal::NoExit)
+}
+
+// Document 01's number of the refusal, 0 where there is none.
+pub fn number_of(a: ExitAnswer) -> u32
+    ensures { λ r. ⌜ r ≡ numberOf a ⌝ }
+{
+    match a {
+        ExitAnswer::Refused(r) => grid::number_of(r),
+        ExitAnswer::Found(_) => 0,
+    }
+}
+
+// The cell, (0, 0) where refused.
+pub fn cell_of(a: ExitAnswer) -> Cell
+    ensures { λ r. ⌜ r ≡ cellOf a ⌝ }
+{
+    match a {
+        ExitAnswer::Refused(_) => Cell { x: 0, y: 0 },
+        ExitAnswer::Found(c) => c,
+    }
 }

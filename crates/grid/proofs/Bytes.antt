@@ -1,9 +1,9 @@
 -- A list of cells as bytes, and back: lengths, appended lists, and the cells read from the front of a buffer.
-use Prim.Native.Nat.{ℕ, suc, _+_, _*_}
-use mathlib.Core.Path.{_≡_, refl, sym, ap, _∙_}
+use Prim.Native.Nat.{ℕ, _*_}
+use mathlib.Core.Path.{_≡_, refl, ap, _∙_}
 use mathlib.Core.List.{List, [], _∷_, _++_}
 use native.Mathlib.Omega.{arith}
-use lib.ListN.{length, take}
+use lib.ListN.{length}
 use lib.Seq.{take-at}
 use Rattle.grid.specs.declared.Cell.{Cell}
 use Rattle.grid.specs.Bytes.{bytes, cellsIn, front}

@@ -1,15 +1,15 @@
 -- Cells and panels: the Boolean tests of specs/Panel.antt as facts, and the other way round; when cells are equal, different, neighbours.
-use Prim.Native.Nat.{ℕ, _+_, _-_, _≤_, _<_}
+use Prim.Native.Nat.{ℕ, _+_, _-_, _≤_}
 use mathlib.Core.Path.{_≡_, refl, sym, ap, _∙_}
 use mathlib.Core.Logic.{_≢_, _⊎_, inl, inr}
-use mathlib.Core.Bool.{Bool, true, false, _&&_, not}
+use mathlib.Core.Bool.{Bool, true, false, _&&_}
 use native.Mathlib.Nat.{mul-le-mul}
 use native.Mathlib.Omega.{arith}
 use lib.Dec.{leb, eqb}
-use borrow.Author.Tests.{leb-true, leb-false, le-leb, lt-leb, eqb-true, eqb-false, eq-eqb, ne-eqb}
+use borrow.Author.Tests.{leb-true, le-leb, eqb-true, eqb-false, eq-eqb}
 use Rattle.grid.specs.declared.Panel.{Panel}
 use Rattle.grid.specs.declared.Cell.{Cell}
-use Rattle.grid.specs.Panel.{maxSide, upTo, goodPanel, GoodPanel, area, onPanel, OnPanel, sameCell, dist, apart, Neighbours, neighbours, turned, turnedCell}
+use Rattle.grid.specs.Panel.{maxSide, upTo, goodPanel, GoodPanel, area, onPanel, OnPanel, sameCell, dist, apart, Neighbours, neighbours}
 
 -- ---- Boolean "and"
 

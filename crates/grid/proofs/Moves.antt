@@ -1,16 +1,12 @@
 -- A track moved by a map of cells that keeps neighbours and can be undone is a track: turning, mirroring in x and in y are such maps.
-use Prim.Native.Nat.{ℕ, _+_, _-_, _≤_}
-use mathlib.Core.Path.{_≡_, refl, sym, ap, _∙_, subst}
+use mathlib.Core.Path.{_≡_, refl, sym, ap, _∙_}
 use mathlib.Core.Logic.{_≢_}
-use mathlib.Core.List.{List, [], _∷_, map}
-use native.Mathlib.Omega.{arith}
+use mathlib.Core.List.{List, map}
 use native.Mathlib.Nat.{add-comm}
 use Rattle.grid.specs.declared.Panel.{Panel}
 use Rattle.grid.specs.declared.Cell.{Cell}
 use Rattle.grid.specs.Panel.{OnPanel, Neighbours, apart, dist, turned, turnedCell}
 use Rattle.grid.specs.Track.{Walk, All, Once, TrackIn}
-use Rattle.grid.proofs.Facts.{beside, beside-is, cell-eq}
-use Rattle.grid.proofs.Track.{all-map}
 
 -- f takes the cells of A to cells of B, keeps neighbours there, and g undoes it
 pub record Move (A B : Cell → Type 0) (f : Cell → Cell) : Type 0 where

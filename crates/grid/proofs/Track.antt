@@ -1,6 +1,5 @@
 -- Walks, lists without repeats and tracks: what holds of a part and of a whole, of two lists joined, of a list reversed.
-use Prim.Native.Nat.{ℕ, _+_, _≤_}
-use mathlib.Core.Path.{_≡_, refl, sym, ap, _∙_, subst}
+use mathlib.Core.Path.{sym, subst}
 use mathlib.Core.Logic.{_≢_}
 use mathlib.Core.List.{List, [], _∷_, _++_, reverse, reverse-cons}
 use Rattle.grid.specs.declared.Cell.{Cell}

@@ -4,6 +4,7 @@ use mathlib.Core.List.{List, [], _∷_}
 use lib.ListN.{take}
 use Rattle.grid.specs.declared.Cell.{Cell}
 
+-- the bytes of a list of cells
 abbrev pub bytes : List Cell → List ℕ
 bytes [] = []
 bytes (c ∷ l) = c .x ∷ c .y ∷ bytes l

@@ -40,6 +40,11 @@ pub record OnPanel (p : Panel) (c : Cell) : Type 0 where
   pub top : 1 ≤ c .y
   pub bottom : c .y ≤ p .height
 
+-- the cell in column x and row y
+abbrev pub cell : ℕ → ℕ → Cell
+cell x y = record { x = x; y = y }
+
+-- two cells are the same
 abbrev pub sameCell : Cell → Cell → Bool
 sameCell a b = eqb (a .x) (b .x) && eqb (a .y) (b .y)
 
@@ -47,14 +52,16 @@ sameCell a b = eqb (a .x) (b .x) && eqb (a .y) (b .y)
 unfoldable pub dist : ℕ → ℕ → ℕ
 dist a b = (a - b) + (b - a)
 
--- two cells are neighbours if they share an edge: one step apart, in x or in y (adjacent vertices)
+-- how many steps two cells are apart
 unfoldable pub apart : Cell → Cell → ℕ
 unfolding dist
 apart a b = dist (a .x) (b .x) + dist (a .y) (b .y)
 
+-- two cells are neighbours if they share an edge: one step apart, in x or in y (adjacent vertices)
 pub record Neighbours (a b : Cell) : Type 0 where
   pub one : apart a b ≡ 1
 
+-- the same, as a test
 abbrev pub neighbours : Cell → Cell → Bool
 neighbours a b = eqb (apart a b) 1
 
@@ -62,9 +69,10 @@ neighbours a b = eqb (apart a b) 1
 abbrev pub black : Cell → Bool
 black c = eqb ((c .x + c .y) % 2) 1
 
--- the turned panel: m exchanged with n, and x with y (the transposed grid)
+-- the turned panel: m exchanged with n (the transposed grid)
 abbrev pub turned : Panel → Panel
 turned p = record { width = p .height; height = p .width }
 
+-- a cell of the turned panel: x exchanged with y
 abbrev pub turnedCell : Cell → Cell
 turnedCell c = record { x = c .y; y = c .x }

@@ -3,6 +3,7 @@ use Prim.Native.Nat.{ℕ}
 use Rattle.grid.specs.declared.Refusal.{Refusal}
 use Rattle.grid.specs.declared.Refusal.the-variants.{Side, EntryOff, ExitOff, SameCell, ShortBuffer, ListLength, CellOff, NotNeighbours, Repeated, TooManyCells, WrongEnds, NoExit, OneWide, Mark, StepCount, UnknownByte, CutShort}
 
+-- the number of a refusal
 abbrev pub number : Refusal → ℕ
 number Side = 1
 number EntryOff = 2

@@ -1,5 +1,4 @@
 -- A track: a simple path of the grid graph, for any list of cells, however made.
-use Prim.Native.Nat.{ℕ}
 use mathlib.Core.List.{List, [], _∷_}
 use mathlib.Core.Logic.{_≢_}
 use Rattle.grid.specs.declared.Panel.{Panel}

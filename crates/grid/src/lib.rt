@@ -1,8 +1,8 @@
 // Cells, panels, counts and refusals: what every call takes and answers with, and the tests that
 // the calls share.
 ghost use mathlib.Core.Path.{_≡_};
-ghost use Prim.Native.Nat.{_≤_, _<_, _+_};
-ghost use Rattle.grid.specs.Panel.{upTo, goodPanel, area, onPanel, sameCell, black, neighbours, turned, turnedCell};
+ghost use Prim.Native.Nat.{_≤_, _+_};
+ghost use Rattle.grid.specs.Panel.{upTo, goodPanel, area, onPanel, sameCell};
 ghost use Rattle.grid.specs.Refusal.{number};
 ghost use Rattle.grid.specs.Check.{checkPanel, checkEntry, checkOrder};
 

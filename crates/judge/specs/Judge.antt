@@ -34,6 +34,7 @@ cellsCheck p s t l =
     (expect (leb (length l) (area p)) TooManyCells
     (expect (runs s t l) WrongEnds Good))))
 
+-- all refusals, for a list of bytes and scratch of so many bytes
 abbrev pub judgeCheck : Panel → Cell → Cell → List ℕ → ℕ → Check
 judgeCheck p s t list room = after (sizesCheck p s t (length list) room) (cellsCheck p s t (cellsIn list))
 
@@ -46,11 +47,12 @@ abbrev pub scratchAfter : Panel → Cell → Cell → List ℕ → List ℕ → 
 scratchAfter p s t list scratch =
     answer (sizesCheck p s t (length list) (length scratch)) (λ r. scratch) (replicate (area p) 0 ++ drop (area p) scratch)
 
--- document 01's number and count of an answer: a refusal gives count 0
+-- document 01's number of an answer, 0 where nothing is refused
 abbrev pub judgedNumber : Judged → ℕ
 judgedNumber (Refused r) = number r
 judgedNumber (Accepted k) = 0
 
+-- document 01's count of an answer: a refusal gives 0
 abbrev pub judgedCount : Judged → ℕ
 judgedCount (Refused r) = 0
 judgedCount (Accepted k) = k .0

@@ -2,18 +2,17 @@
 -- the other, are a track from its start to its end, and their cells add up. So a plan that is good shows that a track of its size exists.
 use Prim.Native.Nat.{ℕ, _+_, _≤_, _<_, min, max}
 use mathlib.Core.Path.{_≡_, refl, sym, ap, _∙_, subst}
-use mathlib.Core.Bool.{Bool, true, false, not}
+use mathlib.Core.Bool.{Bool, true, false}
 use mathlib.Core.List.{List, [], _∷_, _++_, append-nil}
 use native.Mathlib.Omega.{arith}
-use native.Mathlib.Nat.{add-assoc, add-comm}
-use lib.ListN.{length, length-append}
+use native.Mathlib.Nat.{add-assoc}
 use Rattle.grid.specs.declared.Panel.{Panel}
 use Rattle.grid.specs.declared.Cell.{Cell}
 use Rattle.grid.specs.Panel.{OnPanel, Neighbours}
 use Rattle.grid.specs.Track.{TrackIn, Track}
 use Rattle.grid.proofs.Facts.{beside-sym}
-use Rattle.grid.proofs.Track.{join, widen, backwards}
-use Rattle.corner.specs.Corner.{Inside, trackCount}
+use Rattle.grid.proofs.Track.{join, widen}
+use Rattle.corner.specs.Corner.{Inside}
 use Rattle.plan.specs.declared.Leg.{Leg}
 use Rattle.plan.specs.declared.Plan.{Plan}
 use Rattle.plan.specs.Leg.{start, stop, legs, legCount, total, reversedLeg, reversedPlan}

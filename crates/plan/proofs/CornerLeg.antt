@@ -1,12 +1,12 @@
 -- A terminal in a corner of the panel: one leg over the whole panel. It leaves out what a longest track does, since a corner of a panel with odd
 -- sides is white, and F3 never holds with a terminal in a corner.
 use Prim.Native.Nat.{ℕ, _+_, _-_, _%_, _≤_, _<_, min, max}
-use mathlib.Core.Path.{_≡_, refl, sym, ap, _∙_, subst}
+use mathlib.Core.Path.{_≡_, refl, sym, ap, _∙_}
 use mathlib.Core.Logic.{_⊎_, inl, inr, ⊎-elim}
-use mathlib.Core.Bool.{Bool, true, false, not, cond, _&&_, _||_}
+use mathlib.Core.Bool.{Bool, true, false, not, _&&_, _||_}
 use native.Mathlib.Omega.{arith}
-use lib.Dec.{eqb, ltb, leb}
-use borrow.Author.Tests.{eq-eqb, ne-eqb, eqb-true, eqb-false, leb-true, not-true}
+use lib.Dec.{eqb, leb}
+use borrow.Author.Tests.{eq-eqb, eqb-true, eqb-false, leb-true, not-true}
 use Rattle.grid.specs.declared.Panel.{Panel}
 use Rattle.grid.specs.declared.Cell.{Cell}
 use Rattle.grid.specs.Panel.{OnPanel, dist, black}
@@ -18,7 +18,7 @@ use Rattle.plan.specs.Plan.{corner, differ}
 use Rattle.plan.specs.declared.Plan.the-variants.{One}
 use Rattle.plan.proofs.Parity.{four, implies, apply, bit, colour}
 use Rattle.plan.proofs.Defect.{loss, block-size, defect, Fits, fits-exchanged, fits-decided}
-use Rattle.plan.proofs.Chain.{LegFrom, Plans}
+use Rattle.plan.proofs.Chain.{Plans}
 use Rattle.plan.proofs.Corners.{NotCorner}
 use Rattle.plan.proofs.Rows.{one-leg}
 

@@ -1,17 +1,15 @@
 -- The count of an order without its classes: for one and two rows as the first two lines say, and else the panel's cells less one for each black
 -- terminal where their number is odd, less one for equal colours where it is even, F3 apart.
-use Prim.Native.Nat.{ℕ, _+_, _-_, _*_, _%_, _≤_, _<_, max}
+use Prim.Native.Nat.{ℕ, _+_, _-_, _*_, _%_, _≤_, max}
 use mathlib.Core.Path.{_≡_, refl, sym, ap, _∙_}
 use mathlib.Core.Bool.{Bool, true, false, not, cond, _&&_, _||_}
 use native.Mathlib.Omega.{arith}
-use lib.Dec.{eqb}
-use borrow.Author.Tests.{eq-eqb, ne-eqb, eqb-true, eqb-false}
+use borrow.Author.Tests.{eq-eqb, ne-eqb}
 use Rattle.grid.specs.declared.Panel.{Panel}
 use Rattle.grid.specs.declared.Cell.{Cell}
 use Rattle.grid.specs.Panel.{black}
-use Rattle.count.specs.declared.ClassCount.{ClassCount}
 use Rattle.plan.proofs.Parity.{bit, mod-bit}
-use Rattle.count.specs.Count.{area, odd, endCell, f1, f2, f3, c2, c0, found, decided}
+use Rattle.count.specs.Count.{area, odd, f1, f2, f3, c2, c0, found, decided}
 
 -- ---- parities
 

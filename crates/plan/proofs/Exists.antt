@@ -1,18 +1,18 @@
 -- From a plan to a track, without any code: each leg has its corner track, and these make one track of the plan's size.
 use Prim.Native.Nat.{ℕ, _+_}
-use mathlib.Core.Path.{_≡_, refl, sym, ap, _∙_, subst}
+use mathlib.Core.Path.{_≡_, ap, _∙_}
 use mathlib.Core.Bool.{Bool, true, false, cond}
-use mathlib.Core.List.{List, [], _∷_, _++_, reverse}
+use mathlib.Core.List.{List, [], _++_, reverse}
 use lib.ListN.{length, length-append, length-reverse}
 use Rattle.grid.specs.declared.Panel.{Panel}
 use Rattle.grid.specs.declared.Cell.{Cell}
 use Rattle.grid.specs.Track.{TrackIn, Track}
 use Rattle.grid.proofs.Track.{backwards}
-use Rattle.corner.specs.Corner.{Inside, trackCount}
+use Rattle.corner.specs.Corner.{Inside}
 use Rattle.corner.proofs.Track.{corner-track}
 use Rattle.plan.specs.declared.Leg.{Leg}
 use Rattle.plan.specs.declared.Plan.{Plan}
-use Rattle.plan.specs.Leg.{start, stop, legs, legCount, total}
+use Rattle.plan.specs.Leg.{start, stop, legCount, total}
 use Rattle.plan.proofs.Chain.{Chain, Drawn, Plans, chain-track}
 
 -- a leg's track, walked as the leg says

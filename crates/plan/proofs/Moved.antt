@@ -3,9 +3,8 @@
 use Prim.Native.Nat.{ℕ, _+_, _-_, _≤_, _<_, min, max}
 use mathlib.Core.Path.{_≡_, refl, sym, ap, _∙_, subst}
 use mathlib.Core.Bool.{Bool, true, false, cond}
-use mathlib.Core.List.{List, [], _∷_, map}
+use mathlib.Core.List.{List, map}
 use native.Mathlib.Omega.{arith}
-use native.Mathlib.Nat.{add-comm, mul-comm}
 use Rattle.grid.specs.declared.Panel.{Panel}
 use Rattle.grid.specs.declared.Cell.{Cell}
 use Rattle.grid.specs.Panel.{OnPanel, Neighbours, dist, turned, turnedCell}
@@ -15,7 +14,7 @@ use Rattle.corner.specs.Corner.{Inside, cornerCount, trackCount}
 use Rattle.plan.specs.declared.Leg.{Leg}
 use Rattle.plan.specs.declared.Plan.{Plan}
 use Rattle.plan.specs.declared.Plan.the-variants.{One, Two, Three, Five}
-use Rattle.plan.specs.Leg.{start, stop, legs, legCount, total, movedLeg, movedPlan, mirrorX, mirrorY}
+use Rattle.plan.specs.Leg.{start, stop, legs, total, movedLeg, movedPlan, mirrorX, mirrorY}
 use Rattle.corner.proofs.Count.{count-turned}
 use Rattle.plan.proofs.Chain.{LegFrom, Sep, on-left, on-right, above, below, Each, Chain, Plans, inside-on}
 

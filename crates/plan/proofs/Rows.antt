@@ -1,27 +1,26 @@
 -- The plans for one row and for two rows, and the single leg from a terminal that stands in a corner of the panel.
-use Prim.Native.Nat.{ℕ, _+_, _-_, _*_, _%_, _≤_, _<_, min, max}
-use mathlib.Core.Path.{_≡_, refl, sym, ap, _∙_, subst}
+use Prim.Native.Nat.{ℕ, _+_, _-_, _*_, _%_, _≤_, _<_, max}
+use mathlib.Core.Path.{_≡_, refl, sym, ap, _∙_}
 use mathlib.Core.Logic.{_⊎_, inl, inr, ⊎-elim}
-use mathlib.Core.Bool.{Bool, true, false, not, cond, _&&_, _||_}
+use mathlib.Core.Bool.{Bool, true, false, not, _&&_, _||_}
 use native.Mathlib.Omega.{arith}
 use native.Mathlib.Nat.{mul-one}
-use lib.Dec.{eqb, ltb}
-use borrow.Author.Tests.{eq-eqb, ne-eqb, eqb-true, eqb-false}
+use lib.Dec.{eqb}
+use borrow.Author.Tests.{eq-eqb, ne-eqb, eqb-true}
 use Rattle.grid.specs.declared.Panel.{Panel}
 use Rattle.grid.specs.declared.Cell.{Cell}
 use Rattle.grid.specs.Panel.{OnPanel, dist}
-use Rattle.grid.proofs.Facts.{beside-x, and-both}
-use Rattle.corner.specs.Corner.{Inside, cornerCount, trackCount}
-use Rattle.count.specs.Count.{area, odd, endCell, f1, f2, f3, decided}
+use Rattle.grid.proofs.Facts.{beside-x}
+use Rattle.corner.specs.Corner.{cornerCount, trackCount}
+use Rattle.count.specs.Count.{area, endCell, f1, f2, decided}
 use Rattle.plan.specs.declared.Leg.{Leg}
-use Rattle.plan.specs.declared.Plan.{Plan}
-use Rattle.plan.specs.declared.Plan.the-variants.{One, Two, Three, Five}
-use Rattle.plan.specs.Leg.{cell, forth, back, total, legs}
+use Rattle.plan.specs.declared.Plan.the-variants.{One}
+use Rattle.plan.specs.Leg.{cell, forth, back}
 use Rattle.plan.specs.Plan.{split, twoRows}
-use Rattle.plan.proofs.Cases.{equal?, less?, if-equal, if-less}
+use Rattle.plan.proofs.Cases.{equal?, if-equal, if-less}
 use Rattle.corner.proofs.Count.{count-flat, count-thin}
 use Rattle.plan.proofs.Size.{blockCount, count-block}
-use Rattle.plan.proofs.Chain.{LegFrom, Sep, on-left, on-right, above, below, Each, Chain, Plans}
+use Rattle.plan.proofs.Chain.{LegFrom, Sep, on-left, Each, Chain, Plans}
 use Rattle.plan.proofs.Decided.{decided-one, decided-two, decided-odd, decided-even, not-f1, not-f2, not-f3}
 
 -- ---- sizes

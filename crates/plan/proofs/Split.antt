@@ -172,7 +172,11 @@ meets n c s t h near f =
     (and-false _ _ f)
 
 module _ (p : Panel) (s t : Cell) (k c : ℕ) (os : OnPanel p s) (ot : OnPanel p t) (fits : Fits (p .width) (p .height) s t k) (high : 4 ≤ p .height) (two≤ : 2 ≤ c) (wide : c + 2 ≤ p .width) (left : s .x ≤ c) (right : c < t .x) where
-  over-colours : (j : ℕ) → EndRow (p .height) j → (not (odd (p .height)) && differ (black s) (black t)) ≡ true → differ (differ (odd c) (odd j)) (black s) ≡ true → Plans p s t k (split (p .width) (p .height) s t c j)
+  -- crossing in row j gives a plan of k cells
+  abbrev At : ℕ → Type 0
+  At j = Plans p s t k (split (p .width) (p .height) s t c j)
+
+  over-colours : (j : ℕ) → EndRow (p .height) j → (not (odd (p .height)) && differ (black s) (black t)) ≡ true → differ (differ (odd c) (odd j)) (black s) ≡ true → At j
   over-colours j row e f =
       let g = four (λ x y a b. implies (differ a b) (implies (differ (differ x y) a) (differ (differ (differ x true) y) b))) refl (odd c) (odd j) (black s) (black t) in
       let l = six (λ x m n y a b. implies (not n && differ a b) (implies (differ (differ x y) a) (eqb (splitLoss x m n y a b) (defect m n a b)))) refl (odd c) (odd (p .width)) (odd (p .height)) (odd j) (black s) (black t) in
@@ -181,28 +185,25 @@ module _ (p : Panel) (s t : Cell) (k c : ℕ) (os : OnPanel p s) (ot : OnPanel p
       (ne-colour (cell (c + 1) j) t (ap (λ (z : Bool). differ z (black t)) (odd-sum (c + 1) j ∙ ap (λ (z : Bool). differ z (odd j)) (odd-sum c 1)) ∙ apply (apply g (and-right (not (odd (p .height))) _ e)) f))
       (eqb-true _ _ (apply (apply l e) f))
 
-  over-free : (j : ℕ) → EndRow (p .height) j → implies (odd (p .height)) (odd j) ≡ true → (not (odd (p .height)) && differ (black s) (black t)) ≡ false → (odd (p .height) && critical (p .width) s t) ≡ false → (c ≡ s .x → j ≡ s .y → ⊥) → (c + 1 ≡ t .x → j ≡ t .y → ⊥) → Plans p s t k (split (p .width) (p .height) s t c j)
+  over-free : (j : ℕ) → EndRow (p .height) j → implies (odd (p .height)) (odd j) ≡ true → (not (odd (p .height)) && differ (black s) (black t)) ≡ false → (odd (p .height) && critical (p .width) s t) ≡ false → (c ≡ s .x → j ≡ s .y → ⊥) → (c + 1 ≡ t .x → j ≡ t .y → ⊥) → At j
   over-free j row o e f n q =
       let l = six (λ x m n y a b. implies (implies n y) (implies (not (not n && differ a b)) (implies (not (n && (not m && (a && not b)))) (eqb (splitLoss x m n y a b) (defect m n a b))))) refl (odd c) (odd (p .width)) (odd (p .height)) (odd j) (black s) (black t) in
       split-fits p s t c j os ot left right row k fits two≤ wide (omega arith) n q (eqb-true _ _ (apply (apply (apply l o) (ap not e)) (ap not f)))
 
-  inner-at : ((not (odd (p .height)) && differ (black s) (black t)) ≡ false → Calm p s t) → Plans p s t k (split (p .width) (p .height) s t c (crossing (p .height) s t c))
+  inner-at : ((not (odd (p .height)) && differ (black s) (black t)) ≡ false → Calm p s t) → At (crossing (p .height) s t c)
   unfolding crossing
   inner-at calm =
-      if-test P (not (odd (p .height)) && differ (black s) (black t)) _ _
+      if-test At _ _ _
       (λ e.
-      if-test P (differ (black (cell c 1)) (black s)) 1 (p .height)
+      if-test At _ 1 (p .height)
       (λ f. over-colours 1 (inl refl) e (sym (ap (λ (z : Bool). differ z (black s)) (odd-sum c 1)) ∙ f))
       (λ f. over-colours (p .height) (inr refl) e (other e (sym (ap (λ (z : Bool). differ z (black s)) (odd-sum c 1)) ∙ f))))
       (λ e.
       let h = calm e in
-      if-test P (free c 1 s t) 1 (p .height)
+      if-test At (free c 1 s t) 1 (p .height)
       (λ f. over-free 1 (inl refl) (one-odd (odd (p .height))) e (h .served) (ne-same (cell c 1) s (not-true _ (and-left _ (not (sameCell (cell (c + 1) 1) t)) f))) (ne-same (cell (c + 1) 1) t (not-true _ (and-right (not (sameCell (cell c 1) s)) _ f))))
       (λ f. let m = meets (p .height) c s t high (h .near) f in over-free (p .height) (inr refl) (self (odd (p .height))) e (h .served) (m .at-s) (m .at-t)))
     where
-      P : ℕ → Type 0
-      P j = Plans p s t k (split (p .width) (p .height) s t c j)
-
       one-odd : (b : Bool) → implies b true ≡ true
       one-odd true = refl
       one-odd false = refl
@@ -218,9 +219,9 @@ module _ (p : Panel) (s t : Cell) (k c : ℕ) (os : OnPanel p s) (ot : OnPanel p
 pub inner-plans : (p : Panel) (s t : Cell) (k : ℕ) → OnPanel p s → OnPanel p t → Fits (p .width) (p .height) s t k → 4 ≤ p .height → 4 ≤ p .width → s .x + 2 ≤ p .width → s .x < t .x → 2 < t .x → ((not (odd (p .height)) && differ (black s) (black t)) ≡ false → Calm p s t) → Plans p s t k (innerSplit (p .width) (p .height) s t)
 unfolding innerSplit
 inner-plans p s t k os ot f high wide room l r calm =
-    if-less (λ (c : ℕ). Plans p s t k (split (p .width) (p .height) s t c (crossing (p .height) s t c))) (s .x) 2 2 (s .x)
-    (λ h. inner-at p s t k 2 os ot f high (omega arith) (omega arith) (omega arith) r calm)
-    (λ h. inner-at p s t k (s .x) os ot f high h room (omega arith) l calm)
+    if-less (λ (c : ℕ). Plans p s t k (split (p .width) (p .height) s t c (crossing (p .height) s t c))) (s .x) 2 _ _
+    (λ h. inner-at p s t k _ os ot f high (omega arith) (omega arith) (omega arith) (omega arith) calm)
+    (λ h. inner-at p s t k _ os ot f high h room (omega arith) l calm)
 
 -- ---- beside the edge: s in column 1, t one to the right and one below
 

@@ -1,7 +1,7 @@
 -- Every order has a plan of as many cells as its count: along the decision list of specs/Plan.antt, terminal by terminal and row by row.
-use Prim.Native.Nat.{ℕ, _+_, _-_, _≤_, _<_}
-use mathlib.Core.Path.{_≡_, refl, sym, ap, _∙_, subst}
-use mathlib.Core.Logic.{_≢_, ⊎-elim}
+use Prim.Native.Nat.{_≤_}
+use mathlib.Core.Path.{_≡_, refl, sym}
+use mathlib.Core.Logic.{_≢_}
 use mathlib.Core.Bool.{Bool, true, false, cond}
 use native.Mathlib.Omega.{arith}
 use native.Mathlib.Nat.{le-trans, le-of-lt}
@@ -12,15 +12,13 @@ use Rattle.grid.specs.declared.Cell.{Cell}
 use Rattle.grid.specs.Panel.{OnPanel, turned, turnedCell}
 use Rattle.grid.proofs.Facts.{cell-eq}
 use Rattle.grid.proofs.Moves.{turn-on}
-use Rattle.count.specs.declared.ClassCount.{ClassCount}
 use Rattle.count.specs.Count.{decided, named, classCount, count}
 use Rattle.plan.specs.declared.Plan.{Plan}
 use Rattle.plan.specs.Leg.{movedPlan, reversedPlan}
-use Rattle.plan.specs.Plan.{corner, steep, threeRows, fourRows, orderedFour, wide, orderedWide, planOf}
-use Rattle.plan.proofs.Cases.{if-test, if-equal, if-less}
+use Rattle.plan.specs.Plan.{corner, wide, orderedWide, planOf}
+use Rattle.plan.proofs.Cases.{if-test, if-equal}
 use Rattle.plan.proofs.Chain.{Plans, exchanged}
 use Rattle.plan.proofs.Moved.{plan-turned}
-use Rattle.plan.proofs.Corners.{NotCorner}
 use Rattle.plan.proofs.CornerLeg.{is-corner, no-corner, from-corner, to-corner}
 use Rattle.plan.proofs.Rows.{one-row, two-rows}
 use Rattle.plan.proofs.ThreeRows.{three-rows}

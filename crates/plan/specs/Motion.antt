@@ -5,6 +5,7 @@ use Rattle.grid.specs.Panel.{maxSide, turnedCell}
 use Rattle.plan.specs.declared.Motion.{Motion}
 use Rattle.plan.specs.declared.Motion.the-variants.{Turn, MirrorX, MirrorY}
 
+-- a cell moved
 abbrev pub moved : Motion → Cell → Cell
 moved Turn c = turnedCell c
 moved (MirrorX k) c = record { x = k - c .x; y = c .y }

@@ -1,6 +1,6 @@
 -- Which plan is drawn, for m columns and n rows: the pure namesakes of the code's choosing functions. No promise of Draw rests on this file.
 use Prim.Native.Nat.{ℕ, _+_, _-_, _%_}
-use mathlib.Core.Bool.{Bool, true, false, cond, not, _&&_, _||_}
+use mathlib.Core.Bool.{Bool, true, cond, not, _&&_, _||_}
 use lib.Dec.{leb, ltb, eqb}
 use Rattle.grid.specs.declared.Cell.{Cell}
 use Rattle.grid.specs.Panel.{black, sameCell, turnedCell}
@@ -50,6 +50,7 @@ middle m s t = Two (forth s (cell 1 (4 - s .y)) (cell (s .x) 2)) (back t (cell m
 
 -- ---- the tests
 
+-- two colours differ
 abbrev pub differ : Bool → Bool → Bool
 differ a b = cond a (not b) b
 
@@ -65,11 +66,13 @@ free c j s t = not (sameCell (cell c j) s) && not (sameCell (cell (c + 1) j) t)
 abbrev pub steep : Cell → Cell → Bool
 steep s t = cond (ltb (t .x + s .y) (s .x + t .y)) true (ltb (t .x + t .y) (s .x + s .y))
 
+-- a cell in a corner of the panel
 abbrev pub corner : ℕ → ℕ → Cell → Bool
 corner m n c = (eqb (c .x) 1 || eqb (c .x) m) && (eqb (c .y) 1 || eqb (c .y) n)
 
 -- ---- which plan
 
+-- two rows: a split at s; where the terminals stand in one column, or in neighbouring ones with different y, the larger side alone
 unfoldable pub twoRows : ℕ → Cell → Cell → Plan
 twoRows m s t =
     cond (eqb (s .y) (t .y)) (split m 2 s t (s .x) (3 - s .y))
@@ -81,9 +84,11 @@ twoRows m s t =
 abbrev pub third : Cell → Cell → ℕ
 third s t = 6 - (s .y + t .y)
 
+-- three rows: five legs where the terminals are further apart in rows than in columns, else a split at s, by row 1 if it is free
 unfoldable pub threeRowsApart : ℕ → Cell → Cell → Plan
 threeRowsApart m s t = cond (steep s t) (ess m s t (third s t)) (split m 3 s t (s .x) (cond (free (s .x) 1 s t) 1 3))
 
+-- three rows: mirrored where the terminals of the critical case stand in one column, joined in row 2 where s is in an even column and t in the next one
 unfoldable pub threeRows : ℕ → Cell → Cell → Plan
 threeRows m s t =
     cond (critical m s t)
@@ -92,6 +97,7 @@ threeRows m s t =
     (threeRowsApart m s t)))
     (threeRowsApart m s t)
 
+-- a wrap, mirrored in y where n is odd and s in the last row but one, or n is even and s in an odd row
 unfoldable pub wrapped : ℕ → ℕ → Cell → Cell → Plan
 wrapped m n s t =
     cond (cond (odd n) (eqb (s .y + 1) n) (odd (s .y)))
@@ -105,9 +111,11 @@ crossing n s t c =
     (cond (differ (black (cell c 1)) (black s)) 1 n)
     (cond (free c 1 s t) 1 n)
 
+-- the column after which an inner split cuts: that of s, or the second where s is in the first
 abbrev pub innerColumn : Cell → ℕ
 innerColumn s = cond (ltb (s .x) 2) 2 (s .x)
 
+-- the split after that column
 unfoldable pub innerSplit : ℕ → ℕ → Cell → Cell → Plan
 innerSplit m n s t = split m n s t (innerColumn s) (crossing n s t (innerColumn s))
 
@@ -115,6 +123,7 @@ innerSplit m n s t = split m n s t (innerColumn s) (crossing n s t (innerColumn 
 unfoldable pub edgeSplit : ℕ → ℕ → Cell → Cell → Plan
 edgeSplit m n s t = movedPlan turnedCell (split n m (turnedCell s) (turnedCell t) (s .y) m)
 
+-- s in column 1, t in column 2: a wrap where they stand in one row, else a split by rows, mirrored in y where t is above s
 unfoldable pub atEdge : ℕ → ℕ → Cell → Cell → Plan
 atEdge m n s t =
     cond (eqb (s .y) (t .y)) (wrapped m n s t)
@@ -153,8 +162,10 @@ wide m n s t =
     (cond (steep s t) (movedPlan turnedCell (orderedFour n m (turnedCell s) (turnedCell t)))
     (fourRows m n s t))))))
 
+-- the terminals named so that s is not right of t
 unfoldable pub orderedWide : ℕ → ℕ → Cell → Cell → Plan
 orderedWide m n s t = cond (ltb (t .x) (s .x)) (reversedPlan (wide m n t s)) (wide m n s t)
 
+-- the panel turned where it is higher than wide
 unfoldable pub planOf : ℕ → ℕ → Cell → Cell → Plan
 planOf m n s t = cond (ltb m n) (movedPlan turnedCell (orderedWide n m (turnedCell s) (turnedCell t))) (orderedWide m n s t)

@@ -12,6 +12,7 @@ use crate::shapes::middle;
 use crate::shapes::split;
 use crate::shapes::wrap;
 use bound::is_black;
+use bound::is_odd;
 use grid::Cell;
 use grid::same_cell;
 ghost use mathlib.Core.Path.{_≡_};
@@ -26,12 +27,6 @@ ghost use Rattle.plan.specs.Plan.{differ, critical, free, steep, corner,
 ghost use Rattle.plan.specs.Motion.{Small};
 
 // ---- the tests
-
-fn is_odd(k: u32) -> bool
-    ensures { λ r. ⌜ r ≡ odd k ⌝ }
-{
-    k % 2 == 1
-}
 
 // Whether two cells differ in colour.
 fn colours_differ(a: Cell, b: Cell) -> bool

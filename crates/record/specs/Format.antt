@@ -11,10 +11,11 @@ use Rattle.grid.specs.Panel.{maxSide}
 use Rattle.record.specs.declared.Moved.{Moved}
 use Rattle.record.specs.declared.Moved.the-variants.{Refused, To}
 
--- the mark, 46 54
+-- the mark, 46 54: its first byte
 abbrev pub markHigh : ℕ
 markHigh = 0x46
 
+-- its second byte
 abbrev pub markLow : ℕ
 markLow = 0x54
 
@@ -22,16 +23,19 @@ markLow = 0x54
 abbrev pub headLength : ℕ
 headLength = 8
 
--- the letters N, E, S and W: up, right, down, left
+-- the letter N, up
 abbrev pub north : ℕ
 north = 0x4E
 
+-- the letter E, right
 abbrev pub east : ℕ
 east = 0x45
 
+-- the letter S, down
 abbrev pub south : ℕ
 south = 0x53
 
+-- the letter W, left
 abbrev pub west : ℕ
 west = 0x57
 

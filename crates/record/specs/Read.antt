@@ -25,13 +25,15 @@ use Rattle.record.specs.Format.{markHigh, markLow, headLength, allKnown,
 unfoldable pub hasMark : List ℕ → Bool
 hasMark f = leb 2 (length f) && (eqb (getD f 0 0) markHigh && eqb (getD f 1 0) markLow)
 
--- the fields of the head: panel, entry, step count
+-- the panel in the head
 abbrev pub panelIn : List ℕ → Panel
 panelIn f = record { width = getD f 2 0; height = getD f 3 0 }
 
+-- the entry in the head
 abbrev pub entryIn : List ℕ → Cell
 entryIn f = record { x = getD f 4 0; y = getD f 5 0 }
 
+-- the step count in the head, high byte first
 abbrev pub stepsIn : List ℕ → ℕ
 stepsIn f = 256 * getD f 6 0 + getD f 7 0
 
@@ -56,10 +58,11 @@ checkHead f =
     (expect (goodSteps (panelIn f) (stepsIn f)) StepCount
     (expect (leb (headLength + stepsIn f) (length f)) CutShort Good))))
 
--- 16, some byte among the letters is unknown; 7, a step leaves the panel
+-- 16, some byte among the letters is unknown
 abbrev pub checkKnown : List ℕ → Check
 checkKnown l = expect (allKnown l) UnknownByte Good
 
+-- 16; 7, a step leaves the panel
 abbrev pub checkLetters : Panel → Cell → List ℕ → Check
 checkLetters p s l = after (checkKnown l) (expect (allOn p (walkFrom s l)) CellOff Good)
 
@@ -90,19 +93,22 @@ abbrev pub readBuffer : List ℕ → List ℕ → List ℕ
 readBuffer f list =
     answer (checkRead f list) (λ r. list) (bytes (cellsRead f) ++ drop (2 * length (cellsRead f)) list)
 
--- what the answer stands for: the refusal's number, 0 if there is none; panel, cell count and record length, all 0 if refused
+-- what the answer stands for: the refusal's number, 0 if there is none
 abbrev pub readNumber : ReadBack → ℕ
 readNumber (ReadBack.Refused r) = number r
 readNumber (ReadBack.Found p n k) = 0
 
+-- the panel, its sides 0 if refused
 abbrev pub panelGiven : ReadBack → Panel
 panelGiven (ReadBack.Refused r) = record { width = 0; height = 0 }
 panelGiven (ReadBack.Found p n k) = p
 
+-- the cell count, 0 if refused
 abbrev pub cellsGiven : ReadBack → ℕ
 cellsGiven (ReadBack.Refused r) = 0
 cellsGiven (ReadBack.Found p n k) = n .0
 
+-- the record length, 0 if refused
 abbrev pub lengthGiven : ReadBack → ℕ
 lengthGiven (ReadBack.Refused r) = 0
 lengthGiven (ReadBack.Found p n k) = k

@@ -50,11 +50,12 @@ abbrev pub writeBuffer : Panel → List ℕ → List ℕ → List ℕ
 writeBuffer p list out =
     answer (checkWrite p list out) (λ r. out) (recordOf p (cellsIn list) ++ drop (recordLength (cellsIn list)) out)
 
--- what the answer stands for: the refusal's number, 0 if there is none, and the number of bytes written, 0 if refused
+-- what the answer stands for: the refusal's number, 0 if there is none
 abbrev pub writeNumber : Written → ℕ
 writeNumber (Refused r) = number r
 writeNumber (Bytes k) = 0
 
+-- the number of bytes written, 0 if refused
 abbrev pub bytesWritten : Written → ℕ
 bytesWritten (Refused r) = 0
 bytesWritten (Bytes k) = k

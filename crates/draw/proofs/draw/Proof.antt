@@ -50,7 +50,7 @@ returns-2 : tie.Need-returns-2
 returns-2 c =
     let found = c .before .before .before in
     let args = found .before .before .before .before .before .args in
-    record { answers = short (args .p) (args .entry) (args .exit) (length (args .buf .now)) (passed (found .before)) (counted found) (c .if1 .taken); leaves = refl }
+    record { answers = short (args .p) (args .entry) (args .exit) (length (args .buf .now)) (passed (found .before)) (counted found) (let h = c .if1 .taken in omega arith); leaves = refl }
 
 draw-longest-requires : tie.Need-draw-longest-requires
 draw-longest-requires c κs =

@@ -1,16 +1,16 @@
 -- `exit::in_panel` meets its contract: no cell of the rows before y fits.
-use Prim.Native.Nat.{ℕ, _+_, _-_, _≤_}
-use mathlib.Core.Path.{_≡_, refl, sym, ap, _∙_}
+use Prim.Native.Nat.{_+_, _-_, _≤_}
+use mathlib.Core.Path.{_≡_, refl}
 use mathlib.Core.Bool.{false}
 use native.Mathlib.Omega.{arith}
 use borrow.Author.Needs.{needs}
-use Rattle.exit.specs.Exit.{any, fits, rowsFrom}
-use Rattle.exit.proofs.Reading.{rows-hit, rows-miss, all-passed, told}
+use Rattle.exit.specs.Exit.{any, fits, run, row}
+use Rattle.exit.proofs.Reading.{hit, miss, all-passed, told}
 use Rattle.exit.proofs.in_panel.Statement.{statement}
 use Rattle.exit.proofs.in_panel.Tie as tie
 
 abbrev Inv-loop : tie.InvT-loop
-Inv-loop p entry wanted height y₀ y = (1 ≤ y) × ((y ≤ height + 1) × (any (fits p entry wanted) (rowsFrom p 1 (y - 1)) ≡ false))
+Inv-loop p entry wanted height y₀ y = (1 ≤ y) × ((y ≤ height + 1) × (any (fits p entry wanted) (run (row p) 1 (y - 1)) ≡ false))
 
 abbrev μ-loop : tie.MeasureT-loop
 μ-loop p entry wanted height y₀ y = height + 1 - y
@@ -28,7 +28,7 @@ returns : tie.Need-returns Inv-loop μ-loop
 returns c =
     let i = c .before .before .before .before .before .loop .inv in
     let f = told _ _ _ _ (c .before .row .given .1) (c .before .before .before .in-row .ensures) in
-    (rows-hit _ _ _ _ (i .0) (c .before .before .before .before .loop-test .taken) (i .1 .1) (f .0), f .1)
+    (hit _ _ _ _ (i .0) (c .before .before .before .before .loop-test .taken) (i .1 .1) (f .0), f .1)
 
 enum-told : tie.Need-enum-told Inv-loop μ-loop
 enum-told c = search needs
@@ -42,12 +42,12 @@ loop-less c = let t = c .before .before .before .loop-test .taken in omega arith
 loop-again : tie.Need-loop-again Inv-loop μ-loop
 loop-again c =
     let i = c .before .before .before .before .loop .inv in
-    (omega arith, (let t = c .before .before .before .loop-test .taken in omega arith, rows-miss _ _ _ (i .0) (i .1 .1) (told _ _ _ _ (c .enum-told .given .1) (c .before .before .in-row .ensures))))
+    (omega arith, (let t = c .before .before .before .loop-test .taken in omega arith, miss _ _ _ (i .0) (i .1 .1) (told _ _ _ _ (c .enum-told .given .1) (c .before .before .in-row .ensures))))
 
 returns-2 : tie.Need-returns-2 Inv-loop μ-loop
 returns-2 c =
     let i = c .before .loop .inv in
-    ap (λ (k : ℕ). any (fits (c .before .before .args .p) (c .before .before .args .entry) (c .before .before .args .wanted)) (rowsFrom (c .before .before .args .p) 1 k)) (sym (all-passed _ _ (i .0) (i .1 .0) (c .loop-test .left))) ∙ i .1 .1
+    all-passed _ _ _ _ (i .0) (i .1 .0) (c .loop-test .left) (i .1 .1)
 
 pub in-panel-spec : {M : Type 1} → statement M
 in-panel-spec =

@@ -1,15 +1,17 @@
 -- `exit::in_row` meets its contract: no cell of the row before x fits.
-use Prim.Native.Nat.{ℕ, _+_, _-_, _≤_}
+use Prim.Native.Nat.{_+_, _-_, _≤_}
 use mathlib.Core.Path.{_≡_, refl, sym, ap, _∙_}
-use mathlib.Core.Bool.{false}
+use mathlib.Core.Bool.{Bool, false, _||_}
+use mathlib.Core.List.{[], _∷_}
 use native.Mathlib.Omega.{arith}
-use Rattle.exit.specs.Exit.{any, fits, rowFrom}
-use Rattle.exit.proofs.Reading.{row-hit, row-miss, all-passed}
+use Rattle.grid.specs.Panel.{cell}
+use Rattle.exit.specs.Exit.{any, fits, run}
+use Rattle.exit.proofs.Reading.{hit, miss, all-passed}
 use Rattle.exit.proofs.in_row.Statement.{statement}
 use Rattle.exit.proofs.in_row.Tie as tie
 
 abbrev Inv-loop : tie.InvT-loop
-Inv-loop p entry wanted y width x₀ x = (1 ≤ x) × ((x ≤ width + 1) × (any (fits p entry wanted) (rowFrom y 1 (x - 1)) ≡ false))
+Inv-loop p entry wanted y width x₀ x = (1 ≤ x) × ((x ≤ width + 1) × (any (fits p entry wanted) (run (λ x. cell x y ∷ []) 1 (x - 1)) ≡ false))
 
 abbrev μ-loop : tie.MeasureT-loop
 μ-loop p entry wanted y width x₀ x = width + 1 - x
@@ -28,7 +30,7 @@ returns c =
     let i = c .before .before .before .loop .inv in
     let t = c .before .before .loop-test .taken in
     let f = sym (c .before .is-fit .ensures) ∙ c .if1 .taken in
-    (row-hit _ _ _ _ (i .0) t (i .1 .1) f, (f, record { left = i .0; right = t; top = a .1 .1 .0; bottom = a .1 .1 .1 }))
+    (hit _ _ _ _ (i .0) t (i .1 .1) (ap (λ (b : Bool). b || false) f), (f, record { left = i .0; right = t; top = a .1 .1 .0; bottom = a .1 .1 .1 }))
 
 add-x : tie.Need-add-x Inv-loop μ-loop
 add-x c = let g = c .before .before .before .before .pre .0 .widest in omega arith
@@ -39,12 +41,12 @@ loop-less c = let t = c .before .before .loop-test .taken in omega arith
 loop-again : tie.Need-loop-again Inv-loop μ-loop
 loop-again c =
     let i = c .before .before .before .loop .inv in
-    (omega arith, (let t = c .before .before .loop-test .taken in omega arith, row-miss _ _ _ (i .0) (i .1 .1) (sym (c .before .is-fit .ensures) ∙ c .if1 .left)))
+    (omega arith, (let t = c .before .before .loop-test .taken in omega arith, miss _ _ _ (i .0) (i .1 .1) (ap (λ (b : Bool). b || false) (sym (c .before .is-fit .ensures) ∙ c .if1 .left))))
 
 returns-2 : tie.Need-returns-2 Inv-loop μ-loop
 returns-2 c =
     let i = c .before .loop .inv in
-    ap (λ (k : ℕ). any (fits (c .before .before .args .p) (c .before .before .args .entry) (c .before .before .args .wanted)) (rowFrom (c .before .before .args .y) 1 k)) (sym (all-passed _ _ (i .0) (i .1 .0) (c .loop-test .left))) ∙ i .1 .1
+    all-passed _ _ _ _ (i .0) (i .1 .0) (c .loop-test .left) (i .1 .1)
 
 pub in-row-spec : {M : Type 1} → statement M
 in-row-spec =

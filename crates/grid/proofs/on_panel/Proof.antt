@@ -1,5 +1,5 @@
 use borrow.Author.Needs.{needs}
-use mathlib.Core.Path.{refl, sym, _∙_}
+use mathlib.Core.Path.{sym, _∙_}
 use Rattle.grid.proofs.Tests.{and-yes, and-no}
 use Rattle.grid.proofs.on_panel.Statement.{statement}
 use Rattle.grid.proofs.on_panel.Tie as tie

@@ -1,6 +1,5 @@
 use borrow.Author.Tests.{eq-eqb, ne-eqb}
-use borrow.Author.Needs.{needs}
-use mathlib.Core.Path.{refl, sym, _∙_}
+use mathlib.Core.Path.{refl}
 use Rattle.grid.proofs.Tests.{and-yes, and-no}
 use Rattle.grid.proofs.same_cell.Statement.{statement}
 use Rattle.grid.proofs.same_cell.Tie as tie

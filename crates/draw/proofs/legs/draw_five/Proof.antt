@@ -1,4 +1,5 @@
 -- Three legs written, then two behind them.
+use native.Mathlib.Omega.{arith}
 use borrow.Author.Needs.{needs}
 use mathlib.Core.List.{[], _∷_}
 use Rattle.draw.proofs.Drawing.{room-first, room-rest, written-rest}
@@ -23,7 +24,7 @@ part-draw-two-end c = search needs
 draw-two-requires : tie.Need-draw-two-requires
 draw-two-requires c κs =
     let args = c .before .before .before .before .before .before .args in
-    room-rest (args .g ∷ args .h ∷ args .i ∷ []) (args .j ∷ args .l ∷ []) (c .before .before .before .before .before .before .pre) (c .before .before .before .draw-three .ensures)
+    room-rest (args .g ∷ args .h ∷ args .i ∷ []) (args .j ∷ args .l ∷ []) (c .before .before .before .before .before .before .pre) (c .before .before .before .draw-three .ensures) (omega arith)
 
 add-result : tie.Need-add-result
 add-result c = search needs

@@ -1,4 +1,5 @@
 -- Two legs written, then one behind them.
+use native.Mathlib.Omega.{arith}
 use borrow.Author.Needs.{needs}
 use mathlib.Core.List.{[], _∷_}
 use Rattle.draw.proofs.Drawing.{room-first, room-rest, written-rest}
@@ -23,7 +24,7 @@ part-draw-leg-end c = search needs
 draw-leg-requires : tie.Need-draw-leg-requires
 draw-leg-requires c κs =
     let args = c .before .before .before .before .before .before .args in
-    room-rest (args .g ∷ args .h ∷ []) (args .i ∷ []) (c .before .before .before .before .before .before .pre) (c .before .before .before .draw-two .ensures)
+    room-rest (args .g ∷ args .h ∷ []) (args .i ∷ []) (c .before .before .before .before .before .before .pre) (c .before .before .before .draw-two .ensures) (omega arith)
 
 add-result : tie.Need-add-result
 add-result c = search needs

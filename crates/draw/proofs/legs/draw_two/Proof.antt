@@ -1,4 +1,5 @@
 -- One leg written, then one behind it.
+use native.Mathlib.Omega.{arith}
 use borrow.Author.Needs.{needs}
 use mathlib.Core.List.{[], _∷_}
 use Rattle.draw.proofs.Drawing.{room-first, room-rest, written-rest}
@@ -23,7 +24,7 @@ part-draw-leg-end c = search needs
 draw-leg-requires-2 : tie.Need-draw-leg-requires-2
 draw-leg-requires-2 c κs =
     let args = c .before .before .before .before .before .before .args in
-    room-rest (args .g ∷ []) (args .h ∷ []) (c .before .before .before .before .before .before .pre) (c .before .before .before .draw-leg .ensures)
+    room-rest (args .g ∷ []) (args .h ∷ []) (c .before .before .before .before .before .before .pre) (c .before .before .before .draw-leg .ensures) (omega arith)
 
 add-result : tie.Need-add-result
 add-result c = search needs

@@ -9,7 +9,7 @@ use Rattle.plan.proofs.choice.wide.Tie as tie
 
 returns : tie.Need-returns
 unfolding wide
-returns c = cond-yes _ _ (eq-eqb _ _ (c .if1 .taken)) refl
+returns c = cond-yes _ _ (eq-eqb _ 1 (c .if1 .taken)) refl
 
 two-rows-requires : tie.Need-two-rows-requires
 two-rows-requires c κs = search needs
