@@ -3,13 +3,14 @@ use Prim.Native.Nat.{ℕ, _+_, _-_, _%_, _≤_, _<_}
 use mathlib.Core.Path.{_≡_, refl, sym, ap, _∙_}
 use mathlib.Core.Bool.{Bool, true, false, cond, not, _&&_, or-true, or-false}
 use native.Mathlib.Omega.{arith}
-use native.Mathlib.Nat.{add-comm, mul-comm}
+use native.Mathlib.Nat.{mul-comm}
 use lib.Dec.{ltb, eqb}
 use borrow.Author.Tests.{eqb-true, eqb-false, ne-eqb}
 use Rattle.grid.specs.declared.Panel.{Panel}
 use Rattle.grid.specs.declared.Cell.{Cell}
 use Rattle.grid.specs.Panel.{OnPanel, black, turned, turnedCell}
 use Rattle.grid.proofs.Tests.{and-no}
+use Rattle.grid.proofs.Moves.{black-turned}
 use Rattle.count.specs.declared.ClassCount.{ClassCount}
 use Rattle.count.specs.Count.{area, odd, f1, f2, f3, c2, c0, found, decided, named, classCount}
 use Rattle.count.proofs.Laws.{area-of-cell}
@@ -98,11 +99,8 @@ pub class-by-colour : (p : Panel) (s t : Cell) → 3 < p .width → 3 < p .heigh
 unfolding classCount c0
 class-by-colour p s t w h =
     both (ltb (p .width) (p .height))
-    (high-named (turned p) (turnedCell s) (turnedCell t) w ∙ (λ i. coloured (same i) (odd (same i)) (colour s i) (colour t i)))
+    (high-named (turned p) (turnedCell s) (turnedCell t) w ∙ (λ i. coloured (same i) (odd (same i)) (black-turned s i) (black-turned t i)))
     (high-named p s t h)
   where
     same : area (turned p) ≡ area p
     same = mul-comm (p .height) (p .width)
-
-    colour : (c : Cell) → black (turnedCell c) ≡ black c
-    colour c = ap (λ (k : ℕ). eqb (k % 2) 1) (add-comm (c .y) (c .x))

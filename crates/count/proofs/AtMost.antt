@@ -13,16 +13,16 @@ use borrow.Author.Tests.{eqb-true, eqb-false, leb-true, ltb-true, ltb-false, not
 use Rattle.grid.specs.declared.Panel.{Panel}
 use Rattle.grid.specs.declared.Cell.{Cell}
 use Rattle.grid.specs.Panel.{OnPanel, black, turned, turnedCell}
-use Rattle.grid.specs.Track.{Walk, All, Track}
-use Rattle.grid.proofs.Facts.{and-left, and-right, cell-eq}
+use Rattle.grid.specs.Track.{All, Track}
+use Rattle.grid.proofs.Facts.{and-left, cell-eq, and-parts}
 use Rattle.grid.proofs.Track.{all-map, backwards}
 use Rattle.grid.proofs.Moves.{turning, moved}
 use Rattle.count.specs.declared.ClassCount.{ClassCount}
 use Rattle.count.specs.Count.{area, odd, f1, f2, f3, c2, c0, decided, named, classCount, count}
 use Rattle.count.specs.Longest.{NoLonger, ifBlack, weight}
-use Rattle.count.proofs.Ends.{first-in, last-in}
+use Rattle.grid.proofs.Track.{first-in, last-in, some-cell}
 use Rattle.count.proofs.Pigeon.{InColumns, at-most-area}
-use Rattle.count.proofs.Colour.{bit, row-two, odd-bit, black-bit, walk-black, at-most-black}
+use Rattle.count.proofs.Colour.{bit, row-two, mod-bit, black-bit, walk-black, at-most-black}
 use Rattle.count.proofs.Strip.{strip}
 use Rattle.count.proofs.Rows.{one-row, two-rows}
 
@@ -32,10 +32,7 @@ by-cond : (P : ClassCount → Type 0) (b : Bool) {x y : ClassCount} → (b ≡ t
 by-cond P true f g = f refl
 by-cond P false f g = g refl
 
--- the two parts of "and", the two cases of "or"
-both : (a b : Bool) → (a && b) ≡ true → (a ≡ true) × (b ≡ true)
-both a b e = (and-left a b e, and-right a b e)
-
+-- the two cases of "or"
 either {ℓ} : {A : Type ℓ} (a b : Bool) → (a || b) ≡ true → (a ≡ true → A) → (b ≡ true → A) → A
 either true b e f g = f refl
 either false b e f g = g e
@@ -102,10 +99,10 @@ module _ (p : Panel) (s t : Cell) (ne : s ≢ t) {l : List Cell} (r : Track p s 
   f2-bound : f2 p s t ≡ true → Fits l (max (s .x + t .x) (2 * p .width - (s .x + t .x) + 2))
   unfolding f2
   f2-bound e =
-      let (n, c) = both _ _ e in
+      let (n, c) = and-parts _ _ e in
       either _ _ c
       (λ x. let q : s .x ≡ t .x = eqb-true _ _ x in bound (eqb-true _ _ n) (λ y. ne (cell-eq q y)) (omega arith) (omega arith))
-      (λ x. let (y, d) = both _ _ x in let q : s .x + 1 ≡ t .x = eqb-true _ _ y in bound (eqb-true _ _ n) (eqb-false _ _ (not-true _ d)) (omega arith) (omega arith))
+      (λ x. let (y, d) = and-parts _ _ x in let q : s .x + 1 ≡ t .x = eqb-true _ _ y in bound (eqb-true _ _ n) (eqb-false _ _ (not-true _ d)) (omega arith) (omega arith))
     where
       parity : (a m k w d e : ℕ) → (d + e + a) % 2 ≡ 1 → a ≤ 2 * m → 2 * w + 1 ≡ k + d + e → (k + max a (2 * m - a + 2)) % 2 ≡ 0
       parity a m k w d e p q h = omega arith
@@ -119,15 +116,15 @@ module _ (p : Panel) (s t : Cell) (ne : s ≢ t) {l : List Cell} (r : Track p s 
   f3-bound : f3 p s t ≡ true → Fits l (area p - 2)
   unfolding f3
   f3-bound e =
-      let (n, e1) = both (eqb (p .height) 3) _ e in
-      let (even, e2) = both (not (odd (p .width))) _ e1 in
-      let (bs, e3) = both (black s) _ e2 in
-      let (wt, x) = both (not (black t)) _ e3 in
+      let (n, e1) = and-parts (eqb (p .height) 3) _ e in
+      let (even, e2) = and-parts (not (odd (p .width))) _ e1 in
+      let (bs, e3) = and-parts (black s) _ e2 in
+      let (wt, x) = and-parts (not (black t)) _ e3 in
       let h : p .height ≡ 3 = eqb-true _ _ n in
       let o : p .width % 2 ≢ 1 = eqb-false _ _ (not-true _ even) in
       let d : ifBlack s ≡ 1 = black-bit s ∙ ap bit bs in
       let g : ifBlack t ≡ 0 = black-bit t ∙ ap bit (not-true (black t) wt) in
-      let column : s .x + (s .x + 1) % 2 < t .x = either _ _ x (λ y. far (leb-true _ _ y)) (λ y. let (q, z) = both _ _ y in near d (eqb-true _ _ q) (eqb-true _ _ (both _ _ z .0))) in
+      let column : s .x + (s .x + 1) % 2 < t .x = either _ _ x (λ y. far (leb-true _ _ y)) (λ y. let (q, z) = and-parts _ _ y in near d (eqb-true _ _ q) (eqb-true _ _ (and-parts _ _ z .0))) in
       let a : area p ≡ p .width * 3 = ap (λ (k : ℕ). p .width * k) h in
       let k = strip (s .x + (s .x + 1) % 2) (p .width) (omega arith) (omega arith) (omega arith) column d g (r .walk) (r .once) (rows 3 h) in
       two-less (p .width / 2) (area p) (length l) (weight ifBlack l) (omega arith) (omega arith) (omega (arith, ends))
@@ -144,8 +141,8 @@ module _ (p : Panel) (s t : Cell) (ne : s ≢ t) {l : List Cell} (r : Track p s 
 
   odd-bound : (odd (area p) && (black s && black t)) ≡ true → Fits l (area p - 2)
   odd-bound e =
-      let (o, c) = both (odd (area p)) _ e in
-      let (bs, bt) = both (black s) (black t) c in
+      let (o, c) = and-parts (odd (area p)) _ e in
+      let (bs, bt) = and-parts (black s) (black t) c in
       two-less (area p) (length l) (weight ifBlack l) _ _ (eqb-true _ _ o) (black-bit s ∙ ap bit bs) (black-bit t ∙ ap bit bt) ends (at-most-black p (r .once) (r .within))
     where
       two-less : (a k w d e : ℕ) → a % 2 ≡ 1 → d ≡ 1 → e ≡ 1 → 2 * w + 1 ≡ k + d + e → w ≤ a / 2 → (k ≤ a - 2) × ((k + (a - 2)) % 2 ≡ 0)
@@ -158,7 +155,7 @@ module _ (p : Panel) (s t : Cell) (ne : s ≢ t) {l : List Cell} (r : Track p s 
   -- the other classes: C0 decides the parity of the length
   rest-parity : c2 p s t ≡ false → (area p % 2 + (ifBlack s + ifBlack t)) % 2 ≡ bit (c0 p s t)
   unfolding c2 c0
-  rest-parity e = (λ i. (odd-bit (area p) i + (black-bit s i + black-bit t i)) % 2) ∙ (c0-parity (odd (area p)) (black s) (black t) (or-false _ _ e))
+  rest-parity e = (λ i. (mod-bit (area p) i + (black-bit s i + black-bit t i)) % 2) ∙ (c0-parity (odd (area p)) (black s) (black t) (or-false _ _ e))
 
   c0-bound : c2 p s t ≡ false → c0 p s t ≡ true → Fits l (area p)
   c0-bound e f = (at-most-area p (r .once) (r .within), parity (area p) (length l) _ _ _ (rest-parity e ∙ ap bit f) ends)
@@ -169,10 +166,6 @@ module _ (p : Panel) (s t : Cell) (ne : s ≢ t) {l : List Cell} (r : Track p s 
   c1-bound : c2 p s t ≡ false → c0 p s t ≡ false → Fits l (area p - 1)
   c1-bound e f = one-less (area p) (length l) _ _ _ (rest-parity e ∙ ap bit f) ends (at-most-area p (r .once) (r .within)) (some-cell (r .walk))
     where
-      some-cell : {s t : Cell} {l : List Cell} → Walk s t l → 1 ≤ length l
-      some-cell Walk.end = omega arith
-      some-cell (Walk.step n w) = omega arith
-
       one-less : (a k w d e : ℕ) → (a % 2 + (d + e)) % 2 ≡ 0 → 2 * w + 1 ≡ k + d + e → k ≤ a → 1 ≤ k → (k ≤ a - 1) × ((k + (a - 1)) % 2 ≡ 0)
       one-less a k w d e h i j g = omega arith
 

@@ -26,8 +26,8 @@ abbrev pub bit : Bool → ℕ
 bit true = 1
 bit false = 0
 
-pub odd-bit : (k : ℕ) → k % 2 ≡ bit (odd k)
-odd-bit k = go (odd k) refl
+pub mod-bit : (k : ℕ) → k % 2 ≡ bit (odd k)
+mod-bit k = go (odd k) refl
   where
     go : (b : Bool) → odd k ≡ b → k % 2 ≡ bit b
     go true e = eqb-true _ _ e
@@ -35,7 +35,7 @@ odd-bit k = go (odd k) refl
 
 pub black-bit : (c : Cell) → ifBlack c ≡ bit (black c)
 unfolding ifBlack
-black-bit c = odd-bit (c .x + c .y)
+black-bit c = mod-bit (c .x + c .y)
 
 pub black-white : (c : Cell) → ifBlack c + ifWhite c ≡ 1
 unfolding ifBlack ifWhite

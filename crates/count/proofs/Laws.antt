@@ -5,7 +5,7 @@ use mathlib.Core.Path.{_≡_, refl, sym, ap, _∙_, subst, subst₂}
 use mathlib.Core.Logic.{_≢_, _⊎_, inl, inr, ⊎-elim}
 use mathlib.Core.Bool.{Bool, true, false, cond, not, _&&_, _||_, and-true, and-false, true≢false}
 use native.Mathlib.Omega.{arith}
-use native.Mathlib.Nat.{add-comm, suc-mul, mul-one, mul-comm, mul-le-mul, mul-le-mul-left}
+use native.Mathlib.Nat.{suc-mul, mul-one, mul-comm, mul-le-mul, mul-le-mul-left}
 use lib.Dec.{leb, ltb, eqb}
 use borrow.Author.Tests.{ltb-true, ltb-false, lt-ltb, le-ltb, lt-leb, leb-true, leb-false, eqb-true, eqb-false, eq-eqb, ne-eqb, not-true, not-false}
 use Rattle.grid.specs.declared.Panel.{Panel}
@@ -14,6 +14,7 @@ use Rattle.grid.specs.Panel.{OnPanel, black, turned, turnedCell}
 use Rattle.grid.proofs.Facts.{and-left, and-right, cell-eq}
 use Rattle.grid.proofs.Moves.{turn-on}
 use Rattle.grid.proofs.Tests.{and-no, cond-yes, cond-no}
+use Rattle.grid.proofs.Moves.{black-turned}
 use Rattle.count.specs.declared.ClassCount.{ClassCount}
 use Rattle.count.specs.Count.{area, odd, endCell, f1, f2, f3, c2, c0, found, decided, named, classCount, count}
 
@@ -298,14 +299,11 @@ square-count p s t e a b n =
 pub turned-count : (p : Panel) (s t : Cell) → OnPanel p s → OnPanel p t → s ≢ t → count (turned p) (turnedCell s) (turnedCell t) ≡ count p s t
 turned-count p s t a b n = go (eqb (p .width) (p .height)) refl
   where
-    colour : (c : Cell) → black (turnedCell c) ≡ black c
-    colour c = ap (λ (k : ℕ). eqb (k % 2) 1) (add-comm (c .y) (c .x))
-
     go : (r : Bool) → eqb (p .width) (p .height) ≡ r → count (turned p) (turnedCell s) (turnedCell t) ≡ count p s t
     go true e =
         let q = eqb-true (p .width) (p .height) e in
         square-count (turned p) (turnedCell s) (turnedCell t) (sym q) (turn-on a) (turn-on b) (λ r. n (ap turnedCell r))
-        ∙ (λ i. plain (mul-comm (p .height) (p .width) i) (colour s i) (colour t i))
+        ∙ (λ i. plain (mul-comm (p .height) (p .width) i) (black-turned s i) (black-turned t i))
         ∙ sym (square-count p s t q a b n)
     go false e = ap (λ (r : ClassCount). r .count .0) (turned-class p s t (eqb-false _ _ e))
 

@@ -1,7 +1,6 @@
 pub mod Laws
 pub mod Table
 pub mod Pigeon
-pub mod Ends
 pub mod Colour
 pub mod Strip
 pub mod Rows

@@ -13,7 +13,7 @@ use Rattle.grid.specs.Panel.{Neighbours, dist}
 use Rattle.grid.specs.Track.{Walk, All, Once}
 use Rattle.grid.proofs.Facts.{beside-is, cell-eq}
 use Rattle.grid.proofs.Track.{all-map, all-both}
-use Rattle.count.proofs.Ends.{first-in, last-in}
+use Rattle.grid.proofs.Track.{first-in, last-in}
 use Rattle.count.proofs.Pigeon.{InColumns, at-most-columns}
 
 -- a step that neither leaves s, nor comes to s, nor leaves t keeps the property P

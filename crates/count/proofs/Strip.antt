@@ -16,7 +16,7 @@ use Rattle.grid.specs.Panel.{Neighbours, cell}
 use Rattle.grid.specs.Track.{Walk, All, Once}
 use Rattle.grid.proofs.Facts.{beside-is, cell-eq, ne-x, beside-sym}
 use Rattle.count.specs.Longest.{weight, partialSum, columnsWeight, ifBlack}
-use Rattle.count.proofs.Ends.{first-in, last-in}
+use Rattle.grid.proofs.Track.{first-in, last-in}
 use Rattle.count.proofs.Pigeon.{InColumns, sum-linear, sum-const, sum-split, put, put-here, put-there, put-bound, put-weight, pigeon}
 use Rattle.count.proofs.Colour.{row-two, alternate, even-length, columns-black}
 

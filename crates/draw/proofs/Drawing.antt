@@ -24,7 +24,7 @@ use Rattle.plan.specs.Leg.{legs, total}
 use Rattle.count.specs.Count.{count}
 use Rattle.plan.specs.Plan.{planOf}
 use Rattle.plan.specs.Drawing.{Each, Drawn, Drawable, Room, Written}
-use Rattle.plan.proofs.Chain.{LegFrom, Chain, Plans, chain-track}
+use Rattle.plan.proofs.Chain.{LegFrom, Chain, Plans, chain-track, total-append}
 use Rattle.plan.proofs.Wide.{plan-good}
 
 -- ---- one leg
@@ -60,10 +60,6 @@ each-first (g ∷ l) k (Each.more p e) = Each.more p (each-first l k e)
 each-rest : {P : Leg → Type 0} (l k : List Leg) → Each P (l ++ k) → Each P k
 each-rest [] k e = e
 each-rest (g ∷ l) k (Each.more p e) = each-rest l k e
-
-total-append : (l k : List Leg) → total (l ++ k) ≡ total l + total k
-total-append [] k = omega arith
-total-append (g ∷ l) k = let h = total-append l k in omega arith
 
 drawn-append : {l k : List Leg} {c d : List Cell} → Drawn l c → Drawn k d → Drawn (l ++ k) (c ++ d)
 drawn-append Drawn.none e = e

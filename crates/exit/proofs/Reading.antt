@@ -1,7 +1,7 @@
 -- A test over the cells in reading order. A row goes by its cells and the panel by its rows: one law serves both.
 use Prim.Native.Nat.{ℕ, zero, suc, _+_, _-_, _≤_, _<_}
 use mathlib.Core.Path.{_≡_, refl, sym, ap, _∙_, subst}
-use mathlib.Core.Bool.{Bool, true, false, _||_, or-assoc}
+use mathlib.Core.Bool.{Bool, true, false, _||_, or-assoc, true≢false}
 use mathlib.Core.List.{List, [], _∷_, _++_, append-assoc}
 use native.Mathlib.Omega.{arith}
 use native.Mathlib.Nat.{add-suc, suc-add, add-zero, zero-add}
@@ -14,10 +14,7 @@ use Rattle.exit.specs.Exit.{run, row, reading, any, SearchIn}
 
 -- nothing of two: nothing of each
 or-none : (a b : Bool) → (a || b) ≡ false → (a ≡ false) × (b ≡ false)
-or-none true b e = (e, absurd (clash e))
-  where
-    clash : _≡_ {A = Bool} true false → ⊥
-    clash z = let y : _≡_ {A = ℕ} 0 1 = cc in omega arith
+or-none true b e = (e, absurd (true≢false e))
 or-none false b e = (refl, e)
 
 module _ (f : Cell → Bool) where

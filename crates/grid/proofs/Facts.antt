@@ -2,7 +2,7 @@
 use Prim.Native.Nat.{ℕ, _+_, _-_, _≤_}
 use mathlib.Core.Path.{_≡_, refl, sym, ap, _∙_}
 use mathlib.Core.Logic.{_≢_, _⊎_, inl, inr}
-use mathlib.Core.Bool.{Bool, true, false, _&&_}
+use mathlib.Core.Bool.{Bool, true, false, _&&_, true≢false}
 use native.Mathlib.Nat.{mul-le-mul}
 use native.Mathlib.Omega.{arith}
 use lib.Dec.{leb, eqb}
@@ -21,6 +21,9 @@ pub and-right : (a b : Bool) → (a && b) ≡ true → b ≡ true
 and-right true b e = e
 and-right false true e = refl
 and-right false false e = e
+
+pub and-parts : (a b : Bool) → (a && b) ≡ true → (a ≡ true) × (b ≡ true)
+and-parts a b e = (and-left a b e, and-right a b e)
 
 pub and-both : {a b : Bool} → a ≡ true → b ≡ true → (a && b) ≡ true
 and-both p q = λ i. p i && q i
@@ -71,10 +74,7 @@ pub eq-same : {a b : Cell} → a ≡ b → sameCell a b ≡ true
 eq-same {a} {b} e = and-both (eq-eqb (a .x) (b .x) (ap (λ (c : Cell). c .x) e)) (eq-eqb (a .y) (b .y) (ap (λ (c : Cell). c .y) e))
 
 pub same-ne : (a b : Cell) → sameCell a b ≡ false → a ≢ b
-same-ne a b e q = let z : _≡_ {A = Bool} true false = sym (eq-same q) ∙ e in elim-z z
-  where
-    elim-z : _≡_ {A = Bool} true false → ⊥
-    elim-z z = let y : _≡_ {A = ℕ} 0 1 = cc in omega arith
+same-ne a b e q = true≢false (sym (eq-same q) ∙ e)
 
 pub ne-same : (a b : Cell) → a ≢ b → sameCell a b ≡ false
 ne-same a b n = go (sameCell a b) refl

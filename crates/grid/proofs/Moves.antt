@@ -1,11 +1,13 @@
 -- A track moved by a map of cells that keeps neighbours and can be undone is a track: turning, mirroring in x and in y are such maps.
+use Prim.Native.Nat.{ℕ, _%_}
 use mathlib.Core.Path.{_≡_, refl, sym, ap, _∙_}
 use mathlib.Core.Logic.{_≢_}
 use mathlib.Core.List.{List, map}
 use native.Mathlib.Nat.{add-comm}
+use lib.Dec.{eqb}
 use Rattle.grid.specs.declared.Panel.{Panel}
 use Rattle.grid.specs.declared.Cell.{Cell}
-use Rattle.grid.specs.Panel.{OnPanel, Neighbours, apart, dist, turned, turnedCell}
+use Rattle.grid.specs.Panel.{OnPanel, Neighbours, apart, dist, black, turned, turnedCell}
 use Rattle.grid.specs.Track.{Walk, All, Once, TrackIn}
 
 -- f takes the cells of A to cells of B, keeps neighbours there, and g undoes it
@@ -50,3 +52,7 @@ turn-on o = record { left = o .top; right = o .bottom; top = o .left; bottom = o
 
 pub turning : (p : Panel) → Move (OnPanel p) (OnPanel (turned p)) turnedCell
 turning p = record { into = λ c o. turn-on o; keeps = λ a b p q h. turn-beside a b h; back = turnedCell; undo = λ c o. refl }
+
+-- a cell keeps its colour
+pub black-turned : (c : Cell) → black (turnedCell c) ≡ black c
+black-turned c = ap (λ (k : ℕ). eqb (k % 2) 1) (add-comm (c .y) (c .x))

@@ -1,7 +1,10 @@
 -- Walks, lists without repeats and tracks: what holds of a part and of a whole, of two lists joined, of a list reversed.
+use Prim.Native.Nat.{_≤_}
 use mathlib.Core.Path.{sym, subst}
 use mathlib.Core.Logic.{_≢_}
 use mathlib.Core.List.{List, [], _∷_, _++_, reverse, reverse-cons}
+use native.Mathlib.Omega.{arith}
+use lib.ListN.{length}
 use Rattle.grid.specs.declared.Cell.{Cell}
 use Rattle.grid.specs.Panel.{Neighbours}
 use Rattle.grid.specs.Track.{Walk, All, Once, TrackIn}
@@ -64,6 +67,21 @@ join f g dis a n b = record {
 -- one cell
 pub single : {R : Cell → Type 0} {c : Cell} → R c → TrackIn R c c (c ∷ [])
 single r = record { walk = Walk.end; once = Once.more All.none Once.none; within = All.more r All.none }
+
+-- ---- the ends of a walk
+
+-- what holds of every cell holds of the first and of the last
+pub first-in : {R : Cell → Type 0} {s t : Cell} {l : List Cell} → Walk s t l → All R l → R s
+first-in Walk.end (All.more r a) = r
+first-in (Walk.step n w) (All.more r a) = r
+
+pub last-in : {R : Cell → Type 0} {s t : Cell} {l : List Cell} → Walk s t l → All R l → R t
+last-in Walk.end (All.more r a) = r
+last-in (Walk.step n w) (All.more r a) = last-in w a
+
+pub some-cell : {s t : Cell} {l : List Cell} → Walk s t l → 1 ≤ length l
+some-cell Walk.end = omega arith
+some-cell (Walk.step n w) = omega arith
 
 -- ---- reversal
 

@@ -14,7 +14,7 @@ use Rattle.grid.specs.declared.Cells.{Cells}
 use Rattle.grid.specs.declared.Check.{Check}
 use Rattle.grid.specs.declared.Check.the-variants as check
 use Rattle.grid.specs.Panel.{goodPanel, area}
-use Rattle.grid.specs.Track.{Walk, All, Track}
+use Rattle.grid.specs.Track.{Track}
 use Rattle.grid.specs.Bytes.{cellsIn, front}
 use Rattle.grid.specs.Check.{answer}
 use Rattle.grid.proofs.Tests.{after-good, answer-good}
@@ -23,6 +23,7 @@ use Rattle.judge.specs.declared.Judged.the-variants.{Refused, Accepted}
 use Rattle.judge.specs.Judge.{sizesCheck, cellsCheck, judgeCheck, judgeOf, judgedCount}
 use Rattle.grid.proofs.Facts.{good, is-good}
 use Rattle.grid.proofs.Passed.{after-passed, after-rest}
+use Rattle.grid.proofs.Track.{first-in, last-in, some-cell}
 use Rattle.judge.proofs.Checks.{Sized, sized, is-sized, Passed, passed, is-passed}
 use Rattle.list.proofs.Cells.{length-cells}
 use Rattle.list.proofs.Whole.{whole, is-whole}
@@ -45,19 +46,6 @@ accepts-of (Accepted k) = Unit {0}
 accepted-good : (c : Check) (n k : Cells) → answer c Refused (Accepted n) ≡ Accepted k → c ≡ check.Good
 accepted-good check.Good n k e = refl
 accepted-good (check.Refused r) n k e = absurd (subst accepts-of (sym e) tt)
-
--- the ends of a walk are among its cells
-walk-entry : {P : Cell → Type 0} {s t : Cell} {l : List Cell} → Walk s t l → All P l → P s
-walk-entry Walk.end (All.more o r) = o
-walk-entry (Walk.step n w) (All.more o r) = o
-
-walk-exit : {P : Cell → Type 0} {s t : Cell} {l : List Cell} → Walk s t l → All P l → P t
-walk-exit Walk.end (All.more o r) = o
-walk-exit (Walk.step n w) (All.more o r) = walk-exit w r
-
-walk-some : {s t : Cell} {l : List Cell} → Walk s t l → 1 ≤ length l
-walk-some Walk.end = omega arith
-walk-some (Walk.step n w) = omega arith
 
 module _ (p : Panel) (s t : Cell) (list : List ℕ) (room : ℕ) where
   -- what Judge accepts is a track
@@ -85,9 +73,9 @@ module _ (p : Panel) (s t : Cell) (list : List ℕ) (room : ℕ) where
       let w = b .track .walk in
       let a = b .track .within in
       let o = is-once (b .track .once) in
-      let some : 1 ≤ length list = omega (arith, walk-some w, length-cells list) in
+      let some : 1 ≤ length list = omega (arith, some-cell w, length-cells list) in
       let z : Sized p s t (length list) room = record {
-        ordered = record { panel = good p (b .sides); entry = walk-entry w a; exit = walk-exit w a; differ = b .different };
+        ordered = record { panel = good p (b .sides); entry = first-in w a; exit = last-in w a; differ = b .different };
         whole = is-whole (length list) some (b .even);
         enough = h;
       } in

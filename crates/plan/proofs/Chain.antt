@@ -2,7 +2,7 @@
 -- the other, are a track from its start to its end, and their cells add up. So a plan that is good shows that a track of its size exists.
 use Prim.Native.Nat.{ℕ, _+_, _≤_, _<_, min, max}
 use mathlib.Core.Path.{_≡_, refl, sym, ap, _∙_, subst}
-use mathlib.Core.Bool.{Bool, true, false}
+use mathlib.Core.Bool.{Bool, true, false, cond, not}
 use mathlib.Core.List.{List, [], _∷_, _++_, append-nil}
 use native.Mathlib.Omega.{arith}
 use native.Mathlib.Nat.{add-assoc}
@@ -121,19 +121,15 @@ chain-end : {p : Panel} {s u v t : Cell} {g : Leg} {l : List Leg} → Chain p s 
 chain-end (Chain.one f) n (Each.more s Each.none) h = Chain.more f n (Each.more s Each.none) (Chain.one h)
 chain-end (Chain.more f m e r) n (Each.more s a) h = Chain.more f m (each-append e (Each.more s Each.none)) (chain-end r n a h)
 
+the-other : (b : Bool) (c d : Cell) → cond (not b) c d ≡ cond b d c
+the-other true c d = refl
+the-other false c d = refl
+
 rev-start : (g : Leg) → start (reversedLeg g) ≡ stop g
-rev-start g = go (g .back)
-  where
-    go : (b : Bool) → start (reversedLeg (record { a = g .a; b = g .b; t = g .t; back = b })) ≡ stop (record { a = g .a; b = g .b; t = g .t; back = b })
-    go true = refl
-    go false = refl
+rev-start g = the-other (g .back) (g .t) (g .a)
 
 rev-stop : (g : Leg) → stop (reversedLeg g) ≡ start g
-rev-stop g = go (g .back)
-  where
-    go : (b : Bool) → stop (reversedLeg (record { a = g .a; b = g .b; t = g .t; back = b })) ≡ start (record { a = g .a; b = g .b; t = g .t; back = b })
-    go true = refl
-    go false = refl
+rev-stop g = the-other (g .back) (g .a) (g .t)
 
 leg-back : {p : Panel} {g : Leg} {s t : Cell} → LegFrom p g s t → LegFrom p (reversedLeg g) t s
 leg-back {g = g} f = record { corner = f .corner; opposite = f .opposite; target = f .target; from = rev-start g ∙ f .to; to = rev-stop g ∙ f .from }
@@ -161,7 +157,7 @@ rev-plan (Plan.Two g h) = refl
 rev-plan (Plan.Three g h i) = refl
 rev-plan (Plan.Five g h i j k) = refl
 
-total-append : (l k : List Leg) → total (l ++ k) ≡ total l + total k
+pub total-append : (l k : List Leg) → total (l ++ k) ≡ total l + total k
 total-append [] k = let z : total k ≡ 0 + total k = omega arith in z
 total-append (g ∷ l) k = ap (λ (n : ℕ). legCount g + n) (total-append l k) ∙ sym (add-assoc (legCount g) (total l) (total k))
 

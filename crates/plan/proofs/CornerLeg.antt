@@ -3,7 +3,7 @@
 use Prim.Native.Nat.{ℕ, _+_, _-_, _%_, _≤_, _<_, min, max}
 use mathlib.Core.Path.{_≡_, refl, sym, ap, _∙_}
 use mathlib.Core.Logic.{_⊎_, inl, inr, ⊎-elim}
-use mathlib.Core.Bool.{Bool, true, false, not, _&&_, _||_}
+use mathlib.Core.Bool.{Bool, true, false, not, _&&_, _||_, true≢false}
 use native.Mathlib.Omega.{arith}
 use lib.Dec.{eqb, leb}
 use borrow.Author.Tests.{eq-eqb, eqb-true, eqb-false, leb-true, not-true}
@@ -48,9 +48,6 @@ is-corner p c e = record {
   level = either (c .y) 1 (p .height) (and-right (eqb (c .x) 1 || eqb (c .x) (p .width)) (eqb (c .y) 1 || eqb (c .y) (p .height)) e);
 }
 
-true-false : _≡_ {A = Bool} true false → ⊥
-true-false z = let y : _≡_ {A = ℕ} 0 1 = cc in omega arith
-
 pub no-corner : (p : Panel) (c : Cell) → corner (p .width) (p .height) c ≡ false → NotCorner p c
 no-corner p c e = record {
   upper-left = λ a b. clash (or-left _ (eq-eqb (c .x) 1 a)) (or-left _ (eq-eqb (c .y) 1 b));
@@ -60,7 +57,7 @@ no-corner p c e = record {
 }
   where
     clash : (eqb (c .x) 1 || eqb (c .x) (p .width)) ≡ true → (eqb (c .y) 1 || eqb (c .y) (p .height)) ≡ true → ⊥
-    clash q r = true-false ((λ i. sym q i && sym r i) ∙ e)
+    clash q r = true≢false ((λ i. sym q i && sym r i) ∙ e)
 
 -- ---- F3 says where the terminals are
 
@@ -71,7 +68,7 @@ pub record ThreeApart (p : Panel) (s t : Cell) : Type 0 where
   pub light : (t .x + t .y) % 2 ≡ 0
   pub apart : s .x < t .x
 
-not-odd : (k : ℕ) → not (odd k) ≡ true → k % 2 ≡ 0
+pub not-odd : (k : ℕ) → not (odd k) ≡ true → k % 2 ≡ 0
 not-odd k e = let h : k % 2 ≡ 1 → ⊥ = eqb-false (k % 2) 1 (not-true (odd k) e) in omega arith
 
 pub f3-facts : (p : Panel) (s t : Cell) → f3 p s t ≡ true → ThreeApart p s t

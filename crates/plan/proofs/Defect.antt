@@ -5,12 +5,13 @@ use mathlib.Core.Path.{_≡_, refl, sym, ap, _∙_}
 use mathlib.Core.Logic.{⊎-elim}
 use mathlib.Core.Bool.{Bool, true, false, cond, not, _&&_, Bool·beq}
 use native.Mathlib.Omega.{arith}
-use native.Mathlib.Nat.{add-comm, mul-comm, mul-le-mul}
+use native.Mathlib.Nat.{mul-comm, mul-le-mul}
 use lib.Dec.{eqb}
 use borrow.Author.Tests.{eqb-true}
 use Rattle.grid.specs.declared.Panel.{Panel}
 use Rattle.grid.specs.declared.Cell.{Cell}
 use Rattle.grid.specs.Panel.{black, dist, turnedCell}
+pub use Rattle.grid.proofs.Moves.{black-turned}
 use Rattle.corner.specs.Corner.{cornerCount, trackCount}
 use Rattle.count.specs.Count.{odd, area, f1, f2, f3, decided}
 use Rattle.plan.specs.Leg.{mirrorX, mirrorY}
@@ -67,9 +68,6 @@ pub fits-exchanged : {m n : ℕ} {s t : Cell} {k : ℕ} → Fits m n s t k → F
 fits-exchanged {m} {n} {s} {t} {k} h = record {
   fits = ap (λ (z : ℕ). k + z) (eqb-true _ _ (four (λ m n s t. eqb (defect m n t s) (defect m n s t)) refl (odd m) (odd n) (black s) (black t))) ∙ h .fits;
 }
-
-pub black-turned : (c : Cell) → black (turnedCell c) ≡ black c
-black-turned c = ap odd (add-comm (c .y) (c .x))
 
 pub fits-turned : {m n : ℕ} {s t : Cell} {k : ℕ} → Fits m n s t k → Fits n m (turnedCell s) (turnedCell t) k
 fits-turned {m} {n} {s} {t} {k} h = record {

@@ -28,19 +28,15 @@ pub record LegMove (p q : Panel) (f : Cell → Cell) : Type 0 where
 -- ---- a chain is carried along
 
 module _ {p q : Panel} {f : Cell → Cell} (m : LegMove p q f) where
+  either-moved : (b : Bool) (c d : Cell) → cond b (f c) (f d) ≡ f (cond b c d)
+  either-moved true c d = refl
+  either-moved false c d = refl
+
   start-moved : (g : Leg) → start (movedLeg f g) ≡ f (start g)
-  start-moved g = go (g .back)
-    where
-      go : (b : Bool) → cond b (f (g .t)) (f (g .a)) ≡ f (cond b (g .t) (g .a))
-      go true = refl
-      go false = refl
+  start-moved g = either-moved (g .back) (g .t) (g .a)
 
   stop-moved : (g : Leg) → stop (movedLeg f g) ≡ f (stop g)
-  stop-moved g = go (g .back)
-    where
-      go : (b : Bool) → cond b (f (g .a)) (f (g .t)) ≡ f (cond b (g .a) (g .t))
-      go true = refl
-      go false = refl
+  stop-moved g = either-moved (g .back) (g .a) (g .t)
 
   leg-moved : {g : Leg} {s t : Cell} → LegFrom p g s t → LegFrom q (movedLeg f g) (f s) (f t)
   leg-moved {g} l = record {

@@ -5,11 +5,12 @@ use mathlib.Core.Path.{_≡_, refl, sym, ap, _∙_}
 use mathlib.Core.Bool.{Bool, true, false, cond, _&&_, Bool·beq}
 use native.Mathlib.Omega.{arith}
 use lib.Dec.{eqb}
-use borrow.Author.Tests.{eqb-true, eqb-false, eq-eqb, ne-eqb}
+use borrow.Author.Tests.{eq-eqb, ne-eqb}
 use Rattle.grid.specs.declared.Cell.{Cell}
 use Rattle.grid.specs.Panel.{black, dist}
 use Rattle.grid.proofs.Facts.{and-left, and-right}
 use Rattle.count.specs.Count.{odd}
+pub use Rattle.count.proofs.Colour.{bit, mod-bit}
 use Rattle.plan.specs.Plan.{differ}
 
 -- ---- a test over all values
@@ -47,17 +48,6 @@ pub apply : {a b : Bool} → implies a b ≡ true → a ≡ true → b ≡ true
 apply {a} {b} h e = sym (ap (λ (z : Bool). cond z b true) e) ∙ h
 
 -- ---- odd numbers
-
-abbrev pub bit : Bool → ℕ
-bit true = 1
-bit false = 0
-
-pub mod-bit : (k : ℕ) → k % 2 ≡ bit (odd k)
-mod-bit k = go (odd k) refl
-  where
-    go : (b : Bool) → odd k ≡ b → k % 2 ≡ bit b
-    go true e = eqb-true (k % 2) 1 e
-    go false e = let h = eqb-false (k % 2) 1 e in omega arith
 
 pub odd-bit : (k : ℕ) (b : Bool) → k % 2 ≡ bit b → odd k ≡ b
 odd-bit k true e = eq-eqb (k % 2) 1 e

@@ -2,7 +2,7 @@
 use Prim.Native.Nat.{ℕ, _+_, _-_, _*_, _%_, _≤_, _<_, max}
 use mathlib.Core.Path.{_≡_, refl, sym, ap, _∙_}
 use mathlib.Core.Logic.{_⊎_, inl, inr, ⊎-elim}
-use mathlib.Core.Bool.{Bool, true, false, not, _&&_, _||_}
+use mathlib.Core.Bool.{Bool, true, false, not, _&&_, _||_, and-false, true≢false}
 use native.Mathlib.Omega.{arith}
 use native.Mathlib.Nat.{mul-one}
 use lib.Dec.{eqb}
@@ -33,7 +33,7 @@ pub dist-down : (a b : ℕ) → b ≤ a → dist a b ≡ a - b
 unfolding dist
 dist-down a b h = omega arith
 
-dist-none : (a b : ℕ) → a ≡ b → dist a b ≡ 0
+pub dist-none : (a b : ℕ) → a ≡ b → dist a b ≡ 0
 unfolding dist
 dist-none a b h = omega arith
 
@@ -66,10 +66,7 @@ both-ends p s t h e = go (endCell p s) (endCell p t) refl refl (sym (ap (λ (b :
     go : (a b : Bool) → endCell p s ≡ a → endCell p t ≡ b → not (a && b) ≡ false → (endCell p s ≡ true) × (endCell p t ≡ true)
     go true true q r z = (q, r)
     go true false q r z = (q, r ∙ sym z)
-    go false b q r z = (q ∙ sym z, absurd (bad z))
-      where
-        bad : _≡_ {A = Bool} true false → ⊥
-        bad w = let y : _≡_ {A = ℕ} 0 1 = cc in omega arith
+    go false b q r z = (q ∙ sym z, absurd (true≢false z))
 
 one-count : (p : Panel) (s t : Cell) → p .height ≡ 1 → OnPanel p s → OnPanel p t → s .x < t .x → (decided p s t) .count .0 ≡ t .x - s .x + 1
 one-count p s t h os ot l = go (f1 p s t) refl
@@ -164,11 +161,7 @@ f2-row p s t l e = go (eqb (p .height) 2)
     go false = refl
     go true =
         (λ i. ne-eqb (s .x) (t .x) (λ (q : s .x ≡ t .x). omega arith) i || (eqb (s .x + 1) (t .x) && not (eq-eqb (s .y) (t .y) e i)))
-        ∙ none (eqb (s .x + 1) (t .x))
-      where
-        none : (b : Bool) → (b && false) ≡ false
-        none true = refl
-        none false = refl
+        ∙ and-false (eqb (s .x + 1) (t .x))
 
 f2-far : (p : Panel) (s t : Cell) → s .x + 1 < t .x → f2 p s t ≡ false
 unfolding f2

@@ -3,10 +3,10 @@
 use Prim.Native.Nat.{ℕ, _+_, _-_, _*_, _%_, _≤_, _<_}
 use mathlib.Core.Path.{_≡_, refl, sym, ap, _∙_, subst, subst⁻¹}
 use mathlib.Core.Logic.{_⊎_, inl, inr, ⊎-elim}
-use mathlib.Core.Bool.{Bool, true, false, cond, not, _&&_}
+use mathlib.Core.Bool.{Bool, true, false, cond, not, _&&_, true≢false}
 use native.Mathlib.Omega.{arith}
 use lib.Dec.{eqb, ltb}
-use borrow.Author.Tests.{eqb-true, eqb-false, eq-eqb, ltb-true, ltb-false, not-true, not-false}
+use borrow.Author.Tests.{eqb-true, eq-eqb, ltb-true, ltb-false, not-true, not-false}
 use Rattle.grid.specs.declared.Panel.{Panel}
 use Rattle.grid.specs.declared.Cell.{Cell}
 use Rattle.grid.specs.Panel.{OnPanel, black, sameCell}
@@ -19,14 +19,12 @@ use Rattle.plan.proofs.Cases.{equal?, less?, if-test, if-equal}
 use Rattle.plan.proofs.Chain.{Plans}
 use Rattle.plan.proofs.Moved.{mirror-move, plan-mirrored}
 use Rattle.plan.proofs.Corners.{NotCorner}
+use Rattle.plan.proofs.CornerLeg.{not-odd}
 use Rattle.plan.proofs.Decided.{odd-yes, odd-no}
 use Rattle.plan.proofs.ThreeCount.{Critical, Far, loss, parity, lost-three, whole-three}
 use Rattle.plan.proofs.ThreeLegs.{upper, lower, outer, split-three, middle-three, ess-three}
 
 -- ---- the tests of the choice, as facts
-
-differs : _≡_ {A = Bool} true false → ⊥
-differs z = let y : _≡_ {A = ℕ} 0 1 = cc in omega arith
 
 -- further apart in rows than in columns
 abbrev Steep : Cell → Cell → Type 0
@@ -43,7 +41,7 @@ steep-no : (s t : Cell) → steep s t ≡ false → (s .x + t .y ≤ t .x + s .y
 steep-no s t = go (ltb (t .x + s .y) (s .x + t .y)) refl
   where
     go : (b : Bool) → ltb (t .x + s .y) (s .x + t .y) ≡ b → cond b true (ltb (t .x + t .y) (s .x + s .y)) ≡ false → (s .x + t .y ≤ t .x + s .y) × (s .x + s .y ≤ t .x + t .y)
-    go true e f = absurd (differs f)
+    go true e f = absurd (true≢false f)
     go false e f = (ltb-false _ _ e, ltb-false _ _ f)
 
 -- the edge from (x, 1) to (x + 1, 1), s being in column x
@@ -61,28 +59,25 @@ module _ (s t : Cell) where
       go true e f = inl (sym (ap (λ (c : Cell). c .y) (same-eq (cell (s .x) 1) s e)))
       go false e f = let h = same-eq (cell (s .x + 1) 1) t (not-false _ f) in inr (ap (λ (c : Cell). c .x) h, sym (ap (λ (c : Cell). c .y) h))
 
-even : (a : ℕ) → not (odd a) ≡ true → a % 2 ≡ 0
-even a f = let g = eqb-false (a % 2) 1 (not-true (odd a) f) in omega arith
-
 module _ (m : ℕ) (s t : Cell) where
   critical-yes : critical m s t ≡ true → Critical m s t
   critical-yes e =
       let r = and-right (not (odd m)) (black s && not (black t)) e in
       record {
-        even = even m (and-left (not (odd m)) (black s && not (black t)) e);
+        even = not-odd m (and-left (not (odd m)) (black s && not (black t)) e);
         dark = eqb-true _ _ (and-left (black s) (not (black t)) r);
-        light = even (t .x + t .y) (and-right (black s) (not (black t)) r);
+        light = not-odd (t .x + t .y) (and-right (black s) (not (black t)) r);
       }
 
   critical-no : critical m s t ≡ false → Critical m s t → ⊥
-  critical-no e c = differs ((λ i. not (sym (odd-no m (c .even)) i) && (sym (odd-yes (s .x + s .y) (c .dark)) i && not (sym (odd-no (t .x + t .y) (c .light)) i))) ∙ e)
+  critical-no e c = true≢false ((λ i. not (sym (odd-no m (c .even)) i) && (sym (odd-yes (s .x + s .y) (c .dark)) i && not (sym (odd-no (t .x + t .y) (c .light)) i))) ∙ e)
 
 -- s in an even column, t in the next
 next-yes : (s t : Cell) → (not (odd (s .x)) && eqb (s .x + 1) (t .x)) ≡ true → (s .x % 2 ≡ 0) × (s .x + 1 ≡ t .x)
-next-yes s t e = (even (s .x) (and-left (not (odd (s .x))) (eqb (s .x + 1) (t .x)) e), eqb-true _ _ (and-right (not (odd (s .x))) (eqb (s .x + 1) (t .x)) e))
+next-yes s t e = (not-odd (s .x) (and-left (not (odd (s .x))) (eqb (s .x + 1) (t .x)) e), eqb-true _ _ (and-right (not (odd (s .x))) (eqb (s .x + 1) (t .x)) e))
 
 next-no : (s t : Cell) → (not (odd (s .x)) && eqb (s .x + 1) (t .x)) ≡ false → s .x % 2 ≡ 0 → s .x + 1 ≡ t .x → ⊥
-next-no s t e f g = differs ((λ i. not (sym (odd-no (s .x) f) i) && sym (eq-eqb (s .x + 1) (t .x) g) i) ∙ e)
+next-no s t e f g = true≢false ((λ i. not (sym (odd-no (s .x) f) i) && sym (eq-eqb (s .x + 1) (t .x) g) i) ∙ e)
 
 -- ---- over plain numbers
 

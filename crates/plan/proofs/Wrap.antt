@@ -4,7 +4,7 @@ use Prim.Native.Nat.{ℕ, _+_, _-_, _*_, _≤_}
 use mathlib.Core.Path.{_≡_, refl, sym, ap, _∙_, subst₂}
 use mathlib.Core.Logic.{⊎-elim}
 use mathlib.Core.List.{[], _∷_}
-use mathlib.Core.Bool.{Bool, true, false, not, _&&_, _||_, Bool·beq}
+use mathlib.Core.Bool.{Bool, true, false, not, _&&_, _||_, Bool·beq, and-false}
 use native.Mathlib.Omega.{arith}
 use lib.Dec.{eqb}
 use borrow.Author.Tests.{eqb-true}
@@ -22,6 +22,7 @@ use Rattle.corner.proofs.Count.{count-here, count-flat, count-thin}
 use Rattle.plan.proofs.Chain.{LegFrom, Sep, on-left, on-right, above, below, Each, Chain, Plans}
 use Rattle.plan.proofs.Parity.{two, four, same, implies, apply, bit, odd-sum, odd-rest}
 use Rattle.plan.proofs.Defect.{loss, distance-odd, block-size, defect, Fits}
+use Rattle.plan.proofs.Rows.{dist-none}
 use Rattle.plan.proofs.Split.{span-up, span-down, forth-leg, back-leg}
 
 -- ---- the chain
@@ -94,10 +95,6 @@ module _ (p : Panel) (c y : ℕ) (left : 1 ≤ c) (right : c + 3 ≤ p .width) (
 
 -- ---- the sizes
 
-dist-same : (a b : ℕ) → a ≡ b → dist a b ≡ 0
-unfolding dist
-dist-same a b e = omega arith
-
 -- from a corner to the opposite one: a cell is lost where both sides are even
 far-size : (a b : Cell) (w h : ℕ) → dist (a .x) (b .x) + 1 ≡ w → dist (a .y) (b .y) + 1 ≡ h → 2 ≤ w → 1 ≤ h → trackCount a b b + bit (not (odd w) && not (odd h)) ≡ w * h
 unfolding trackCount
@@ -105,14 +102,10 @@ far-size a b w h e f p q =
     ⊎-elim
     (λ (z : h ≡ 1).
     let row = count-flat (dist (a .x) (b .x) + 1) (dist (a .y) (b .y) + 1) (dist (a .x) (b .x)) (dist (a .y) (b .y)) (f ∙ z) in
-    (λ i. row i + bit (not (odd w) && not (odd (z i)))) ∙ ap (λ (z : Bool). dist (a .x) (b .x) + 1 + bit z) (never (not (odd w))) ∙ (let g : dist (a .x) (b .x) + 1 + 0 ≡ w * 1 = omega arith in g) ∙ ap (λ (z : ℕ). w * z) (sym z))
-    (λ z. ap (λ (z : Bool). trackCount a b b + bit z) lost ∙ block-size a b b w h e f p (omega arith) (λ u v. let d = dist-same (a .x) (b .x) u in omega arith))
+    (λ i. row i + bit (not (odd w) && not (odd (z i)))) ∙ ap (λ (z : Bool). dist (a .x) (b .x) + 1 + bit z) (and-false (not (odd w))) ∙ (let g : dist (a .x) (b .x) + 1 + 0 ≡ w * 1 = omega arith in g) ∙ ap (λ (z : ℕ). w * z) (sym z))
+    (λ z. ap (λ (z : Bool). trackCount a b b + bit z) lost ∙ block-size a b b w h e f p (omega arith) (λ u v. let d = dist-none (a .x) (b .x) u in omega arith))
     (equal? h 1)
   where
-    never : (z : Bool) → (z && false) ≡ false
-    never true = refl
-    never false = refl
-
     lost : (not (odd w) && not (odd h)) ≡ loss (odd w) (odd h) (differ (black a) (black b))
     lost = sym (ap (λ (z : Bool). loss (odd w) (odd h) z) (sym (distance-odd a b) ∙ odd-sum (dist (a .x) (b .x)) (dist (a .y) (b .y)) ∙ (λ i. differ (odd-rest (dist (a .x) (b .x)) 1 w e i) (odd-rest (dist (a .y) (b .y)) 1 h f i)))
         ∙ same _ _ (two (λ w h. Bool·beq (loss w h (differ (differ w true) (differ h true))) (not w && not h)) refl (odd w) (odd h)))
@@ -124,7 +117,7 @@ up-size c y p q o =
     ⊎-elim
     (λ (z : c ≡ 1).
     let h = span-down y 1 y (omega arith) (omega arith) in
-    count-thin (dist c 1 + 1) (dist y 1 + 1) (dist c c) (dist y 1) (ap (λ (k : ℕ). k + 1) (dist-same c 1 z)) (dist-same c c refl) (omega arith) ∙ h ∙ (let g : y ≡ 1 * y = omega arith in g) ∙ ap (λ (k : ℕ). k * y) (sym z))
+    count-thin (dist c 1 + 1) (dist y 1 + 1) (dist c c) (dist y 1) (ap (λ (k : ℕ). k + 1) (dist-none c 1 z)) (dist-none c c refl) (omega arith) ∙ h ∙ (let g : y ≡ 1 * y = omega arith in g) ∙ ap (λ (k : ℕ). k * y) (sym z))
     (λ z.
     let g = block-size (cell c y) (cell 1 1) (cell c 1) c y (span-down c 1 c (omega arith) (omega arith)) (span-down y 1 y (omega arith) (omega arith)) (omega arith) q (λ u v. omega arith) in
     let l = (λ i. loss (odd c) (odd y) (differ (odd-sum c y i) (odd-sum c 1 i))) ∙ same _ _ (apply (two (λ c y. implies c (Bool·beq (loss c y (differ (differ c y) (differ c true))) false)) refl (odd c) (odd y)) o) in
@@ -173,7 +166,7 @@ module _ (p : Panel) (c y : ℕ) (left : 1 ≤ c) (right : c + 3 ≤ p .width) (
 
   size5 : trackCount (cell (c + 1) y) (cell (c + 1) y) (cell (c + 1) y) ≡ 1
   unfolding trackCount
-  size5 = count-here _ _ (dist (c + 1) (c + 1)) (dist y y) (λ i. dist-same (c + 1) (c + 1) refl i + dist-same y y refl i)
+  size5 = count-here _ _ (dist (c + 1) (c + 1)) (dist y y) (λ i. dist-none (c + 1) (c + 1) refl i + dist-none y y refl i)
 
   wrap-at : (k : ℕ) → odd c ≡ true → (odd (p .height) || not (odd y)) ≡ true → Fits (p .width) (p .height) (cell c y) (cell (c + 1) y) k → Plans p (cell c y) (cell (c + 1) y) k (wrap (p .width) (p .height) (cell c y) (cell (c + 1) y))
   unfolding wrap

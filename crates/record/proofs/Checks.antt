@@ -26,7 +26,7 @@ use Rattle.record.specs.Write.{goodCount, checkList}
 use Rattle.record.specs.Read.{hasMark, panelIn, entryIn, stepsIn, lettersIn, cellsRead, goodSteps, checkHead, checkKnown, checkLetters, checkRecord, walkedOf, recordCells}
 use Rattle.grid.proofs.Facts.{good, is-good, is-on, area-small}
 use Rattle.grid.proofs.Passed.{expect-passed, expect-rest, after-passed, after-rest, good-panel, good-entry}
-use Rattle.record.proofs.Laws.{both}
+use Rattle.grid.proofs.Facts.{and-parts}
 
 -- what a head that is not refused says
 pub record GoodHead (f : List ℕ) : Type 0 where
@@ -46,7 +46,7 @@ head-good f e =
     let e₃ = after-rest (checkEntry (panelIn f) (entryIn f)) _ e₂ in
     let e₄ = expect-rest (goodSteps (panelIn f) (stepsIn f)) _ _ e₃ in
     let front = good-entry (panelIn f) (entryIn f) (after-passed _ _ e₂) in
-    let k = both (leb 1 (stepsIn f)) (leb (stepsIn f) (area (panelIn f) - 1)) (expect-passed _ _ _ e₃) in
+    let k = and-parts (leb 1 (stepsIn f)) (leb (stepsIn f) (area (panelIn f) - 1)) (expect-passed _ _ _ e₃) in
     let low = leb-true 1 (stepsIn f) (k .0) in
     record {
       mark = expect-passed (hasMark f) _ _ e;
@@ -95,7 +95,7 @@ list-good p list e =
     let e₂ = expect-rest (wholeCells (length list)) _ _ e₁ in
     let e₃ = expect-rest (allOn p (cellsIn list)) _ _ e₂ in
     let e₄ = expect-rest (allSteps (cellsIn list)) _ _ e₃ in
-    let k = both (leb 2 (length (cellsIn list))) (leb (length (cellsIn list)) (area p)) (expect-passed (goodCount p (length (cellsIn list))) _ _ e₄) in
+    let k = and-parts (leb 2 (length (cellsIn list))) (leb (length (cellsIn list)) (area p)) (expect-passed (goodCount p (length (cellsIn list))) _ _ e₄) in
     record {
       panel = is-good (good-panel p (after-passed (checkPanel p) _ e));
       on = expect-passed (allOn p (cellsIn list)) _ _ e₂;

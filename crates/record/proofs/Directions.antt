@@ -14,7 +14,7 @@ use Rattle.grid.specs.Panel.{dist, apart, neighbours, onPanel}
 use Rattle.record.specs.Format.{north, east, south, west, letter, lettersFrom, known, moved, allKnown, walkOn, walkFrom}
 use Rattle.list.specs.List.{allOn, stepsFrom}
 use Rattle.grid.proofs.Facts.{on as on-panel-is}
-use Rattle.record.proofs.Laws.{both}
+use Rattle.grid.proofs.Facts.{and-parts}
 
 pub letter-known : (a b : Cell) → known (letter a b) ≡ true
 unfolding known letter
@@ -109,7 +109,7 @@ known-letters a (b ∷ l) = sym (and-yes _ (letter-known a b) (sym (known-letter
 pub walk-letters : (a : Cell) (l : List Cell) → stepsFrom a l ≡ true → walkOn a (lettersFrom a l) ≡ l
 walk-letters a [] e = refl
 walk-letters a (b ∷ l) e =
-    let h = both (neighbours a b) (stepsFrom b l) e in
+    let h = and-parts (neighbours a b) (stepsFrom b l) e in
     ap (λ (d : Cell). d ∷ walkOn d (lettersFrom b l)) (moved-letter a b (h .0)) ∙ ap (λ (k : List Cell). b ∷ k) (walk-letters b l (h .1))
 
 -- letters that stay on a panel are those of the list that they lead over, and its cells are neighbours
@@ -117,8 +117,8 @@ pub letters-walk : (p : Panel) (c : Cell) (l : List ℕ) → allKnown l ≡ true
     → (lettersFrom c (walkOn c l) ≡ l) × (stepsFrom c (walkOn c l) ≡ true)
 letters-walk p c [] k e = (refl, refl)
 letters-walk p c (b ∷ l) k e =
-    let h = both (known b) (allKnown l) k in
-    let o = both (onPanel p c) (allOn p (walkFrom (moved c b) l)) e in
+    let h = and-parts (known b) (allKnown l) k in
+    let o = and-parts (onPanel p c) (allOn p (walkFrom (moved c b) l)) e in
     let at = on-panel-is p c (o .0) in
     let rest = letters-walk p (moved c b) l (h .1) (o .1) in (
       ap (λ (x : ℕ). x ∷ lettersFrom (moved c b) (walkOn (moved c b) l)) (letter-moved c (at .left) (at .top) b (h .0)) ∙ ap (λ (k : List ℕ). b ∷ k) (rest .0),

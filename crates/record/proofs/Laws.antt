@@ -1,7 +1,7 @@
 -- Numbers, tests, cells and letters: laws that the proofs of the functions and the theorems on records share.
 use Prim.Native.Nat.{ℕ, _+_, _-_, _≤_}
 use mathlib.Core.Path.{_≡_, refl, sym, _∙_}
-use mathlib.Core.Bool.{Bool, true, false, cond, _&&_, _||_}
+use mathlib.Core.Bool.{Bool, true, false, cond, _||_}
 use mathlib.Core.List.{List, [], _∷_}
 use native.Mathlib.Omega.{arith}
 use lib.Dec.{leb, ltb, eqb}
@@ -14,7 +14,7 @@ use Rattle.grid.specs.Panel.{OnPanel, onPanel, goodPanel}
 use Rattle.record.specs.declared.Moved.the-variants.{Refused, To}
 use Rattle.record.specs.Format.{known, moved, moveOf, largest, north, east, south, west}
 use Rattle.list.specs.List.{allOn}
-use Rattle.grid.proofs.Facts.{and-left, and-right, and-both, good, on, is-on}
+use Rattle.grid.proofs.Facts.{and-parts, and-both, good, on, is-on}
 
 -- Numbers
 
@@ -27,9 +27,6 @@ below-last k n h = by-case (leb k (n - 1)) refl
     by-case false e = le-ltb k n (omega (arith, leb-false k (n - 1) e)) ∙ sym e
 
 -- Tests
-
-pub both : (a b : Bool) → (a && b) ≡ true → (a ≡ true) × (b ≡ true)
-both a b e = (and-left a b e, and-right a b e)
 
 -- Cells
 
@@ -85,5 +82,5 @@ unknown-off p c b = by-case (eqb b north) (eqb b east) (eqb b south) (eqb b west
 pub all-on-largest : (p : Panel) (l : List Cell) → goodPanel p ≡ true → allOn p l ≡ true → allOn largest l ≡ true
 all-on-largest p [] g e = refl
 all-on-largest p (c ∷ l) g e =
-    let h = both (onPanel p c) (allOn p l) e in
+    let h = and-parts (onPanel p c) (allOn p l) e in
     and-both (is-on (on-largest p c g (h .0))) (all-on-largest p l g (h .1))

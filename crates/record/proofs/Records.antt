@@ -32,7 +32,7 @@ use Rattle.record.specs.Format.{headLength, markHigh, markLow, headOf, r
 use Rattle.record.specs.Write.{goodCount, checkList, checkWrite, recordLength, writeAnswer, writeBuffer, bytesWritten, recordMade}
 use Rattle.record.specs.Read.{hasMark, panelIn, entryIn, stepsIn, lettersIn, cellsRead, goodSteps, checkHead, checkKnown, checkRecord, checkRead, readAnswer, readBuffer, panelGiven, cellsGiven, lengthGiven, listRead, lettersAnswer}
 use Rattle.grid.proofs.Bytes.{length-bytes, cells-bytes}
-use Rattle.record.proofs.Laws.{both}
+use Rattle.grid.proofs.Facts.{and-parts}
 use Rattle.record.proofs.Lists.{length-letters-from, length-walk}
 use Rattle.grid.proofs.Passed.{expect-passed, after-passed, after-rest}
 use Rattle.record.proofs.Checks.{GoodRecord, GoodList, record-good, list-good}
@@ -83,7 +83,7 @@ module _ (p : Panel) (s : Cell) (l : List Cell) (rest : List ℕ) where
     unfolding hasMark
     accepted =
         let n : length (lettersFrom s l ++ rest) ≡ length l + length rest = length-append (lettersFrom s l) rest ∙ ap (λ (k : ℕ). k + length rest) (length-letters-from s l) in
-        let on = both (onPanel p s) (allOn p l) (g .on) in
+        let on = and-parts (onPanel p s) (allOn p l) (g .on) in
         let mark : hasMark file ≡ true = sym (and-yes _ (le-leb 2 (length file) (omega arith)) refl) in
         let long : leb headLength (length file) ≡ true = le-leb headLength (length file) (omega arith) in
         let whole : leb (headLength + stepsIn file) (length file) ≡ true = le-leb (headLength + stepsIn file) (length file) (omega (arith, steps-written)) in
@@ -158,7 +158,7 @@ head-is (f₀ ∷ f₁ ∷ f₂ ∷ f₃ ∷ f₄ ∷ []) h m b = absurd (omega 
 head-is (f₀ ∷ f₁ ∷ f₂ ∷ f₃ ∷ f₄ ∷ f₅ ∷ []) h m b = absurd (omega arith)
 head-is (f₀ ∷ f₁ ∷ f₂ ∷ f₃ ∷ f₄ ∷ f₅ ∷ f₆ ∷ []) h m b = absurd (omega arith)
 head-is (f₀ ∷ f₁ ∷ f₂ ∷ f₃ ∷ f₄ ∷ f₅ ∷ f₆ ∷ f₇ ∷ r) h m b =
-    let k = both (eqb f₀ markHigh) (eqb f₁ markLow) (both (leb 2 (length (f₀ ∷ f₁ ∷ f₂ ∷ f₃ ∷ f₄ ∷ f₅ ∷ f₆ ∷ f₇ ∷ r))) _ m .1) in
+    let k = and-parts (eqb f₀ markHigh) (eqb f₁ markLow) (and-parts (leb 2 (length (f₀ ∷ f₁ ∷ f₂ ∷ f₃ ∷ f₄ ∷ f₅ ∷ f₆ ∷ f₇ ∷ r))) _ m .1) in
     let p = eqb-true f₀ markHigh (k .0) in
     let q = eqb-true f₁ markLow (k .1) in
     let s = high-of f₆ f₇ b in

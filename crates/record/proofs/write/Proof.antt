@@ -22,7 +22,7 @@ use Rattle.list.proofs.Cells.{length-cells, cells-next}
 use Rattle.record.specs.declared.Written.{Written}
 use Rattle.record.specs.Format.{headLength, headOf, lettersOf, stepsOf}
 use Rattle.record.specs.Write.{checkList, checkWrite, recordLength}
-use Rattle.record.proofs.Laws.{both}
+use Rattle.grid.proofs.Facts.{and-parts}
 use Rattle.record.proofs.Lists.{steps-and-one, record-made}
 use Rattle.record.proofs.Checks.{GoodList, list-good}
 use Rattle.record.proofs.write.Statement.{statement}
@@ -62,7 +62,7 @@ split c = cells-next (L c) 0 (omega (arith, good c .some, length-cells (L c)))
 
 first-on : (c : tie.After-enum-told) → onPanel (P c) (cellAt (L c) 0) ≡ true
 first-on c =
-    both (onPanel (P c) (cellAt (L c) 0)) (allOn (P c) (cellsIn (drop 2 (L c)))) (sym (ap (allOn (P c)) (split c)) ∙ good c .on) .0
+    and-parts (onPanel (P c) (cellAt (L c) 0)) (allOn (P c) (cellsIn (drop 2 (L c)))) (sym (ap (allOn (P c)) (split c)) ∙ good c .on) .0
 
 -- the length that the buffer is compared with
 asked : (c : tie.After-steps-of) → leb (recordLength (cellsIn (L (c .before)))) (length (O (c .before))) ≡ leb (headLength + c .steps-of .result .0) (length (O (c .before)))

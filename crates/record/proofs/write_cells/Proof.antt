@@ -13,7 +13,8 @@ use Rattle.grid.specs.Bytes.{bytes}
 use Rattle.record.specs.Format.{largest, moved, walkFrom, walkOn}
 use Rattle.list.specs.List.{allOn}
 use Rattle.grid.proofs.Facts.{on as on-panel-is}
-use Rattle.record.proofs.Laws.{both, byte-refused, byte-moves, unknown-off}
+use Rattle.grid.proofs.Facts.{and-parts}
+use Rattle.record.proofs.Laws.{byte-refused, byte-moves, unknown-off}
 use Rattle.record.proofs.Lists.{bytes-end, walk-more, length-walk, put-cell, put-done}
 use Rattle.record.proofs.write_cells.Statement.{statement}
 use Rattle.record.proofs.write_cells.Tie as tie
@@ -33,7 +34,7 @@ abbrev μ-loop : tie.MeasureT-loop
 μ-loop letters list₀ at₀ i₀ j₀ list at i j = length letters - i
 
 first-on : (c : tie.Start Inv-loop μ-loop) → (onPanel largest (c .args .s) ≡ true) × (allOn largest (walkOn (c .args .s) (now (c .args .letters))) ≡ true)
-first-on c = both (onPanel largest (c .args .s)) (allOn largest (walkOn (c .args .s) (now (c .args .letters)))) (c .pre .0)
+first-on c = and-parts (onPanel largest (c .args .s)) (allOn largest (walkOn (c .args .s) (now (c .args .letters)))) (c .pre .0)
 
 -- the first cell, written before the loop
 abbrev first : (c : tie.At-loop Inv-loop μ-loop) → tie.After-put-cell Inv-loop μ-loop
@@ -48,7 +49,7 @@ next-on : (c : tie.In-loop Inv-loop μ-loop) {d : Cell} → moved (c .before .lo
 next-on c {d} e =
     let at-loop = c .before in
     let l = now (start at-loop .args .letters) in
-    both (onPanel largest d) (allOn largest (walkOn d (drop (at-loop .loop .i + 1) l)))
+    and-parts (onPanel largest d) (allOn largest (walkOn d (drop (at-loop .loop .i + 1) l)))
     (sym (ap (allOn largest) (walk-more l (at-loop .loop .i) (at-loop .loop .at) (c .loop-test .taken) e)) ∙ at-loop .loop .inv .4)
 
 -- and there is room for it
