@@ -1,18 +1,26 @@
 -- Coordinates of cells laid on the 3 by 3 panel, as the code computes them.
 use Prim.Native.Nat.{ℕ, _≤_, _<_}
-use mathlib.Core.Path.{_≡_, sym, ap, _∙_, subst⁻¹}
-use mathlib.Core.Bool.{Bool, true, false, cond}
+use mathlib.Core.Path.{_≡_, refl, ap, _∙_, subst⁻¹}
+use mathlib.Core.Bool.{Bool, true, false, cond, not}
 use native.Mathlib.Omega.{arith}
 use Rattle.grid.specs.declared.Cell.{Cell}
 use Rattle.grid.specs.Panel.{turnedCell}
 use Rattle.draw.specs.declared.Placing.{Placing}
 use Rattle.draw.specs.Table.{flip, flipCell, place, rowCell, rowSize, position, placedCell}
 
-pub at-x : (p : Placing) (c : Cell) (b : Bool) → p .turn ≡ b → flip (p .across) ((cond b (turnedCell c) c) .x) ≡ (place p c) .x
-at-x p c b e = ap (λ (k : Bool). flip (p .across) ((cond k (turnedCell c) c) .x)) (sym e)
+pub at-x : (p : Placing) (c : Cell) → flip (p .across) (cond (p .turn) (c .y) (c .x)) ≡ (place p c) .x
+at-x p c = ap (flip (p .across)) (first (p .turn))
+  where
+    first : (b : Bool) → cond b (c .y) (c .x) ≡ (cond b (turnedCell c) c) .x
+    first true = refl
+    first false = refl
 
-pub at-y : (p : Placing) (c : Cell) (b : Bool) → p .turn ≡ b → flip (p .down) ((cond b (turnedCell c) c) .y) ≡ (place p c) .y
-at-y p c b e = ap (λ (k : Bool). flip (p .down) ((cond k (turnedCell c) c) .y)) (sym e)
+pub at-y : (p : Placing) (c : Cell) → flip (p .down) (cond (not (p .turn)) (c .y) (c .x)) ≡ (place p c) .y
+at-y p c = ap (flip (p .down)) (second (p .turn))
+  where
+    second : (b : Bool) → cond (not b) (c .y) (c .x) ≡ (cond b (turnedCell c) c) .y
+    second true = refl
+    second false = refl
 
 flip-small : (on : Bool) (a : ℕ) → a ≤ 4 → flip on a ≤ 4
 flip-small true a h = omega arith

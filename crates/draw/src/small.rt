@@ -4,6 +4,7 @@ use grid::Cell;
 use plan::motions::less;
 ghost use mathlib.Core.Path.{_≡_};
 ghost use mathlib.Core.Logic.{_≢_};
+ghost use mathlib.Core.Bool.{cond};
 ghost use mathlib.Core.List.{_++_};
 ghost use lib.ListN.{length, drop};
 ghost use Rattle.grid.specs.Panel.{OnPanel};
@@ -170,16 +171,25 @@ fn flip_byte(on: bool, a: u8) -> u8
     a
 }
 
-// x of cell j of a row laid by p.
+// x of cell j of row k, or y.
+fn coordinate(k: usize, j: usize, second: bool) -> u8
+    requires { ⌜ k < 8 ⌝ }
+    requires { ⌜ j < 9 ⌝ }
+    ensures { λ r. ⌜ r ≡ cond second ((rowCell k j) .y) ((rowCell k j) .x) ⌝ }
+{
+    if second {
+        return entry(k, 2 * j + 2);
+    }
+    entry(k, 2 * j + 1)
+}
+
+// x and y of cell j of a row laid by p: a turned cell has y for x.
 fn x_at(p: Placing, j: usize) -> u8
     requires { ⌜ p .row < 8 ⌝ }
     requires { ⌜ j < 9 ⌝ }
     ensures { λ r. ⌜ r ≡ (place p (rowCell (p .row) j)) .x ⌝ }
 {
-    if p.turn {
-        return flip_byte(p.across, entry(p.row, 2 * j + 2));
-    }
-    flip_byte(p.across, entry(p.row, 2 * j + 1))
+    flip_byte(p.across, coordinate(p.row, j, p.turn))
 }
 
 fn y_at(p: Placing, j: usize) -> u8
@@ -187,10 +197,7 @@ fn y_at(p: Placing, j: usize) -> u8
     requires { ⌜ j < 9 ⌝ }
     ensures { λ r. ⌜ r ≡ (place p (rowCell (p .row) j)) .y ⌝ }
 {
-    if p.turn {
-        return flip_byte(p.down, entry(p.row, 2 * j + 1));
-    }
-    flip_byte(p.down, entry(p.row, 2 * j + 2))
+    flip_byte(p.down, coordinate(p.row, j, !p.turn))
 }
 
 // Writes the n cells of a row, as it is laid.
