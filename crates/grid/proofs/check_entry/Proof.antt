@@ -1,3 +1,4 @@
+-- Test by test, in the definition's order: the panel's, then whether the entry is on it.
 use borrow.Author.Needs.{needs}
 use borrow.Author.Tests.{not-true, not-false}
 use mathlib.Core.Path.{refl, sym, _∙_}

@@ -1,3 +1,4 @@
+-- Test by test, in the definition's order: the entry's, then the exit's, then whether they are one cell.
 use borrow.Author.Needs.{needs}
 use borrow.Author.Tests.{not-true, not-false}
 use mathlib.Core.Path.{refl, sym, ap, _∙_}

@@ -1,3 +1,4 @@
+-- One test: the refusal where it fails.
 use borrow.Author.Needs.{needs}
 use mathlib.Core.Path.{refl, sym, _∙_}
 use Rattle.grid.proofs.Tests.{expect-yes, expect-no}

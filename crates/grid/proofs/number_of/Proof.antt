@@ -1,3 +1,4 @@
+-- One case for each refusal.
 use borrow.Author.Needs.{needs}
 use mathlib.Core.Path.{sym, ap}
 use Rattle.grid.specs.Refusal.{number}

@@ -1,3 +1,4 @@
+-- Both coordinates, one after the other.
 use borrow.Author.Needs.{needs}
 use mathlib.Core.Path.{sym, _∙_}
 use Rattle.grid.proofs.Tests.{and-yes, and-no}

@@ -1,3 +1,4 @@
+-- Both coordinates, one after the other.
 use borrow.Author.Tests.{eq-eqb, ne-eqb}
 use mathlib.Core.Path.{refl}
 use Rattle.grid.proofs.Tests.{and-yes, and-no}

@@ -1,3 +1,4 @@
+-- Two bytes, x and then y.
 use borrow.Author.Needs.{needs}
 use Rattle.record.proofs.cell_at.Statement.{statement}
 use Rattle.record.proofs.cell_at.Tie as tie

@@ -1,3 +1,4 @@
+-- Both bounds of the count, one after the other.
 use borrow.Author.Needs.{needs}
 use borrow.Author.Tests.{le-leb, lt-leb}
 use mathlib.Core.Path.{ap}

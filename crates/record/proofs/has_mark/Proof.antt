@@ -1,3 +1,4 @@
+-- The length, then the mark's bytes, one after the other.
 use borrow.Author.Needs.{needs}
 use borrow.Author.Tests.{le-leb, lt-leb, eq-eqb, ne-eqb}
 use mathlib.Core.Path.{refl}

@@ -1,3 +1,4 @@
+-- One case for each form of the answer.
 use borrow.Author.Needs.{needs}
 use mathlib.Core.Path.{sym, ap}
 use Rattle.record.specs.Read.{panelGiven}

@@ -1,5 +1,5 @@
-use Prim.Native.Nat.{_-_}
 -- The loop keeps that the first i cells of the row, as it is laid, are written; each turn writes the next one.
+use Prim.Native.Nat.{_-_}
 use native.Mathlib.Omega.{arith}
 use lib.ListN.{length-set}
 use Rattle.corner.proofs.Written.{Written, none, more, whole}
