@@ -11,7 +11,7 @@ use Rattle.grid.specs.declared.Cell.{Cell}
 use Rattle.grid.specs.Bytes.{bytes}
 use Rattle.grid.proofs.Bytes.{length-bytes}
 use Rattle.corner.specs.Line.{line, numbered, snake}
-use Rattle.corner.specs.Drawn.{Steps}
+use Rattle.corner.specs.Drawn.{ReadySnake}
 use Rattle.corner.proofs.Line.{length-line}
 use Rattle.corner.proofs.Drawn.{part-behind, part-long}
 
@@ -33,7 +33,7 @@ module _ (f s r c n k : ℕ) (old : List ℕ) where
   pub same-place : {new : List ℕ} {from way other at at' i i' : ℕ} → at ≡ at' → i ≡ i' → Snaked new from way other at i → Snaked new from way other at' i'
   same-place {new} {from} {way} {other} p q d = subst₂ (λ (at i : ℕ). Snaked new from way other at i) p q d
 
-  module _ (ask : Steps f s r c n k old) where
+  module _ (ask : ReadySnake f s r c n k old) where
     pub none : Snaked old f s r 0 0
     none = record {
       left = k;
@@ -60,7 +60,7 @@ module _ (f s r c n k : ℕ) (old : List ℕ) where
       room h = let l : n * (i + 1) ≤ n * k = mul-le-mul-left n (omega arith) in let o = ask .room in omega (arith, one-more, so-long, d .so-far)
 
       -- what the next line asks for, wherever it begins and whichever way it goes
-      pub ask-next : {x w : ℕ} → i < k → x ≤ 65535 → w ≤ 65535 → Steps x w w c n 1 (take (length new - at) (drop at new))
+      pub ask-next : {x w : ℕ} → i < k → x ≤ 65535 → w ≤ 65535 → ReadySnake x w w c n 1 (take (length new - at) (drop at new))
       ask-next h l w = let o = room h in let z = mul-one n in record {
         start = l;
         forth = w;

@@ -17,7 +17,7 @@ use Rattle.grid.proofs.Facts.{dist-sym}
 use Rattle.grid.proofs.Track.{join}
 use Rattle.corner.specs.Corner.{Inside, ahead, turning}
 use Rattle.corner.specs.Line.{line, number, numbered, stepTo, snake, area, sweepEnd}
-use Rattle.corner.specs.Drawn.{Steps, Drawn}
+use Rattle.corner.specs.Drawn.{ReadySnake, Drawn}
 use Rattle.corner.proofs.Between.{Between, between-sym, start-between, most, dist-up, dist-down, by-le, ahead-up, ahead-down, Cut, cut}
 use Rattle.corner.proofs.Line.{Axis, Unit, number-small, step-small, in-row, in-column, row-unit, column-unit, line-track, line-numbered, stepped, ahead-start, ahead-stop, length-line}
 use Rattle.corner.proofs.First.{Frame, in-rows, in-columns, dist-small, turning-next, turning-once}
@@ -96,7 +96,7 @@ module _ {row : Bool} {E : ℕ → ℕ → Cell} {F : Frame row E} {u v : ℕ} (
   -- what the code's loop asks for
   pub ask-snake : (p q p' q' : ℕ) {f s r c n k : ℕ} {buf : List ℕ} → p ≤ 255 → p' ≤ 255 → q ≤ 255
       → f ≡ number (E p q) → s ≡ stepTo u p p' → r ≡ stepTo u p' p → c ≡ stepTo v q q' → n ≡ dist p p' → k ≡ dist q q'
-      → 2 * area (E p q) (E p' q') ≤ length buf → Steps f s r c (n + 1) (k + 1) buf
+      → 2 * area (E p q) (E p' q') ≤ length buf → ReadySnake f s r c (n + 1) (k + 1) buf
   ask-snake p q p' q' {n = n} {k = k} hp hp' hq ef es er ec en ek l =
       let g : (n + 1) * (k + 1) ≡ area (E p q) (E p' q') = (λ j. (en j + 1) * (ek j + 1)) ∙ sym (F .size p q p' q') in
       record {

@@ -14,7 +14,7 @@ pub record Small (c : Cell) : Type 0 where
   pub down : c .y ≤ 255
 
 -- lines there and back: numbers of 16 bits, at most 256 cells in a line, and room for all
-pub record Steps (first there back across n lines : ℕ) (buf : List ℕ) : Type 0 where
+pub record ReadySnake (first there back across n lines : ℕ) (buf : List ℕ) : Type 0 where
   pub start : first ≤ 65535
   pub forth : there ≤ 65535
   pub home : back ≤ 65535

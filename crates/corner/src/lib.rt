@@ -14,7 +14,7 @@ ghost use Rattle.grid.specs.Bytes.{bytes};
 ghost use Rattle.corner.specs.Corner.{Inside, trackCount, ahead, turning};
 ghost use Rattle.corner.specs.Line.{line, number, numbered, stepTo, snake, area, sweepEnd};
 ghost use Rattle.corner.specs.Peel.{oneLine, Open, First, Chosen, Sides, Numbers, Peel};
-ghost use Rattle.corner.specs.Drawn.{Small, Steps, Ready, Drawn};
+ghost use Rattle.corner.specs.Drawn.{Small, ReadySnake, Ready, Drawn};
 
 // n cells from the number `first` on, each `step` further: one loop for the four directions, since
 // taking away is adding modulo 65536. The compiler stores eight cells at a time.
@@ -32,7 +32,7 @@ fn draw_line(first: u16, step: u16, n: usize, buf: &mut [u8])
 
 // One of several lines: also the number where the next one begins, `across` from this one's end.
 fn draw_next(from: u32, way: u32, across: u32, n: usize, buf: &mut [u8]) -> u32
-    requires { ⌜ Steps from way way across n 1 (now buf) ⌝ }
+    requires { ⌜ ReadySnake from way way across n 1 (now buf) ⌝ }
     ensures { λ r. ⌜ (r ≡ (from + way * (n - 1) + across) % 65536) × (now (buf .exit) ≡ bytes (line (numbered from way) n) ++ drop (2 * n) (now (buf .entry))) ⌝ }
 {
     draw_line(from as u16, way as u16, n, buf);
@@ -49,7 +49,7 @@ fn draw_snake(
     lines: usize,
     buf: &mut [u8],
 )
-    requires { ⌜ Steps first there back across n lines (now buf) ⌝ }
+    requires { ⌜ ReadySnake first there back across n lines (now buf) ⌝ }
     ensures { λ _. ⌜ now (buf .exit) ≡ bytes (snake first there back across n lines) ++ drop (2 * (n * lines)) (now (buf .entry)) ⌝ }
 {
     let mut from = first;
@@ -178,8 +178,8 @@ struct Peeled {
     opposite: Cell,
 }
 
-// k lines off a rectangle, the p-th cells of lines q to q2: where they end and on which side the rest
-// begins, the last line and the next one, and how many cells they have.
+// k lines off a rectangle whose lines are q to q2, each from p to p2: on which side they end and the
+// other side, the last of them and the next line, and how many cells they have.
 struct TakenOff {
     end: u32,
     other: u32,

@@ -1,6 +1,5 @@
 // Answers Exit for a list of panels, entries and wanted counts. A line gives these and, behind the
 // colon, the refusal's number (0: none) and the cell.
-use exit::ExitAnswer;
 use grid::Cell;
 use grid::Cells;
 use grid::Panel;
@@ -16,10 +15,8 @@ fn answer(m: u32, n: u32, x: u32, y: u32, wanted: u32) {
         height: n,
     };
     let a = exit::find_exit(panel, Cell { x, y }, Cells(wanted));
-    match a {
-        ExitAnswer::Refused(r) => row(&[grid::number_of(r), 0, 0], b"\n"),
-        ExitAnswer::Found(c) => row(&[0, c.x, c.y], b"\n"),
-    }
+    let c = exit::cell_of(a);
+    row(&[exit::number_of(a), c.x, c.y], b"\n");
 }
 
 // Cells found: in one row, two rows, three rows and on large panels.

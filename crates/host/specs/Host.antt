@@ -1,7 +1,7 @@
 -- What the C host gets: a call's answer as one number, which can be taken apart again (proofs/Packing.antt).
 use Prim.Native.Nat.{ℕ, _+_, _*_, _/_, _%_, _^_}
 use Rattle.grid.specs.declared.Panel.{Panel}
-use Rattle.grid.specs.declared.Cell.{Cell}
+pub use Rattle.grid.specs.Panel.{cell}
 use Rattle.bound.specs.declared.Bounded.{Bounded}
 use Rattle.bound.specs.Bound.{numberOf, classOf, countOf}
 use Rattle.draw.specs.declared.DrawAnswer.{DrawAnswer}
@@ -23,12 +23,9 @@ classIn k = k / 2 ^ 24 % 2 ^ 8
 abbrev pub countIn : ℕ → ℕ
 countIn k = k % 2 ^ 24
 
--- the six numbers of an order
+-- a panel by two of an order's six numbers; a cell by two others is `cell`
 abbrev pub panel : ℕ → ℕ → Panel
 panel m n = record { width = m; height = n }
-
-abbrev pub cell : ℕ → ℕ → Cell
-cell x y = record { x = x; y = y }
 
 -- the answers of the calls, packed; only Bound has a class
 abbrev pub packedBound : Bounded → ℕ

@@ -83,8 +83,7 @@ pub extern "C" fn foil_draw(
     ty: u32,
     buffer: &mut [u8],
 ) -> u64
-    ensures told { λ r. ⌜ r ≡ packedDraw (drawOf (panel m n) (cell sx sy) (cell tx ty) (length (now (buffer .entry)))) ⌝ }
-    ensures left { λ _. ⌜ Leaves (panel m n) (cell sx sy) (cell tx ty) (now (buffer .entry)) (now (buffer .exit)) (drawOf (panel m n) (cell sx sy) (cell tx ty) (length (now (buffer .entry)))) ⌝ }
+    ensures { λ r. ⌜ (r ≡ packedDraw (drawOf (panel m n) (cell sx sy) (cell tx ty) (length (now (buffer .entry))))) × Leaves (panel m n) (cell sx sy) (cell tx ty) (now (buffer .entry)) (now (buffer .exit)) (drawOf (panel m n) (cell sx sy) (cell tx ty) (length (now (buffer .entry)))) ⌝ }
 {
     let o = order_of(m, n, sx, sy, tx, ty);
     let a = draw::draw(o.panel, o.entry, o.exit, buffer);
@@ -103,8 +102,7 @@ pub extern "C" fn foil_judge(
     list: &[u8],
     scratch: &mut [u8],
 ) -> u64
-    ensures told { λ r. ⌜ r ≡ packedJudge (judgeOf (panel m n) (cell sx sy) (cell tx ty) (now (list .entry)) (length (now (scratch .entry)))) ⌝ }
-    ensures left { λ _. ⌜ now (scratch .exit) ≡ scratchAfter (panel m n) (cell sx sy) (cell tx ty) (now (list .entry)) (now (scratch .entry)) ⌝ }
+    ensures { λ r. ⌜ (r ≡ packedJudge (judgeOf (panel m n) (cell sx sy) (cell tx ty) (now (list .entry)) (length (now (scratch .entry))))) × (now (scratch .exit) ≡ scratchAfter (panel m n) (cell sx sy) (cell tx ty) (now (list .entry)) (now (scratch .entry))) ⌝ }
 {
     let o = order_of(m, n, sx, sy, tx, ty);
     let j = judge::judge(o.panel, o.entry, o.exit, list, scratch);

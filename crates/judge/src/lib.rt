@@ -156,8 +156,7 @@ fn check_cells(p: Panel, entry: Cell, exit: Cell, list: &[u8], scratch: &mut [u8
 
 // Whether the list is a track from entry to exit, and how many cells it has.
 pub fn judge(p: Panel, entry: Cell, exit: Cell, list: &[u8], scratch: &mut [u8]) -> Judged
-    ensures told { λ r. ⌜ r ≡ judgeOf p entry exit (now (list .entry)) (length (now (scratch .entry))) ⌝ }
-    ensures left { λ _. ⌜ now (scratch .exit) ≡ scratchAfter p entry exit (now (list .entry)) (now (scratch .entry)) ⌝ }
+    ensures { λ r. ⌜ (r ≡ judgeOf p entry exit (now (list .entry)) (length (now (scratch .entry)))) × (now (scratch .exit) ≡ scratchAfter p entry exit (now (list .entry)) (now (scratch .entry))) ⌝ }
 {
     let sizes = check_sizes(p, entry, exit, list.len(), scratch.len());
     if let Check::Refused(r) = sizes {
