@@ -22,7 +22,7 @@ use Rattle.exit.specs.declared.ExitAnswer.the-variants as E
 use Rattle.exit.specs.declared.Search.{Search}
 use Rattle.exit.specs.declared.Search.the-variants.{At, Nothing}
 
--- the lists of k numbers from x on, one after the other
+-- the lists g x, g (x + 1), .., k of them, one behind the other
 abbrev pub run : (ℕ → List Cell) → ℕ → ℕ → List Cell
 run g x zero = []
 run g x (suc k) = g x ++ run g (suc x) k
