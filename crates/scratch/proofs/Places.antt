@@ -9,7 +9,7 @@ use Rattle.grid.specs.declared.Panel.{Panel}
 use Rattle.grid.specs.declared.Cell.{Cell}
 use Rattle.grid.specs.Panel.{area, OnPanel}
 use Rattle.grid.proofs.Facts.{cell-eq}
-use Rattle.judge.specs.List.{place}
+use Rattle.scratch.specs.Scratch.{place}
 
 -- a row and a column, from 0, as one number
 row-below : (m n r q : ℕ) → r < n → q < m → r * m + q < m * n
