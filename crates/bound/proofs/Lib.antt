@@ -1,3 +1,1 @@
-pub mod Tests
-pub mod Sizes
-pub mod Colours
+pub mod Answers

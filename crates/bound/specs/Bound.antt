@@ -1,28 +1,27 @@
--- Document 01, "Operations": Bound gives class and count, or refuses.
-use Prim.Native.Nat.{ℕ}
+-- Document 01, "Operations": Bound gives class and count, or refuses. A refusal gives 0 for all.
+use mathlib.Core.Path.{_≡_}
 use Rattle.grid.specs.declared.Panel.{Panel}
 use Rattle.grid.specs.declared.Cell.{Cell}
 use Rattle.grid.specs.Check.{checkOrder, answer}
 use Rattle.grid.specs.Refusal.{number}
-use Rattle.count.specs.Count.{classCount}
-use Rattle.bound.specs.declared.Bounded.{Bounded}
-use Rattle.bound.specs.declared.Bounded.the-variants.{Refused, Found}
+use Rattle.grid.specs.Answer.{refusalNumber, given}
+use Rattle.count.specs.Count.{classCount, class, count}
+use Rattle.bound.specs.declared.BoundAnswer.{BoundAnswer}
+use Rattle.bound.specs.declared.BoundAnswer.the-variants.{Refused, Given}
+use Rattle.bound.specs.declared.BoundValues.{BoundValues}
 
 -- refused, in order, 1 to 4; else class and count
-abbrev pub boundOf : Panel → Cell → Cell → Bounded
-boundOf p s t = answer (checkOrder p s t) Refused (Found (classCount p s t))
+abbrev pub boundOf : Panel → Cell → Cell → BoundAnswer
+boundOf p s t = answer (checkOrder p s t) Refused (Given (classCount p s t))
 
--- the refusal's number, 0 where nothing is refused
-abbrev pub numberOf : Bounded → ℕ
-numberOf (Refused r) = number r
-numberOf (Found f) = 0
+-- number, class and count of an answer
+abbrev pub boundValues : BoundAnswer → BoundValues
+boundValues (Refused r) = record { refusal = number r; class = 0; count = record { 0 = 0 } }
+boundValues (Given f) = record { refusal = 0; class = f .class; count = f .count }
 
--- the class, 0 where refused
-abbrev pub classOf : Bounded → ℕ
-classOf (Refused r) = 0
-classOf (Found f) = f .class
-
--- the count of cells, 0 where refused
-abbrev pub countOf : Bounded → ℕ
-countOf (Refused r) = 0
-countOf (Found f) = f .count .0
+-- what Bound promises
+pub record Bounds (p : Panel) (s t : Cell) (r : BoundAnswer) : Type 0 where
+  pub answers : r ≡ boundOf p s t
+  pub number : (boundValues r) .refusal ≡ refusalNumber (checkOrder p s t)
+  pub class : (boundValues r) .class ≡ given (checkOrder p s t) (class p s t)
+  pub count : (boundValues r) .count .0 ≡ given (checkOrder p s t) (count p s t)

@@ -2,27 +2,17 @@
 // numbers at the ends of their range. A line gives the order (panel, entry, exit) and, behind the
 // colon, the refusal's number (0: none), the class and the count.
 use grid::Cell;
-use grid::Panel;
 use trial::print::row;
 
 // The largest number of 32 bits.
 const MAX: u32 = 4294967295;
 
 fn answer(m: u32, n: u32, sx: u32, sy: u32, tx: u32, ty: u32) {
-    let panel = Panel {
-        width: m,
-        height: n,
-    };
-    let b = bound::bound(panel, Cell { x: sx, y: sy }, Cell { x: tx, y: ty });
+    let panel = grid::panel_of(m, n);
+    let a = bound::bound(panel, Cell { x: sx, y: sy }, Cell { x: tx, y: ty });
+    let v = bound::bound_values(a);
     row(&[m, n, sx, sy, tx, ty], b": ");
-    row(
-        &[
-            bound::number_of(b),
-            bound::class_of(b),
-            bound::count_of(b).0,
-        ],
-        b"\n",
-    );
+    row(&[v.refusal, v.class, v.count.0], b"\n");
 }
 
 // Document 01's table of orders.

@@ -13,17 +13,20 @@ use Rattle.grid.specs.Bytes.{bytes}
 use Rattle.grid.proofs.Facts.{beside-sym, dist-sym}
 use Rattle.grid.proofs.Bytes.{bytes-append, length-bytes}
 use Rattle.grid.proofs.Track.{join, widen}
-use Rattle.corner.specs.Corner.{Inside, trackCount}
-use Rattle.corner.specs.Line.{area, sweepEnd}
+use Rattle.line.specs.Rectangle.{Inside, cellsBetween, sweepEnd}
+use Rattle.line.specs.Drawn.{InBytes, Drawn}
+use Rattle.line.proofs.Frame.{first-inside, last-inside, inside-part, in-bytes}
+use Rattle.line.proofs.Drawn.{part-written, part-long}
+use Rattle.corner.specs.declared.Peeled.{Peeled}
+use Rattle.corner.specs.Corner.{trackCount}
 use Rattle.corner.specs.Peel.{Peel}
-use Rattle.corner.specs.Drawn.{Small, Ready, Drawn}
-use Rattle.corner.proofs.First.{Only, small-inside}
-use Rattle.corner.proofs.Drawn.{part-written, part-long, first-inside, last-inside, inside-part}
+use Rattle.corner.specs.Drawn.{Ready}
+use Rattle.corner.proofs.First.{Only}
 
 -- the lines before the rectangle of a' and b' stand backwards behind the first `at` bytes, which are left for what remains
 pub record Ended (a b t : Cell) (old : List ℕ) (a' b' : Cell) (at : ℕ) (new : List ℕ) : Type 0 where
-  pub corner : Small a'
-  pub opposite : Small b'
+  pub corner : InBytes a'
+  pub opposite : InBytes b'
   pub target : Inside a' b' t
   pub cells : List Cell
   pub size : at ≡ 2 * trackCount a' b' t
@@ -34,9 +37,9 @@ pub record Ended (a b t : Cell) (old : List ℕ) (a' b' : Cell) (at : ℕ) (new 
 pub put-back : (p q : ℕ) → q ≤ p → p - q + q ≡ p
 put-back p q h = omega arith
 
-area-sym : (a c : Cell) → area a c ≡ area c a
-unfolding area
-area-sym a c = λ i. (dist-sym (a .x) (c .x) i + 1) * (dist-sym (a .y) (c .y) i + 1)
+between-same : (a c : Cell) → cellsBetween a c ≡ cellsBetween c a
+unfolding cellsBetween
+between-same a c = λ i. (dist-sym (a .x) (c .x) i + 1) * (dist-sym (a .y) (c .y) i + 1)
 
 -- nothing drawn yet
 pub ended : {a b t : Cell} {old : List ℕ} {k : ℕ} → Ready a b t old → k ≡ trackCount a b t → Ended a b t old a b (2 * k) old
@@ -75,67 +78,74 @@ module _ {a b t : Cell} {old : List ℕ} (ready : Ready a b t old) {a' b' : Cell
       ∙ ap (λ (r : List ℕ). r ++ drop (2 * trackCount a b t) old) (sym (bytes-append l (d .cells)))
 
   -- the next lines go before the lines so far
-  pub line-start : {row : Bool} {f c g a'' b'' : Cell} {n : ℕ} → Peel a' b' t row f c g a'' b'' n → 2 * n ≤ at
+  pub line-start : {r : Peeled} → Peel a' b' t r → 2 * r .cells .0 ≤ at
   line-start p = omega (arith, d .size, p .counts)
 
   pub fits : at ≤ length new
   fits = omega (arith, room, long)
 
-  -- the lines from c back to a' at `from`
-  pub ask-lines : {row : Bool} {f c g a'' b'' : Cell} {n : ℕ} (from : ℕ) → Peel a' b' t row f c g a'' b'' n → from + 2 * n ≡ at
-      → Small c × (Small g × (2 * area c g ≤ length (take (length new - from) (drop from new))))
-  ask-lines {c = c} {g = g} from p e = (
-    part-small (first-inside c g),
+  -- the lines from their end back to a' at `from`
+  pub ask-lines : {r : Peeled} (from : ℕ) → Peel a' b' t r → from + 2 * r .cells .0 ≡ at
+      → InBytes (r .end) × (InBytes (r .home) × (2 * cellsBetween (r .end) (r .home) ≤ length (take (length new - from) (drop from new))))
+  ask-lines {r} from p e = (
+    part-small (first-inside _ _),
     (
-      part-small (last-inside c g),
+      part-small (last-inside _ _),
       omega (arith, part-long new from (omega (arith, fits)), fits, p .size-back),
     ),
   )
     where
-      part-small : {z : Cell} → Inside c g z → Small z
-      part-small i = small-inside (d .corner) (d .opposite) (p .lines _ (p .same _ i))
+      part-small : {z : Cell} → Inside (r .end) (r .home) z → InBytes z
+      part-small i = in-bytes (d .corner) (d .opposite) (p .lines _ (p .same _ i))
 
-  pub step : {row : Bool} {f c g a'' b'' : Cell} {n from : ℕ} {part : List ℕ} → Peel a' b' t row f c g a'' b'' n → from + 2 * n ≡ at
-      → Drawn (Inside c g) c (sweepEnd row c g) (area c g) (take (length new - from) (drop from new)) part → Ended a b t old a'' b'' from (putMid from (length new - from) new part)
-  step {row} {f} {c} {g} {a''} {b''} {n} {from} {part} p q e =
-      let l : from ≤ at = omega arith in
-      let w : from + 2 * area c g ≡ at = omega (arith, p .size-back) in
-      let back : TrackIn (Inside c g) c a' (e .cells) = subst (λ (z : Cell). TrackIn (Inside c g) c z (e .cells)) (sym (p .end-back)) (e .track) in
+  pub step : {r : Peeled} {from : ℕ} {part : List ℕ} → Peel a' b' t r → from + 2 * r .cells .0 ≡ at
+      → Drawn (Inside (r .end) (r .home)) (r .end) (sweepEnd (r .row) (r .end) (r .home)) (cellsBetween (r .end) (r .home))
+      (take (length new - from) (drop from new)) part
+      → Ended a b t old (r .corner) (r .opposite) from (putMid from (length new - from) new part)
+  step {r} {from} {part} p q e =
+      let n = cellsBetween (r .end) (r .home) in
+      let w : from + 2 * n ≡ at = omega (arith, p .size-back) in
       record {
-        corner = small-inside (d .corner) (d .opposite) (p .rest a'' (first-inside a'' b''));
-        opposite = small-inside (d .corner) (d .opposite) (p .rest b'' (last-inside a'' b''));
+        corner = in-bytes (d .corner) (d .opposite) (p .rest _ (first-inside _ _));
+        opposite = in-bytes (d .corner) (d .opposite) (p .rest _ (last-inside _ _));
         target = p .target;
         cells = e .cells ++ d .cells;
         size = omega (arith, d .size, p .counts);
         counts = omega (arith, length-append (e .cells) (d .cells), d .counts, p .counts, e .size, p .size-back);
         written =
-            part-written new part from (area c g) (e .cells) (omega (arith, fits)) (e .written)
-            ∙ (λ i. front l i ++ (bytes (e .cells) ++ drop (w i) new))
+            part-written new part from n (e .cells) (omega (arith, fits)) (e .written)
+            ∙ (λ i. front (omega arith) i ++ (bytes (e .cells) ++ drop (w i) new))
             ∙ ap (λ (r : List ℕ). take from old ++ r) (joined (e .cells));
-        whole = λ m x. subst (TrackIn (Inside a b) t a) (append-assoc m (e .cells) (d .cells))
-            (d .whole (m ++ e .cells) (join (p .rest) (λ z i. p .lines z (p .same z i)) (λ z i j. p .apart z (p .same z j) i) x (beside-sym (p .beside)) back));
+        whole = λ m x. subst (TrackIn (Inside a b) t a) (append-assoc m (e .cells) (d .cells)) (d .whole (m ++ e .cells) (longer x));
       }
     where
       front : from ≤ at → take from new ≡ take from old
       front l = ap (take from) (d .written) ∙ take-append-le from (take at old) _ (omega (arith, front-long)) ∙ take-take from at old l
 
+      lines-back : TrackIn (Inside (r .end) (r .home)) (r .end) a' (e .cells)
+      lines-back = subst (λ (z : Cell). TrackIn (Inside (r .end) (r .home)) (r .end) z (e .cells)) (sym (p .end-back)) (e .track)
+
+      longer : {m : List Cell} → TrackIn (Inside (r .corner) (r .opposite)) t (r .corner) m → TrackIn (Inside a' b') t a' (m ++ e .cells)
+      longer x = join (p .rest) (λ z i. p .lines z (p .same z i)) (λ z i j. p .apart z (p .same z j) i) x (beside-sym (p .beside)) lines-back
+
   -- the last line, at the front
-  pub ask-last : {row : Bool} → Only a' b' t row → Small t × (Small a' × (2 * area t a' ≤ length new))
+  pub ask-last : {row : Bool} → Only a' b' t row → InBytes t × (InBytes a' × (2 * cellsBetween t a' ≤ length new))
   ask-last o = (
-    small-inside (d .corner) (d .opposite) (d .target),
+    in-bytes (d .corner) (d .opposite) (d .target),
     (
       d .corner,
-      omega (arith, fits, d .size, o .counts, area-sym a' t),
+      omega (arith, fits, d .size, o .counts, between-same a' t),
     ),
   )
 
   pub finish : {row : Bool} {last : List ℕ} → Only a' b' t row
-      → Drawn (Inside t a') t (sweepEnd row t a') (area t a') new last → Drawn (Inside a b) t a (trackCount a b t) old last
+      → Drawn (Inside t a') t (sweepEnd row t a') (cellsBetween t a') new last → Drawn (Inside a b) t a (trackCount a b t) old last
   finish o e =
-      let v : 2 * area t a' ≡ at = omega (arith, d .size, o .counts, area-sym a' t) in
+      let v : 2 * cellsBetween t a' ≡ at = omega (arith, d .size, o .counts, between-same a' t) in
+      let line = widen (λ c i. inside-part (d .target) (first-inside a' b') i) (e .track) in
       record {
         cells = e .cells ++ d .cells;
         size = omega (arith, length-append (e .cells) (d .cells), d .size, d .counts, e .size);
-        track = d .whole (e .cells) (subst (λ (z : Cell). TrackIn (Inside a' b') t z (e .cells)) (o .end-back) (widen (λ c i. inside-part (d .target) (first-inside a' b') i) (e .track)));
+        track = d .whole (e .cells) (subst (λ (z : Cell). TrackIn (Inside a' b') t z (e .cells)) (o .end-back) line);
         written = e .written ∙ ap (λ (i : ℕ). bytes (e .cells) ++ drop i new) v ∙ joined (e .cells);
       }

@@ -10,7 +10,7 @@ use borrow.Author.Tests.{eq-eqb, ne-eqb}
 use Rattle.grid.proofs.Tests.{cond-yes, cond-no}
 use Rattle.corner.specs.Corner.{cornerCount}
 use Rattle.corner.specs.Peel.{Open, Turned, First}
-use Rattle.corner.proofs.Between.{by-eq, by-le}
+use Rattle.line.proofs.Between.{by-eq, by-le}
 
 -- ---- the count, case by case
 
@@ -64,7 +64,8 @@ same-parity p w dx ex dy l e =
     omega arith
 
 -- when the row from the corner may go first
-row-right : (w h dx dy : ℕ) → dx < w → dy < h → 1 ≤ dy → (h ≡ 2 → dx ≤ 1) → (h ≢ 2 → w ≢ 1 → w + dy ≢ dx + 2) → First 1 w h dx dy
+row-right : (w h dx dy : ℕ) → dx < w → dy < h → 1 ≤ dy → (h ≡ 2 → dx ≤ 1) → (h ≢ 2 → w ≢ 1 → w + dy ≢ dx + 2)
+    → First 1 w h dx dy
 row-right w h dx dy x y l two many = record {
   some = omega arith;
   far = l;
@@ -78,7 +79,8 @@ row-right w h dx dy x y l two many = record {
     thin : (k ex ey : ℕ) → h ≡ k + 1 → dx + ex + 1 ≡ w → dy ≡ ey + 1 → w ≡ 1 → cornerCount w h dx dy ≡ w + cornerCount w k ex ey
     thin k ex ey f g d e = let r = count-thin w k ex ey e (omega arith) (omega arith) in count-thin w h dx dy e (omega arith) y ∙ omega arith
 
-    flat : (k ex ey : ℕ) → h ≡ k + 1 → dx + ex + 1 ≡ w → dy ≡ ey + 1 → w ≢ 1 → h ≡ 2 → cornerCount w h dx dy ≡ w + cornerCount w k ex ey
+    flat : (k ex ey : ℕ) → h ≡ k + 1 → dx + ex + 1 ≡ w → dy ≡ ey + 1 → w ≢ 1 → h ≡ 2
+        → cornerCount w h dx dy ≡ w + cornerCount w k ex ey
     flat k ex ey f g d e z =
         let r = count-flat w k ex ey (omega arith) in
         let s = count-full w h dx dy (omega arith) e (omega arith) in
@@ -86,7 +88,8 @@ row-right w h dx dy x y l two many = record {
         let q = two z in
         omega arith
 
-    full : (k ex ey : ℕ) → h ≡ k + 1 → dx + ex + 1 ≡ w → dy ≡ ey + 1 → w ≢ 1 → h ≢ 2 → cornerCount w h dx dy ≡ w + cornerCount w k ex ey
+    full : (k ex ey : ℕ) → h ≡ k + 1 → dx + ex + 1 ≡ w → dy ≡ ey + 1 → w ≢ 1 → h ≢ 2
+        → cornerCount w h dx dy ≡ w + cornerCount w k ex ey
     full k ex ey f g d e z =
         let p : w * h ≡ w * k + w = ap (λ (i : ℕ). w * i) (f ∙ add-one k) ∙ mul-suc w k in
         let o : 0 < w * k = mul-pos (omega arith) (omega arith) in
@@ -140,15 +143,24 @@ rows-right k w h dx dy v some e y = record { some = some; far = omega arith; cou
 pub line-right : (w h dx dy : ℕ) → dx < w → dy < h → 1 ≤ dx + dy → First 1 w h dx dy ⊎ First 1 h w dy dx
 line-right w h dx dy x y z =
     by-eq dy 0
-    (λ a. inr (row-right h w dy dx y x (omega arith) (λ u. omega arith) (λ u v. omega arith)))
+    (λ a. column (omega arith) (λ u. omega arith) (λ u v. omega arith))
     (λ a. by-le dy 1
     (λ b. by-eq h 2
-    (λ c. by-le dx 1 (λ d. inl (row-right w h dx dy x y (omega arith) (λ u. omega arith) (λ u v. omega arith))) (λ d. inr (row-right h w dy dx y x (omega arith) (λ u. omega arith) (λ u v. omega arith))))
-    (λ c. by-eq (dx + 1) w (λ d. far (omega arith) d) (λ d. inl (row-right w h dx dy x y (omega arith) (λ u. omega arith) (λ u v. omega arith)))))
-    (λ b. inl (row-right w h dx dy x y (omega arith) (λ u. omega arith) (λ u v. omega arith))))
+    (λ c. by-le dx 1 (λ d. row (omega arith) (λ u. d) (λ u v. omega arith)) (λ d. column (omega arith) (λ u. omega arith) (λ u v. omega arith)))
+    (λ c. by-eq (dx + 1) w (λ d. far (omega arith) d) (λ d. row (omega arith) (λ u. omega arith) (λ u v. omega arith))))
+    (λ b. row (omega arith) (λ u. omega arith) (λ u v. omega arith)))
   where
+    row : 1 ≤ dy → (h ≡ 2 → dx ≤ 1) → (h ≢ 2 → w ≢ 1 → w + dy ≢ dx + 2) → First 1 w h dx dy ⊎ First 1 h w dy dx
+    row l two many = inl (row-right w h dx dy x y l two many)
+
+    column : 1 ≤ dx → (w ≡ 2 → dy ≤ 1) → (w ≢ 2 → h ≢ 1 → h + dx ≢ dy + 2) → First 1 w h dx dy ⊎ First 1 h w dy dx
+    column l two many = inr (row-right h w dy dx y x l two many)
+
     far : dy ≡ 1 → dx + 1 ≡ w → First 1 w h dx dy ⊎ First 1 h w dy dx
-    far b d = by-eq dx 0 (λ e. inl (row-right w h dx dy x y (omega arith) (λ u. omega arith) (λ u v. omega arith))) (λ e. inr (row-right h w dy dx y x (omega arith) (λ u. omega arith) (λ u v. omega arith)))
+    far b d =
+        by-eq dx 0
+        (λ e. row (omega arith) (λ u. omega arith) (λ u v. omega arith))
+        (λ e. column (omega arith) (λ u. omega arith) (λ u v. omega arith))
 
 -- the choice as the code makes it
 module _ {w h dx dy : ℕ} (o : Open w h dx dy) where

@@ -1,109 +1,40 @@
 -- The first lines of a corner track and the rectangle that remains: both lie in the whole, have no cell in common, and touch where the ones end
--- and the other begins. Rows and columns are one law: a `Frame` says where the p-th cell of the q-th line lies.
-use Prim.Native.Nat.{ℕ, suc, _+_, _-_, _*_, _%_, _≤_, _<_}
-use mathlib.Core.Path.{_≡_, refl, sym, ap, _∙_, subst, subst⁻¹, subst₂}
+-- and the other begins. Rows and columns are one law, over `Frame`.
+use Prim.Native.Nat.{ℕ, _+_, _-_, _*_, _%_, _≤_}
+use mathlib.Core.Path.{_≡_, refl, sym, ap, _∙_, subst, subst₂}
 use mathlib.Core.Logic.{_≢_, _⊎_, inl, inr, ⊎-elim}
-use mathlib.Core.Bool.{Bool, true, false, _||_, cond}
+use mathlib.Core.Bool.{Bool, true, false, not, _||_}
 use native.Mathlib.Omega.{arith}
-use native.Mathlib.Nat.{add-comm, mul-comm, mul-le-mul}
-use Rattle.grid.specs.declared.Cell.{Cell}
-use Rattle.grid.specs.Panel.{dist, apart, Neighbours}
+use native.Mathlib.Nat.{mul-le-mul}
 use lib.Dec.{eqb}
 use borrow.Author.Tests.{eqb-true, eqb-false, eq-eqb, ne-eqb}
-use Rattle.grid.proofs.Facts.{cell-eq, dist-sym, ne-cases, same-ne, same-eq}
-use Rattle.corner.specs.Corner.{Inside, cornerCount, trackCount, turning}
-use Rattle.corner.specs.Line.{area, sweepEnd}
-use Rattle.corner.specs.Peel.{Open, Turned, First, Chosen, Sides, Numbers, Peel, oneLine}
-use Rattle.corner.specs.Drawn.{Small}
-use Rattle.corner.proofs.Between.{Between, between, least, most, between-sym, parts, dist-zero, dist-up, dist-down, by-le, by-eq, Cut, cut}
-use Rattle.corner.proofs.Count.{line-right, count-turned, count-thin, count-flat, count-here, count-full}
-
--- ---- rectangles, coordinate by coordinate
-
-pub inside-x : {a b c : Cell} → Inside a b c → Between (a .x) (b .x) (c .x)
-inside-x i = between _ _ _ (i .left) (i .right)
-
-pub inside-y : {a b c : Cell} → Inside a b c → Between (a .y) (b .y) (c .y)
-inside-y i = between _ _ _ (i .top) (i .bottom)
-
-pub inside : {a b c : Cell} → Between (a .x) (b .x) (c .x) → Between (a .y) (b .y) (c .y) → Inside a b c
-inside p q = record { left = least p; right = most p; top = least q; bottom = most q }
-
-dist-less : {p q r : ℕ} → Between p q r → dist p r < dist p q + 1
-dist-less b = omega (arith, parts b)
-
-at-once : {p r : ℕ} → Between p p r → r ≡ p
-at-once (Between.up l h) = omega arith
-at-once (Between.down l h) = omega arith
-
--- ---- rows and columns
-
--- E p q is the p-th cell of the q-th line
-pub record Frame (row : Bool) (E : ℕ → ℕ → Cell) : Type 0 where
-  pub along : Cell → ℕ
-  pub over : Cell → ℕ
-  pub inside : {p q p' q' : ℕ} {c : Cell} → Between p p' (along c) → Between q q' (over c) → Inside (E p q) (E p' q') c
-  pub inside-along : {p q p' q' : ℕ} {c : Cell} → Inside (E p q) (E p' q') c → Between p p' (along c)
-  pub inside-over : {p q p' q' : ℕ} {c : Cell} → Inside (E p q) (E p' q') c → Between q q' (over c)
-  pub beside : (p q s : ℕ) → dist q s ≡ 1 → Neighbours (E p q) (E p s)
-  pub sides : (p q p' q' : ℕ) → dist (E p q .x) (E p' q' .x) + dist (E p q .y) (E p' q' .y) ≡ dist p p' + dist q q'
-  pub size : (p q p' q' : ℕ) → area (E p q) (E p' q') ≡ (dist p p' + 1) * (dist q q' + 1)
-  pub end : (p q p' q' : ℕ) → sweepEnd row (E p q) (E p' q') ≡ E (turning (dist q q' + 1) p p') q'
-  pub count : (p q p' q' : ℕ) {t : Cell} → Inside (E p q) (E p' q') t → trackCount (E p q) (E p' q') t ≡ cornerCount (dist p p' + 1) (dist q q' + 1) (dist p (along t)) (dist q (over t))
-
-pub in-rows : Frame true (λ p q. record { x = p; y = q })
-unfolding apart area sweepEnd trackCount
-in-rows = record {
-  along = λ c. c .x;
-  over = λ c. c .y;
-  inside = inside;
-  inside-along = inside-x;
-  inside-over = inside-y;
-  beside = λ p q s h. record { one = (λ i. dist-zero p i + h i) };
-  sides = λ p q p' q'. refl;
-  size = λ p q p' q'. refl;
-  end = λ p q p' q'. refl;
-  count = λ p q p' q' i. refl;
-}
-
-pub in-columns : Frame false (λ p q. record { x = q; y = p })
-unfolding apart area sweepEnd trackCount
-in-columns = record {
-  along = λ c. c .y;
-  over = λ c. c .x;
-  inside = λ i j. inside j i;
-  inside-along = inside-y;
-  inside-over = inside-x;
-  beside = λ p q s h. record { one = (λ i. h i + dist-zero p i) };
-  sides = λ p q p' q'. add-comm (dist q q') (dist p p');
-  size = λ p q p' q'. mul-comm (dist q q' + 1) (dist p p' + 1);
-  end = λ p q p' q'. refl;
-  count = λ p q p' q' i. count-turned _ _ _ _ (dist-less (inside-x i)) (dist-less (inside-y i));
-}
+use Rattle.grid.specs.declared.Cell.{Cell}
+use Rattle.grid.specs.Panel.{cell, dist}
+use Rattle.grid.proofs.Tests.{both-branches}
+use Rattle.grid.proofs.Facts.{clash, or-cases, dist-sym, ne-cases, same-ne, same-eq}
+use Rattle.line.specs.Rectangle.{Inside, cellsBetween, ahead, turning, sweepEnd}
+use Rattle.line.specs.Drawn.{InBytes}
+use Rattle.line.proofs.Between.{Between, between-sym, parts, dist-same, dist-ne, dist-less, dist-small, at-once, by-eq, Cut, cut}
+use Rattle.line.proofs.Frame.{Frame, in-rows, in-columns, inside-x, inside-y, in-bytes, turning-even, turning-odd, sweep-row, sweep-column}
+use Rattle.line.proofs.Sweep.{row-bytes, column-bytes}
+use Rattle.corner.specs.declared.Peeled.{Peeled}
+use Rattle.corner.specs.declared.Sizes.{Sizes}
+use Rattle.corner.specs.Corner.{cornerCount, trackCount}
+use Rattle.corner.specs.Peel.{oneLine, Measured, Open, Turned, First, Chosen, Sides, FirstSides, firstLines, Peel}
+use Rattle.corner.proofs.Count.{line-right, count-turned, count-thin, count-flat, count-here}
 
 -- ---- there and back
 
 -- k lines there and back from p end at x, and o is the other side
-pub data Ends (k p p' x o : ℕ) : Type 0 where
+data Ends (k p p' x o : ℕ) : Type 0 where
   even : k % 2 ≡ 0 → x ≡ p → o ≡ p' → Ends k p p' x o
   odd : k % 2 ≡ 1 → x ≡ p' → o ≡ p → Ends k p p' x o
 
-turning-even : (k p q : ℕ) → k % 2 ≡ 0 → turning k p q ≡ p
-unfolding turning
-turning-even k p q e = ap (λ (b : Bool). cond b p q) (eq-eqb _ _ e)
-
-turning-odd : (k p q : ℕ) → k % 2 ≢ 0 → turning k p q ≡ q
-unfolding turning
-turning-odd k p q e = ap (λ (b : Bool). cond b p q) (ne-eqb _ _ e)
-
-pub turning-once : (p q : ℕ) → turning 1 p q ≡ q
-turning-once p q = turning-odd 1 p q (omega arith)
-
-pub turning-next : (k p q : ℕ) → turning (suc k) p q ≡ turning k q p
-turning-next k p q = by-eq (k % 2) 0 (λ e. turning-odd (suc k) p q (omega arith) ∙ sym (turning-even k q p e)) (λ e. turning-even (suc k) p q (omega arith) ∙ sym (turning-odd k q p e))
-
-pub ends : (k p p' : ℕ) → Ends k p p' (turning k p p') (turning k p' p)
-ends k p p' = by-eq (k % 2) 0 (λ e. Ends.even e (turning-even k p p' e) (turning-even k p' p e)) (λ e. Ends.odd (omega arith) (turning-odd k p p' e) (turning-odd k p' p e))
+ends : (k p p' : ℕ) → Ends k p p' (turning k p p') (turning k p' p)
+ends k p p' =
+    by-eq (k % 2) 0
+    (λ e. Ends.even e (turning-even k p p' e) (turning-even k p' p e))
+    (λ e. Ends.odd (omega arith) (turning-odd k p p' e) (turning-odd k p' p e))
 
 ends-here : {k p p' x o : ℕ} → Ends k p p' x o → x ≡ turning k p p'
 ends-here {k} {p} {p'} (Ends.even e f g) = f ∙ sym (turning-even k p p' e)
@@ -133,19 +64,47 @@ ends-turned {p = p} {p' = p'} {r = r} (Ends.odd e f g) b = let d = ap (λ (i : �
 
 -- ---- the first lines and what remains
 
-module _ {row : Bool} {E : ℕ → ℕ → Cell} (F : Frame row E) {p q p' q' k x o l m : ℕ} {t : Cell} (e : Ends k p p' x o) (u : Cut q q' k l m)
+-- the count by lines
+record Counted {row : Bool} {E : ℕ → ℕ → Cell} (F : Frame row E) : Type 0 where
+  count : (p q p' q' : ℕ) {t : Cell} → Inside (E p q) (E p' q') t
+      → trackCount (E p q) (E p' q') t ≡ cornerCount (dist p p' + 1) (dist q q' + 1) (dist p (F .along t)) (dist q (F .over t))
+
+counted-rows : Counted in-rows
+unfolding in-rows trackCount
+counted-rows = record { count = λ p q p' q' i. refl }
+
+counted-columns : Counted in-columns
+unfolding in-columns trackCount
+counted-columns = record { count = λ p q p' q' i. count-turned _ _ _ _ (dist-less (inside-x i)) (dist-less (inside-y i)) }
+
+-- k lines, each from p to p', off the lines q to q': they end at x in line l; o is the other side, m the next line, and n the number of their cells
+pub record Numbers (p q p' q' k x o l m n : ℕ) : Type 0 where
+  pub end : x ≡ turning k p p'
+  pub other : o ≡ turning k p' p
+  pub last : l ≡ ahead q q' (k - 1)
+  pub next : m ≡ ahead q q' k
+  pub cells : n ≡ (dist p p' + 1) * k
+
+-- the lines by these numbers
+abbrev pub off : Bool → (ℕ → ℕ → Cell) → (q p' q' x o l m n : ℕ) → Peeled
+off row E q p' q' x o l m n =
+    record { row = row; far = E p' l; end = E x l; home = E o q; cells = record { 0 = n }; corner = E x m; opposite = E o q' }
+
+module _ {row : Bool} {E : ℕ → ℕ → Cell} {F : Frame row E} (C : Counted F) {p q p' q' k x o l m : ℕ} {t : Cell} (e : Ends k p p' x o) (u : Cut q q' k l m)
     (i : Inside (E p q) (E p' q') t) (r : First k (dist p p' + 1) (dist q q' + 1) (dist p (F .along t)) (dist q (F .over t))) where
   rest-target : Inside (E x m) (E o q') t
   rest-target = F .inside (ends-to e (F .inside-along i)) (u .rest _ (F .inside-over i) (r .far) .0)
 
   rest-counts : trackCount (E p q) (E p' q') t ≡ (dist p p' + 1) * k + trackCount (E x m) (E o q') t
   rest-counts =
-      F .count p q p' q' i
-      ∙ r .counts (dist m q' + 1) (dist x (F .along t)) (dist m (F .over t)) (let z = u .left in omega arith) (ends-turned e (F .inside-along i)) (sym (u .rest _ (F .inside-over i) (r .far) .1))
-      ∙ ap (λ (n : ℕ). (dist p p' + 1) * k + cornerCount (n + 1) (dist m q' + 1) (dist x (F .along t)) (dist m (F .over t))) (sym (ends-dist e))
-      ∙ ap (λ (n : ℕ). (dist p p' + 1) * k + n) (sym (F .count x m o q' rest-target))
+      let ex = dist x (F .along t) in
+      let ey = dist m (F .over t) in
+      C .count p q p' q' i
+      ∙ r .counts (dist m q' + 1) ex ey (let z = u .left in omega arith) (ends-turned e (F .inside-along i)) (sym (u .rest _ (F .inside-over i) (r .far) .1))
+      ∙ ap (λ (n : ℕ). (dist p p' + 1) * k + cornerCount (n + 1) (dist m q' + 1) ex ey) (sym (ends-dist e))
+      ∙ ap (λ (n : ℕ). (dist p p' + 1) * k + n) (sym (C .count x m o q' rest-target))
 
-  peeled : {n : ℕ} → n ≡ (dist p p' + 1) * k → Peel (E p q) (E p' q') t row (E p' l) (E x l) (E o q) (E x m) (E o q') n
+  peeled : {n : ℕ} → n ≡ (dist p p' + 1) * k → Peel (E p q) (E p' q') t (off row E q p' q' x o l m n)
   peeled {n} g = record {
     size = g ∙ ap (λ (j : ℕ). (dist p p' + 1) * j) (sym (u .size)) ∙ sym (F .size p q p' l);
     end = ap (λ (j : ℕ). E j l) (ends-here e) ∙ ap (λ (j : ℕ). E (turning j p p') l) (sym (u .size)) ∙ sym (F .end p q p' l);
@@ -164,203 +123,191 @@ module _ {row : Bool} {E : ℕ → ℕ → Cell} (F : Frame row E) {p q p' q' k 
       back : dist l q + 1 ≡ k
       back = ap (λ (j : ℕ). j + 1) (dist-sym l q) ∙ u .size
 
--- by the numbers that the code computes
-taken-off : {row : Bool} {E : ℕ → ℕ → Cell} (F : Frame row E) (p q p' q' : ℕ) (t : Cell) → Inside (E p q) (E p' q') t → {k x o l m n : ℕ}
-    → First k (dist p p' + 1) (dist q q' + 1) (dist p (F .along t)) (dist q (F .over t)) → Numbers p q p' q' k x o l m n
-    → Peel (E p q) (E p' q') t row (E p' l) (E x l) (E o q) (E x m) (E o q') n
-taken-off F p q p' q' t i {k} r n =
-    peeled F
+taken-off : {row : Bool} {E : ℕ → ℕ → Cell} {F : Frame row E} → Counted F → (p q p' q' : ℕ) (t : Cell) → Inside (E p q) (E p' q') t
+    → {k x o l m n : ℕ} → First k (dist p p' + 1) (dist q q' + 1) (dist p (F .along t)) (dist q (F .over t)) → Numbers p q p' q' k x o l m n
+    → Peel (E p q) (E p' q') t (off row E q p' q' x o l m n)
+taken-off {F = F} C p q p' q' t i {k} r n =
+    let far : k ≤ dist q q' = omega (arith, parts (F .inside-over i), r .far) in
+    peeled C
     (subst₂ (λ (x o : ℕ). Ends k p p' x o) (sym (n .end)) (sym (n .other)) (ends k p p'))
-    (subst₂ (λ (l m : ℕ). Cut q q' k l m) (sym (n .last)) (sym (n .next)) (cut q q' k (r .some) (omega (arith, parts (F .inside-over i), r .far))))
+    (subst₂ (λ (l m : ℕ). Cut q q' k l m) (sym (n .last)) (sym (n .next)) (cut q q' k (r .some) far))
     i r (n .cells)
 
--- rows and columns
-module _ (a b t : Cell) (i : Inside a b t) where
-  pub rows-taken : {k x o l m n : ℕ} → First k (dist (a .x) (b .x) + 1) (dist (a .y) (b .y) + 1) (dist (a .x) (t .x)) (dist (a .y) (t .y))
-      → Numbers (a .x) (a .y) (b .x) (b .y) k x o l m n → Peel a b t true (record { x = b .x; y = l }) (record { x = x; y = l }) (record { x = o; y = a .y }) (record { x = x; y = m }) (record { x = o; y = b .y }) n
-  unfolding in-rows
-  rows-taken = taken-off in-rows (a .x) (a .y) (b .x) (b .y) t i
+-- the first k rows, or else columns, of the rectangle of a and b may go first
+pub record MayGo (row : Bool) (k : ℕ) (a b t : Cell) : Type 0 where
+  pub chosen : Chosen row k (dist (a .x) (b .x) + 1) (dist (a .y) (b .y) + 1) (dist (a .x) (t .x)) (dist (a .y) (t .y))
 
-  pub columns-taken : {k x o l m n : ℕ} → First k (dist (a .y) (b .y) + 1) (dist (a .x) (b .x) + 1) (dist (a .y) (t .y)) (dist (a .x) (t .x))
-      → Numbers (a .y) (a .x) (b .y) (b .x) k x o l m n → Peel a b t false (record { x = l; y = b .y }) (record { x = l; y = x }) (record { x = a .x; y = o }) (record { x = m; y = x }) (record { x = b .x; y = o }) n
+exact : (p q p' q' k : ℕ) → Numbers p q p' q' k (turning k p p') (turning k p' p) (ahead q q' (k - 1)) (ahead q q' k) ((dist p p' + 1) * k)
+exact p q p' q' k = record { end = refl; other = refl; last = refl; next = refl; cells = refl }
+
+module _ (a b t : Cell) (i : Inside a b t) where
+  pub rows-taken : {k x o l m n : ℕ} → MayGo true k a b t → Numbers (a .x) (a .y) (b .x) (b .y) k x o l m n
+      → Peel a b t (off true (λ p q. cell p q) (a .y) (b .x) (b .y) x o l m n)
+  unfolding in-rows
+  rows-taken r = taken-off counted-rows (a .x) (a .y) (b .x) (b .y) t i (r .chosen)
+
+  pub columns-taken : {k x o l m n : ℕ} → MayGo false k a b t → Numbers (a .y) (a .x) (b .y) (b .x) k x o l m n
+      → Peel a b t (off false (λ p q. cell q p) (a .x) (b .y) (b .x) x o l m n)
   unfolding in-columns
-  columns-taken = taken-off in-columns (a .y) (a .x) (b .y) (b .x) t i
+  columns-taken r = taken-off counted-columns (a .y) (a .x) (b .y) (b .x) t i (r .chosen)
 
   -- the line that may go first
-  pub first-line : 1 ≤ dist (a .x) (t .x) + dist (a .y) (t .y)
-      → First 1 (dist (a .x) (b .x) + 1) (dist (a .y) (b .y) + 1) (dist (a .x) (t .x)) (dist (a .y) (t .y)) ⊎ First 1 (dist (a .y) (b .y) + 1) (dist (a .x) (b .x) + 1) (dist (a .y) (t .y)) (dist (a .x) (t .x))
-  first-line = line-right _ _ _ _ (dist-less (inside-x i)) (dist-less (inside-y i))
+  pub first-line : 1 ≤ dist (a .x) (t .x) + dist (a .y) (t .y) → MayGo true 1 a b t ⊎ MayGo false 1 a b t
+  first-line h =
+      ⊎-elim (λ r. inl (record { chosen = r })) (λ r. inr (record { chosen = r }))
+      (line-right _ _ _ _ (dist-less (inside-x i)) (dist-less (inside-y i)) h)
 
--- ---- what the code asks
+  -- the lines that the code computes, and what it asks
+  pub lines-peeled : (row : Bool) {k : ℕ} → MayGo row k a b t → Peel a b t (firstLines row a b k)
+  lines-peeled true r = rows-taken r (exact _ _ _ _ _)
+  lines-peeled false r = columns-taken r (exact _ _ _ _ _)
 
-pub or-left : {p : Bool} (q : Bool) → p ≡ true → true ≡ (p || q)
-or-left q e = subst⁻¹ (λ (b : Bool). true ≡ (b || q)) e refl
+  pub lines-sides : (row : Bool) {k : ℕ} → InBytes a → InBytes b → MayGo row k a b t → FirstSides row a b k
+  lines-sides true s u g = let r = g .chosen in record { bytes = row-bytes s u; some = r .some; most = omega (arith, r .far, parts (inside-y i)) }
+  lines-sides false s u g = let r = g .chosen in record { bytes = column-bytes s u; some = r .some; most = omega (arith, r .far, parts (inside-x i)) }
 
-pub or-right : {p q r : Bool} → p ≡ false → r ≡ q → r ≡ (p || q)
-or-right {q = q} {r = r} e f = subst⁻¹ (λ (b : Bool). r ≡ (b || q)) e f
+-- their number of cells
+pub lines-small : {p q p' q' k d : ℕ} → Sides p q p' q' k → d ≡ dist p p' → (d + 1) * k ≤ 65536
+lines-small {p} {q} {p'} {q'} {k} {d} s e =
+    let a : d + 1 ≤ 256 = omega (arith, dist-small p p' (s .bytes .left) (s .bytes .right)) in
+    let c : k ≤ 256 = omega (arith, s .most, dist-small q q' (s .bytes .top) (s .bytes .bottom)) in
+    mul-le-mul a c
 
-or-no : (p q : Bool) → (p || q) ≡ false → (p ≡ false) × (q ≡ false)
-or-no true q e = (e, absurd (never e))
-  where
-    never : _≡_ {A = Bool} true false → ⊥
-    never z = let y : _≡_ {A = ℕ} 0 1 = cc in omega arith
-or-no false q e = (refl, e)
+-- ---- by the sizes that the code measures
 
-dist-ne : (p q : ℕ) → p ≢ q → 1 ≤ dist p q
-dist-ne p q n = by-le p q (λ h. omega (arith, dist-up h)) (λ h. let k : q ≤ p = omega arith in omega (arith, dist-down k))
+or-none : (p q : Bool) → (p || q) ≡ false → (p ≡ false) × (q ≡ false)
+or-none true q e = clash (cc)
+or-none false q e = (refl, e)
 
--- not one line, by the distances that the code computes
-pub open-numbers : (a b t : Cell) {w h dx dy : ℕ} → Inside a b t → oneLine a b t ≡ false → w ≡ dist (a .x) (b .x) → h ≡ dist (a .y) (b .y) → dx ≡ dist (a .x) (t .x) → dy ≡ dist (a .y) (t .y)
-    → Open (w + 1) (h + 1) dx dy
-open-numbers a b t i e ew eh ex ey =
-    let u = or-no (eqb (a .x) (b .x)) _ e in
-    let v = or-no (eqb (a .y) (b .y)) _ (u .1) in
-    record {
-      wide = omega (arith, dist-ne (a .x) (b .x) (eqb-false _ _ (u .0)));
-      high = omega (arith, dist-ne (a .y) (b .y) (eqb-false _ _ (v .0)));
-      across = omega (arith, dist-less (inside-x i));
-      down = omega (arith, dist-less (inside-y i));
-      away = omega (arith, far (ne-cases a t (same-ne a t (v .1))));
-    }
-  where
-    far : (a .x ≢ t .x) ⊎ (a .y ≢ t .y) → 1 ≤ dist (a .x) (t .x) + dist (a .y) (t .y)
-    far (inl n) = let k = dist-ne (a .x) (t .x) n in omega arith
-    far (inr n) = let k = dist-ne (a .y) (t .y) n in omega arith
+pub record Bounds (s : Sizes) : Type 0 where
+  pub wide : s .w ≤ 256
+  pub high : s .h ≤ 256
+  pub across : s .dx ≤ 255
+  pub down : s .dy ≤ 255
+  pub some : 1 ≤ s .w * s .h
+  pub all : s .w * s .h ≤ 65536
+
+module _ {a b t : Cell} {s : Sizes} (m : Measured a b t s) where
+  pub measured-count : cornerCount (s .w) (s .h) (s .dx) (s .dy) ≡ trackCount a b t
+  unfolding trackCount
+  measured-count = λ i. cornerCount (m .width i) (m .height i) (m .across i) (m .down i)
+
+  pub measured : (row : Bool) (k : ℕ) → Chosen row k (s .w) (s .h) (s .dx) (s .dy) → MayGo row k a b t
+  measured row k r = record { chosen = subst (λ (T : Type 0). T) (λ i. Chosen row k (m .width i) (m .height i) (m .across i) (m .down i)) r }
+
+  -- rows of the turned rectangle are columns
+  pub measured-turned : (row : Bool) (k : ℕ) → Chosen row k (s .h) (s .w) (s .dy) (s .dx) → MayGo (not row) k a b t
+  measured-turned true k r = measured false k r
+  measured-turned false k r = measured true k r
+
+  pub bounds : InBytes a → InBytes b → Inside a b t → Bounds s
+  bounds u v i =
+      let z = in-bytes u v i in
+      let w : s .w ≤ 256 = omega (arith, m .width, dist-small _ _ (u .across) (v .across)) in
+      let h : s .h ≤ 256 = omega (arith, m .height, dist-small _ _ (u .down) (v .down)) in
+      record {
+        wide = w;
+        high = h;
+        across = omega (arith, m .across, dist-small _ _ (u .across) (z .across));
+        down = omega (arith, m .down, dist-small _ _ (u .down) (z .down));
+        some = mul-le-mul {n₁ = 1} {m₁ = 1} (omega (arith, m .width)) (omega (arith, m .height));
+        all = mul-le-mul w h;
+      }
+
+  -- one column
+  pub thin : Inside a b t → s .w ≡ 1 → s .dy + 1 ≡ cornerCount (s .w) (s .h) (s .dx) (s .dy)
+  thin i e =
+      let x = dist-less (inside-x i) in
+      let y = dist-less (inside-y i) in
+      sym (count-thin _ _ _ _ e (omega (arith, m .width, m .across)) (omega (arith, m .height, m .down)))
+
+  -- not one line
+  pub open-measured : Inside a b t → oneLine a b t ≡ false → Open (s .w) (s .h) (s .dx) (s .dy)
+  open-measured i e =
+      let u = or-none (eqb (a .x) (b .x)) _ e in
+      let v = or-none (eqb (a .y) (b .y)) _ (u .1) in
+      record {
+        wide = omega (arith, m .width, dist-ne (a .x) (b .x) (eqb-false _ _ (u .0)));
+        high = omega (arith, m .height, dist-ne (a .y) (b .y) (eqb-false _ _ (v .0)));
+        across = omega (arith, m .width, m .across, dist-less (inside-x i));
+        down = omega (arith, m .height, m .down, dist-less (inside-y i));
+        away = omega (arith, m .across, m .down, far (ne-cases a t (same-ne a t (v .1))));
+      }
+    where
+      far : (a .x ≢ t .x) ⊎ (a .y ≢ t .y) → 1 ≤ dist (a .x) (t .x) + dist (a .y) (t .y)
+      far (inl n) = omega (arith, dist-ne (a .x) (t .x) n)
+      far (inr n) = omega (arith, dist-ne (a .y) (t .y) n)
 
 pub open-turned : {w h dx dy : ℕ} → Open w h dx dy → Open h w dy dx
 open-turned o = record { wide = o .high; high = o .wide; across = o .down; down = o .across; away = let z = o .away in omega arith }
 
--- the lines that the code chose
-pub chosen-row : {r : Bool} {k w h dx dy : ℕ} → r ≡ true → Chosen r k w h dx dy → First k w h dx dy
-chosen-row {k = k} {w = w} {h = h} {dx = dx} {dy = dy} e c = subst (λ (r : Bool). Chosen r k w h dx dy) e c
-
-pub chosen-column : {r : Bool} {k w h dx dy : ℕ} → r ≡ false → Chosen r k w h dx dy → First k h w dy dx
-chosen-column {k = k} {w = w} {h = h} {dx = dx} {dy = dy} e c = subst (λ (r : Bool). Chosen r k w h dx dy) e c
-
--- the same by other numbers
-pub first-numbers : {k w h dx dy w' h' dx' dy' : ℕ} → w ≡ w' → h ≡ h' → dx ≡ dx' → dy ≡ dy' → First k (w + 1) (h + 1) dx dy → First k (w' + 1) (h' + 1) dx' dy'
-first-numbers {k} {w} {h} {dx' = dx'} {dy' = dy'} ew eh ex ey r = subst₂ (λ (w h : ℕ). First k (w + 1) (h + 1) dx' dy') ew eh (subst₂ (λ (dx dy : ℕ). First k (w + 1) (h + 1) dx dy) ex ey r)
-
--- one line: the target lies in the corner's row or column, and the count is the line's
-or-yes : (p q : Bool) → (p || q) ≡ true → (p ≡ true) ⊎ (q ≡ true)
-or-yes true q e = inl refl
-or-yes false q e = inr e
+-- ---- one line
 
 -- the line from the corner to the target, whether it is a row by the code's test, ends in the target, and from the target in the corner
 pub record Only (a b t : Cell) (row : Bool) : Type 0 where
-  pub counts : trackCount a b t ≡ area a t
+  pub counts : trackCount a b t ≡ cellsBetween a t
   pub end : sweepEnd row a t ≡ t
   pub end-back : sweepEnd row t a ≡ a
 
-sweep-row : (a t : Cell) → a .y ≡ t .y → sweepEnd true a t ≡ t
-unfolding sweepEnd
-sweep-row a t e = let z : dist (a .y) (t .y) ≡ 0 = ap (dist (a .y)) (sym e) ∙ dist-zero (a .y) in cell-eq (turning-odd _ _ _ (omega arith)) refl
-
-sweep-column : (a t : Cell) → a .x ≡ t .x → sweepEnd false a t ≡ t
-unfolding sweepEnd
-sweep-column a t e = let z : dist (a .x) (t .x) ≡ 0 = ap (dist (a .x)) (sym e) ∙ dist-zero (a .x) in cell-eq refl (turning-odd _ _ _ (omega arith))
-
 module _ (a b t : Cell) (i : Inside a b t) where
+  -- the target lies in the corner's column or row
   level : {p q r : ℕ} → p ≡ q → Between p q r → p ≡ r
   level {p} {r = r} e k = sym (at-once (subst (λ (j : ℕ). Between p j r) (sym e) k))
 
+  -- one column, one row, or the target is the corner
+  one-of : {C : Type 0} → oneLine a b t ≡ true → (a .x ≡ b .x → C) → (a .y ≡ b .y → C) → (a ≡ t → C) → C
+  one-of e f g h =
+      ⊎-elim (λ u. f (eqb-true _ _ u)) (λ u. ⊎-elim (λ v. g (eqb-true _ _ v)) (λ v. h (same-eq a t v)) (or-cases _ _ u)) (or-cases _ _ e)
+
   in-line : oneLine a b t ≡ true → (a .x ≡ t .x) ⊎ (a .y ≡ t .y)
-  in-line e = ⊎-elim (λ u. inl (level (eqb-true _ _ u) (inside-x i))) (λ u. ⊎-elim (λ v. inr (level (eqb-true _ _ v) (inside-y i))) (λ v. inl (ap (λ (c : Cell). c .x) (same-eq a t v))) (or-yes _ _ u)) (or-yes _ _ e)
+  in-line e = one-of e (λ u. inl (level u (inside-x i))) (λ u. inr (level u (inside-y i))) (λ u. inl (ap (λ (c : Cell). c .x) u))
 
   ended : {row : Bool} → row ≡ eqb (a .y) (t .y) → (a .x ≡ t .x) ⊎ (a .y ≡ t .y) → (sweepEnd row a t ≡ t) × (sweepEnd row t a ≡ a)
-  ended {row} f l = by-eq (a .y) (t .y)
-      (λ u. subst (λ (r : Bool). (sweepEnd r a t ≡ t) × (sweepEnd r t a ≡ a)) (sym (f ∙ eq-eqb _ _ u)) (sweep-row a t u, sweep-row t a (sym u)))
-      (λ u. let c = upright u l in subst (λ (r : Bool). (sweepEnd r a t ≡ t) × (sweepEnd r t a ≡ a)) (sym (f ∙ ne-eqb _ _ u)) (sweep-column a t c, sweep-column t a (sym c)))
+  ended {row} f l =
+      by-eq (a .y) (t .y)
+      (λ u. by-row (eq-eqb _ _ u) (sweep-row a t u, sweep-row t a (sym u)))
+      (λ u. let c = upright u l in by-row (ne-eqb _ _ u) (sweep-column a t c, sweep-column t a (sym c)))
     where
+      by-row : {r : Bool} → eqb (a .y) (t .y) ≡ r → (sweepEnd r a t ≡ t) × (sweepEnd r t a ≡ a)
+          → (sweepEnd row a t ≡ t) × (sweepEnd row t a ≡ a)
+      by-row g = subst (λ (r : Bool). (sweepEnd r a t ≡ t) × (sweepEnd r t a ≡ a)) (sym (f ∙ g))
+
       upright : a .y ≢ t .y → (a .x ≡ t .x) ⊎ (a .y ≡ t .y) → a .x ≡ t .x
       upright n (inl c) = c
       upright n (inr c) = absurd (n c)
 
-  -- a count of one line
-  counted : oneLine a b t ≡ true → trackCount a b t ≡ area a t
-  unfolding trackCount area
-  counted e = ⊎-elim (λ u. thin (eqb-true _ _ u)) (λ u. ⊎-elim (λ v. flat (eqb-true _ _ v)) (λ v. here (same-eq a t v)) (or-yes _ _ u)) (or-yes _ _ e)
+  counted : oneLine a b t ≡ true → trackCount a b t ≡ cellsBetween a t
+  unfolding trackCount cellsBetween
+  counted e = one-of e column row here
     where
-      zero : {p q : ℕ} → p ≡ q → dist p q ≡ 0
-      zero {p} f = ap (dist p) (sym f) ∙ dist-zero p
+      column : a .x ≡ b .x → trackCount a b t ≡ cellsBetween a t
+      column f =
+          let u = dist-same f in
+          let v = dist-same (level f (inside-x i)) in
+          count-thin _ _ _ _ (omega arith) v (dist-less (inside-y i)) ∙ sym (ap (λ (k : ℕ). (k + 1) * (dist (a .y) (t .y) + 1)) v ∙ omega arith)
 
-      thin : a .x ≡ b .x → trackCount a b t ≡ area a t
-      thin f = let u = zero f in let v = zero (level f (inside-x i)) in count-thin _ _ _ _ (omega arith) v (dist-less (inside-y i)) ∙ sym (ap (λ (k : ℕ). (k + 1) * (dist (a .y) (t .y) + 1)) v ∙ omega arith)
+      row : a .y ≡ b .y → trackCount a b t ≡ cellsBetween a t
+      row f =
+          let u = dist-same f in
+          let v = dist-same (level f (inside-y i)) in
+          count-flat _ _ _ _ (omega arith) ∙ sym (ap (λ (k : ℕ). (dist (a .x) (t .x) + 1) * (k + 1)) v ∙ omega arith)
 
-      flat : a .y ≡ b .y → trackCount a b t ≡ area a t
-      flat f = let u = zero f in let v = zero (level f (inside-y i)) in count-flat _ _ _ _ (omega arith) ∙ sym (ap (λ (k : ℕ). (dist (a .x) (t .x) + 1) * (k + 1)) v ∙ omega arith)
-
-      here : a ≡ t → trackCount a b t ≡ area a t
+      here : a ≡ t → trackCount a b t ≡ cellsBetween a t
       here f =
-          let u : dist (a .x) (t .x) ≡ 0 = zero (ap (λ (c : Cell). c .x) f) in
-          let v : dist (a .y) (t .y) ≡ 0 = zero (ap (λ (c : Cell). c .y) f) in
+          let u = dist-same (ap (λ (c : Cell). c .x) f) in
+          let v = dist-same (ap (λ (c : Cell). c .y) f) in
           count-here _ _ _ _ (omega arith) ∙ sym (λ j. (u j + 1) * (v j + 1))
 
   pub only : {row : Bool} → row ≡ eqb (a .y) (t .y) → oneLine a b t ≡ true → Only a b t row
   only f e = let d = ended f (in-line e) in record { counts = counted e; end = d .0; end-back = d .1 }
 
--- ---- bounds
-
--- the cells of a rectangle of small cells are small
-pub small-inside : {a b c : Cell} → Small a → Small b → Inside a b c → Small c
-small-inside {a} {b} {c} s t i = record { across = below (inside-x i) (s .across) (t .across); down = below (inside-y i) (s .down) (t .down) }
-  where
-    below : {p q r : ℕ} → Between p q r → p ≤ 255 → q ≤ 255 → r ≤ 255
-    below (Between.up l h) u v = omega arith
-    below (Between.down l h) u v = omega arith
-
-pub dist-small : (p q : ℕ) → p ≤ 255 → q ≤ 255 → dist p q ≤ 255
-dist-small p q u v = by-le p q (λ h. omega (arith, dist-up h)) (λ h. let k : q ≤ p = omega arith in omega (arith, dist-down k))
-
-pub record Bounds (a b t : Cell) : Type 0 where
-  pub wide : dist (a .x) (b .x) ≤ 255
-  pub high : dist (a .y) (b .y) ≤ 255
-  pub across : dist (a .x) (t .x) ≤ 255
-  pub down : dist (a .y) (t .y) ≤ 255
-
-pub bounds : {a b t : Cell} → Small a → Small b → Inside a b t → Bounds a b t
-bounds s t i =
-    let u = small-inside s t i in
-    record {
-      wide = dist-small _ _ (s .across) (t .across);
-      high = dist-small _ _ (s .down) (t .down);
-      across = dist-small _ _ (s .across) (u .across);
-      down = dist-small _ _ (s .down) (u .down);
-    }
-
-pub area-small : (w h : ℕ) → w ≤ 255 → h ≤ 255 → (w + 1) * (h + 1) ≤ 65536
-area-small w h u v = let p : w + 1 ≤ 256 = omega arith in let q : h + 1 ≤ 256 = omega arith in mul-le-mul p q
-
--- k lines of a rectangle of small cells
-pub lines-small : {p q p' q' k d : ℕ} → Sides p q p' q' k → d ≡ dist p p' → (d + 1) * k ≤ 65536
-lines-small {p} {q} {p'} {q'} {k} {d} s e =
-    let a : d + 1 ≤ 256 = omega (arith, dist-small p p' (s .left) (s .right)) in
-    let c : k ≤ 256 = omega (arith, s .most, dist-small q q' (s .top) (s .bottom)) in
-    mul-le-mul a c
-
-pub row-sides : {a b t : Cell} {k w dx : ℕ} → Small a → Small b → Inside a b t → First k w (dist (a .y) (b .y) + 1) dx (dist (a .y) (t .y)) → Sides (a .x) (a .y) (b .x) (b .y) k
-row-sides s u i r = record { left = s .across; right = u .across; top = s .down; bottom = u .down; some = r .some; most = omega (arith, r .far, parts (inside-y i)) }
-
-pub column-sides : {a b t : Cell} {k h dy : ℕ} → Small a → Small b → Inside a b t → First k h (dist (a .x) (b .x) + 1) dy (dist (a .x) (t .x)) → Sides (a .y) (a .x) (b .y) (b .x) k
-column-sides s u i r = record { left = s .down; right = u .down; top = s .across; bottom = u .across; some = r .some; most = omega (arith, r .far, parts (inside-x i)) }
-
--- ---- the count, by the distances that the code computes
-
-module _ (a b t : Cell) {w h dx dy : ℕ} (ew : w ≡ dist (a .x) (b .x)) (eh : h ≡ dist (a .y) (b .y)) (ex : dx ≡ dist (a .x) (t .x)) (ey : dy ≡ dist (a .y) (t .y)) where
-  pub counted-here : dx + dy ≡ 0 → 1 ≡ trackCount a b t
-  unfolding trackCount
-  counted-here z = sym (count-here _ _ _ _ (omega arith))
-
-  pub counted-flat : h + 1 ≡ 1 → dx + 1 ≡ trackCount a b t
-  unfolding trackCount
-  counted-flat z = ap (λ (k : ℕ). k + 1) ex ∙ sym (count-flat _ _ _ _ (omega arith))
-
-  pub counted-thin : Inside a b t → w + 1 ≡ 1 → dy + 1 ≡ trackCount a b t
-  unfolding trackCount
-  counted-thin i z = let l = dist-less (inside-x i) in ap (λ (k : ℕ). k + 1) ey ∙ sym (count-thin _ _ _ _ (omega arith) (omega arith) (dist-less (inside-y i)))
-
-  pub counted-full : dx + dy ≢ 0 → h + 1 ≢ 1 → w + 1 ≢ 1 → (w + 1) * (h + 1) - 1 + ((w + 1) * (h + 1) + (dx + dy)) % 2 ≡ trackCount a b t
-  unfolding trackCount
-  counted-full z f e =
-      (λ i. (ew i + 1) * (eh i + 1) - 1 + ((ew i + 1) * (eh i + 1) + (ex i + ey i)) % 2)
-      ∙ sym (count-full _ _ _ _ (omega arith) (omega arith) (omega arith))
+-- a corner track has at most 256 by 256 cells
+pub track-most : {a b t : Cell} → InBytes a → InBytes b → Inside a b t → trackCount a b t ≤ 65536
+unfolding trackCount cornerCount
+track-most {a} {b} {t} u v i =
+    let s : Sizes = record { w = dist (a .x) (b .x) + 1; h = dist (a .y) (b .y) + 1; dx = dist (a .x) (t .x); dy = dist (a .y) (t .y) } in
+    let m : Measured a b t s = record { width = refl; height = refl; across = refl; down = refl } in
+    let k = bounds m u v i in
+    both-branches (λ n. n ≤ 65536) (eqb (s .dx + s .dy) 0) _ _ (λ _. omega arith)
+    (λ _. both-branches (λ n. n ≤ 65536) (eqb (s .h) 1) _ _ (λ _. omega arith)
+    (λ _. both-branches (λ n. n ≤ 65536) (eqb (s .w) 1) _ _ (λ _. omega arith) (λ _. omega arith)))

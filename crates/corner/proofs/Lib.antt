@@ -1,11 +1,5 @@
-pub mod Between
 pub mod Count
-pub mod Line
-pub mod Written
 pub mod First
-pub mod Sweep
 pub mod Track
-pub mod Drawn
-pub mod Snake
 pub mod Forward
 pub mod Backward

@@ -1,8 +1,7 @@
 -- For every rectangle, corner and target there is a track with the count's cells: the first line, then the track of what remains.
-use Prim.Native.Nat.{ℕ, zero, suc, _+_, _≤_, _<_}
+use Prim.Native.Nat.{ℕ, zero, suc, _+_, _<_}
 use mathlib.Core.Path.{_≡_, refl, sym, _∙_, subst}
 use mathlib.Core.Logic.{⊎-elim}
-use mathlib.Core.Bool.{Bool}
 use mathlib.Core.List.{List, [], _∷_, _++_}
 use native.Mathlib.Omega.{arith}
 use native.Mathlib.Nat.{mul-one}
@@ -12,19 +11,19 @@ use Rattle.grid.specs.Panel.{dist}
 use Rattle.grid.specs.Track.{TrackIn}
 use Rattle.grid.proofs.Facts.{cell-eq}
 use Rattle.grid.proofs.Track.{join, single}
-use Rattle.corner.specs.Corner.{Inside, trackCount, ahead}
-use Rattle.corner.proofs.Between.{by-eq, dist-up, dist-down, by-le, start-between}
+use Rattle.line.specs.Rectangle.{Inside, ahead}
+use Rattle.line.proofs.Between.{by-eq, dist-eq}
+use Rattle.line.proofs.Frame.{first-inside, turning-once}
+use Rattle.line.proofs.Line.{Axis, in-row, in-column, line-track, ahead-start, length-line}
+use Rattle.corner.specs.declared.Peeled.{Peeled}
+use Rattle.corner.specs.Corner.{trackCount}
+use Rattle.corner.specs.Peel.{Peel}
 use Rattle.corner.proofs.Count.{count-here}
-use Rattle.corner.proofs.Line.{Axis, in-row, in-column, line-track, ahead-start, length-line}
-use Rattle.corner.specs.Peel.{Numbers, Peel}
-use Rattle.corner.proofs.First.{inside, turning-once, rows-taken, columns-taken, first-line}
+use Rattle.corner.proofs.First.{Numbers, rows-taken, columns-taken, first-line}
 
 -- a track with a given number of cells
 abbrev pub Sized : (Cell → Type 0) → Cell → Cell → ℕ → Type 0
 Sized R s t n = (l : List Cell) × (TrackIn R s t l × (length l ≡ n))
-
-dist-eq : (p q : ℕ) → dist p q ≡ 0 → p ≡ q
-dist-eq p q e = by-le p q (λ h. omega (arith, dist-up h)) (λ h. let k : q ≤ p = omega arith in omega (arith, dist-down k))
 
 straight : {e : ℕ → Cell} → Axis e → (p q : ℕ) → Sized (Inside (e p) (e q)) (e p) (e q) (dist p q + 1)
 straight A p q = (_, (line-track A p q, length-line _ _))
@@ -34,14 +33,27 @@ here : (a b t : Cell) → dist (a .x) (t .x) + dist (a .y) (t .y) ≡ 0 → Size
 unfolding trackCount
 here a b t e =
     let p : a ≡ t = cell-eq (dist-eq _ _ (omega arith)) (dist-eq _ _ (omega arith)) in
-    (a ∷ [], (subst (λ (c : Cell). TrackIn (Inside a b) a c (a ∷ [])) p (single (inside (start-between _ _) (start-between _ _))), sym (count-here _ _ _ _ e)))
+    (a ∷ [], (subst (λ (c : Cell). TrackIn (Inside a b) a c (a ∷ [])) p (single (first-inside a b)), sym (count-here _ _ _ _ e)))
 
 -- the line, then what remains
-joined : {row : Bool} {a b t f c g a' b' : Cell} {n : ℕ} → Peel a b t row f c g a' b' n → Sized (Inside a f) a c n → Sized (Inside a' b') a' t (trackCount a' b' t) → Sized (Inside a b) a t (trackCount a b t)
-joined p l r = (l .0 ++ r .0, (join (p .lines) (p .rest) (p .apart) (l .1 .0) (p .beside) (r .1 .0), length-append (l .0) (r .0) ∙ (λ i. l .1 .1 i + r .1 .1 i) ∙ sym (p .counts)))
+joined : {a b t : Cell} {r : Peeled} → Peel a b t r → Sized (Inside a (r .far)) a (r .end) (r .cells .0)
+    → Sized (Inside (r .corner) (r .opposite)) (r .corner) t (trackCount (r .corner) (r .opposite) t) → Sized (Inside a b) a t (trackCount a b t)
+joined p l r = (
+  l .0 ++ r .0,
+  (
+    join (p .lines) (p .rest) (p .apart) (l .1 .0) (p .beside) (r .1 .0),
+    length-append (l .0) (r .0) ∙ (λ i. l .1 .1 i + r .1 .1 i) ∙ sym (p .counts),
+  ),
+)
 
 one : (p q p' q' : ℕ) → Numbers p q p' q' 1 p' p q (ahead q q' 1) (dist p p' + 1)
-one p q p' q' = record { end = sym (turning-once p p'); other = sym (turning-once p' p); last = sym (ahead-start q q'); next = refl; cells = sym (mul-one _) }
+one p q p' q' = record {
+  end = sym (turning-once p p');
+  other = sym (turning-once p' p);
+  last = sym (ahead-start q q');
+  next = refl;
+  cells = sym (mul-one _);
+}
 
 -- by the sum of the sides
 go : (k : ℕ) (a b t : Cell) → Inside a b t → dist (a .x) (b .x) + dist (a .y) (b .y) < k → Sized (Inside a b) a t (trackCount a b t)

@@ -1,16 +1,10 @@
--- A rectangle of cells is given by two opposite corners a and b, in either order; a corner track runs from the corner a to a cell t of it.
-use Prim.Native.Nat.{ℕ, _+_, _-_, _*_, _%_, _≤_, min, max}
+-- A corner track runs from the corner a of a rectangle, whose opposite corner is b, to a cell t of it.
+use Prim.Native.Nat.{ℕ, _+_, _-_, _*_, _%_}
 use mathlib.Core.Bool.{cond}
-use lib.Dec.{leb, eqb}
+use lib.Dec.{eqb}
 use Rattle.grid.specs.declared.Cell.{Cell}
 use Rattle.grid.specs.Panel.{dist}
-
--- c lies in the rectangle
-pub record Inside (a b c : Cell) : Type 0 where
-  pub left : min (a .x) (b .x) ≤ c .x
-  pub right : c .x ≤ max (a .x) (b .x)
-  pub top : min (a .y) (b .y) ≤ c .y
-  pub bottom : c .y ≤ max (a .y) (b .y)
+pub use Rattle.line.specs.Rectangle.{Inside}
 
 -- how many cells a corner track has in w columns and h rows, its target dx columns and dy rows from its corner
 unfoldable pub cornerCount : ℕ → ℕ → ℕ → ℕ → ℕ
@@ -23,11 +17,3 @@ cornerCount w h dx dy =
 -- the same, by the rectangle's corners and the target
 unfoldable pub trackCount : Cell → Cell → Cell → ℕ
 trackCount a b t = cornerCount (dist (a .x) (b .x) + 1) (dist (a .y) (b .y) + 1) (dist (a .x) (t .x)) (dist (a .y) (t .y))
-
--- k steps from p towards q
-unfoldable pub ahead : ℕ → ℕ → ℕ → ℕ
-ahead p q k = cond (leb p q) (p + k) (p - k)
-
--- where k lines there and back between p and q end that begin at p: at p if k is even
-unfoldable pub turning : ℕ → ℕ → ℕ → ℕ
-turning k p q = cond (eqb (k % 2) 0) p q

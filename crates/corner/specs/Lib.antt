@@ -1,4 +1,3 @@
 pub mod Corner
-pub mod Line
 pub mod Peel
 pub mod Drawn

@@ -2,7 +2,7 @@
 // backwards, looks at the cells by a check that knows nothing of how they were drawn, and prints how many
 // tracks and cells there were and how many tracks were wrong. The rectangles begin at column 2 and row 3.
 use grid::Cell;
-use grid::Panel;
+use grid::panel_of;
 use trial::cells::Order;
 use trial::cells::filled;
 use trial::cells::is_track;
@@ -10,7 +10,7 @@ use trial::print::named;
 use trial::print::text;
 ghost use Prim.Native.Nat.{_≤_};
 ghost use Rattle.corner.specs.Corner.{Inside};
-ghost use Rattle.corner.specs.Drawn.{Small};
+ghost use Rattle.corner.specs.Drawn.{InBytes};
 
 struct Tally {
     tracks: u32,
@@ -22,10 +22,7 @@ struct Tally {
 // row `bottom`, and the bytes behind them are as they were.
 fn good(buf: &[u8], k: u32, s: Cell, t: Cell, right: u32, bottom: u32) -> bool {
     let o = Order {
-        panel: Panel {
-            width: right,
-            height: bottom,
-        },
+        panel: panel_of(right, bottom),
         entry: s,
         exit: t,
     };
@@ -45,7 +42,7 @@ fn counted(sum: Tally, k: u32, fine: bool) -> Tally {
 
 // One corner a, opposite corner b and target t: the track there and back.
 fn both_ways(a: Cell, b: Cell, t: Cell, right: u32, bottom: u32, sum: Tally) -> Tally
-    requires { ⌜ Small a ⌝ ∗ ⌜ Small b ⌝ ∗ ⌜ Inside a b t ⌝ }
+    requires { ⌜ InBytes a ⌝ ∗ ⌜ InBytes b ⌝ ∗ ⌜ Inside a b t ⌝ }
 {
     let k = corner::corner_count(a, b, t).0;
     if 64 < k {

@@ -1,41 +1,31 @@
--- A track has at most the cells of the count, and as many as the count in parity. Class by class, for terminals named by x: one row, two rows and F3 have their own files; a track has at most mn cells,
--- with two black ends on an odd panel two fewer (one black cell more than white ones, where the panel has one fewer), and one fewer where the parity of its length is not that of mn.
+-- A track has at most the cells of the count, and as many as the count in parity. Class by class, for terminals named by x: one row, two rows
+-- and F3 have their own files; a track has at most mn cells, with two black ends on an odd panel two fewer (one black cell more than white ones,
+-- where the panel has one fewer), and one fewer where the parity of its length is not that of mn.
 -- A track reversed or turned is a track, which gives the other names and the tall panels.
-use Prim.Native.Nat.{ℕ, _+_, _-_, _*_, _/_, _%_, _≤_, _<_, max}
+use Prim.Native.Nat.{ℕ, _+_, _-_, _*_, _/_, _%_, _≤_, _<_}
 use mathlib.Core.Path.{_≡_, refl, sym, ap, _∙_}
-use mathlib.Core.Logic.{_≢_}
+use mathlib.Core.Logic.{_≢_, inl, inr, ⊎-elim}
 use mathlib.Core.Bool.{Bool, true, false, cond, not, _&&_, _||_}
 use mathlib.Core.List.{List, reverse, map}
 use native.Mathlib.Omega.{arith}
 use lib.ListN.{length, length-reverse, length-map}
-use lib.Dec.{ltb, eqb}
+use lib.Dec.{leb, ltb, eqb}
 use borrow.Author.Tests.{eqb-true, eqb-false, leb-true, ltb-true, ltb-false, not-true}
 use Rattle.grid.specs.declared.Panel.{Panel}
 use Rattle.grid.specs.declared.Cell.{Cell}
 use Rattle.grid.specs.Panel.{OnPanel, black, turned, turnedCell}
 use Rattle.grid.specs.Track.{All, Track}
-use Rattle.grid.proofs.Facts.{and-left, cell-eq, and-parts}
-use Rattle.grid.proofs.Track.{all-map, backwards}
+use Rattle.grid.proofs.Facts.{and-left, and-parts, or-cases, cell-eq}
+use Rattle.grid.proofs.Tests.{both-branches}
+use Rattle.grid.proofs.Track.{all-map, backwards, first-in, last-in, some-cell}
 use Rattle.grid.proofs.Moves.{turning, moved}
 use Rattle.count.specs.declared.ClassCount.{ClassCount}
-use Rattle.count.specs.Count.{area, odd, f1, f2, f3, c2, c0, decided, named, classCount, count}
+use Rattle.count.specs.Count.{area, odd, f1, f2, f2Count, f3Apart, f3, c2, c0, decided, named, classCount, count}
 use Rattle.count.specs.Longest.{NoLonger, ifBlack, weight}
-use Rattle.grid.proofs.Track.{first-in, last-in, some-cell}
 use Rattle.count.proofs.Pigeon.{InColumns, at-most-area}
 use Rattle.count.proofs.Colour.{bit, row-two, mod-bit, black-bit, walk-black, at-most-black}
 use Rattle.count.proofs.Strip.{strip}
 use Rattle.count.proofs.Rows.{one-row, two-rows}
-
--- ---- a definition by cases
-
-by-cond : (P : ClassCount → Type 0) (b : Bool) {x y : ClassCount} → (b ≡ true → P x) → (b ≡ false → P y) → P (cond b x y)
-by-cond P true f g = f refl
-by-cond P false f g = g refl
-
--- the two cases of "or"
-either {ℓ} : {A : Type ℓ} (a b : Bool) → (a || b) ≡ true → (a ≡ true → A) → (b ≡ true → A) → A
-either true b e f g = f refl
-either false b e f g = g e
 
 -- ---- parities
 
@@ -96,22 +86,30 @@ module _ (p : Panel) (s t : Cell) (ne : s ≢ t) {l : List Cell} (r : Track p s 
       parity : (a b k w d e : ℕ) → d ≡ (a + 1) % 2 → e ≡ (b + 1) % 2 → a ≤ b → 2 * w + 1 ≡ k + d + e → (k + (b - a + 1)) % 2 ≡ 0
       parity a b k w d e p q h i = omega arith
 
-  f2-bound : f2 p s t ≡ true → Fits l (max (s .x + t .x) (2 * p .width - (s .x + t .x) + 2))
+  f2-bound : f2 p s t ≡ true → Fits l (f2Count (p .width) (s .x + t .x))
   unfolding f2
   f2-bound e =
       let (n, c) = and-parts _ _ e in
-      either _ _ c
-      (λ x. let q : s .x ≡ t .x = eqb-true _ _ x in bound (eqb-true _ _ n) (λ y. ne (cell-eq q y)) (omega arith) (omega arith))
-      (λ x. let (y, d) = and-parts _ _ x in let q : s .x + 1 ≡ t .x = eqb-true _ _ y in bound (eqb-true _ _ n) (eqb-false _ _ (not-true _ d)) (omega arith) (omega arith))
+      let h : p .height ≡ 2 = eqb-true _ _ n in
+      elim (or-cases (eqb (s .x) (t .x)) _ c) [
+        | inl x ↦ column h (eqb-true _ _ x)
+        | inr x ↦ let (y, d) = and-parts _ _ x in next h (eqb-true _ _ y) (eqb-false _ _ (not-true _ d))
+      ]
     where
-      parity : (a m k w d e : ℕ) → (d + e + a) % 2 ≡ 1 → a ≤ 2 * m → 2 * w + 1 ≡ k + d + e → (k + max a (2 * m - a + 2)) % 2 ≡ 0
+      parity : (a m k w d e : ℕ) → (d + e + a) % 2 ≡ 1 → a ≤ 2 * m → 2 * w + 1 ≡ k + d + e → (k + f2Count m a) % 2 ≡ 0
       parity a m k w d e p q h = omega arith
 
-      bound : p .height ≡ 2 → s .y ≢ t .y → s .x ≤ t .x → t .x ≤ s .x + 1 → Fits l (max (s .x + t .x) (2 * p .width - (s .x + t .x) + 2))
+      bound : p .height ≡ 2 → s .y ≢ t .y → s .x ≤ t .x → t .x ≤ s .x + 1 → Fits l (f2Count (p .width) (s .x + t .x))
       bound n h i j = (
         two-rows (p .width) h i j (r .walk) (r .once) (rows 2 n),
         parity (s .x + t .x) (p .width) (length l) _ _ _ (two-rows-black s t (omega (arith, on-s, on-t))) (omega (arith, on-s, on-t)) ends,
       )
+
+      column : p .height ≡ 2 → s .x ≡ t .x → Fits l (f2Count (p .width) (s .x + t .x))
+      column n q = bound n (λ y. ne (cell-eq q y)) (omega arith) (omega arith)
+
+      next : p .height ≡ 2 → s .x + 1 ≡ t .x → s .y ≢ t .y → Fits l (f2Count (p .width) (s .x + t .x))
+      next n q d = bound n d (omega arith) (omega arith)
 
   f3-bound : f3 p s t ≡ true → Fits l (area p - 2)
   unfolding f3
@@ -124,17 +122,22 @@ module _ (p : Panel) (s t : Cell) (ne : s ≢ t) {l : List Cell} (r : Track p s 
       let o : p .width % 2 ≢ 1 = eqb-false _ _ (not-true _ even) in
       let d : ifBlack s ≡ 1 = black-bit s ∙ ap bit bs in
       let g : ifBlack t ≡ 0 = black-bit t ∙ ap bit (not-true (black t) wt) in
-      let column : s .x + (s .x + 1) % 2 < t .x = either _ _ x (λ y. far (leb-true _ _ y)) (λ y. let (q, z) = and-parts _ _ y in near d (eqb-true _ _ q) (eqb-true _ _ (and-parts _ _ z .0))) in
       let a : area p ≡ p .width * 3 = ap (λ (k : ℕ). p .width * k) h in
-      let k = strip (s .x + (s .x + 1) % 2) (p .width) (omega arith) (omega arith) (omega arith) column d g (r .walk) (r .once) (rows 3 h) in
+      let k = strip (s .x + (s .x + 1) % 2) (p .width) (omega arith) (omega arith) (omega arith) (column d x) d g (r .walk) (r .once) (rows 3 h) in
       two-less (p .width / 2) (area p) (length l) (weight ifBlack l) (omega arith) (omega arith) (omega (arith, ends))
     where
-      -- the first odd column from s on is left of t
       far : s .x + 2 ≤ t .x → s .x + (s .x + 1) % 2 < t .x
       far h = omega arith
 
       near : ifBlack s ≡ 1 → s .x + 1 ≡ t .x → s .y ≡ 2 → s .x + (s .x + 1) % 2 < t .x
       near d h two = omega (arith, row-two s two)
+
+      -- the first odd column from s on is left of t
+      column : ifBlack s ≡ 1 → f3Apart s t ≡ true → s .x + (s .x + 1) % 2 < t .x
+      column d x = elim (or-cases (leb (s .x + 2) (t .x)) _ x) [
+        | inl y ↦ far (leb-true _ _ y)
+        | inr y ↦ let (q, z) = and-parts _ _ y in near d (eqb-true _ _ q) (eqb-true _ _ (and-parts _ _ z .0))
+      ]
 
       two-less : (m a k w : ℕ) → a ≡ 2 * m * 3 → k + 2 ≤ a → 2 * w ≡ k → (k ≤ a - 2) × ((k + (a - 2)) % 2 ≡ 0)
       two-less m a k w e h i = omega arith
@@ -143,14 +146,16 @@ module _ (p : Panel) (s t : Cell) (ne : s ≢ t) {l : List Cell} (r : Track p s 
   odd-bound e =
       let (o, c) = and-parts (odd (area p)) _ e in
       let (bs, bt) = and-parts (black s) (black t) c in
-      two-less (area p) (length l) (weight ifBlack l) _ _ (eqb-true _ _ o) (black-bit s ∙ ap bit bs) (black-bit t ∙ ap bit bt) ends (at-most-black p (r .once) (r .within))
+      two-less (area p) (length l) (weight ifBlack l) _ _ (eqb-true _ _ o) (black-bit s ∙ ap bit bs) (black-bit t ∙ ap bit bt) ends
+      (at-most-black p (r .once) (r .within))
     where
-      two-less : (a k w d e : ℕ) → a % 2 ≡ 1 → d ≡ 1 → e ≡ 1 → 2 * w + 1 ≡ k + d + e → w ≤ a / 2 → (k ≤ a - 2) × ((k + (a - 2)) % 2 ≡ 0)
+      two-less : (a k w d e : ℕ) → a % 2 ≡ 1 → d ≡ 1 → e ≡ 1 → 2 * w + 1 ≡ k + d + e → w ≤ a / 2
+          → (k ≤ a - 2) × ((k + (a - 2)) % 2 ≡ 0)
       two-less a k w d e o p q h i = omega arith
 
   c2-bound : c2 p s t ≡ true → Fits l (area p - 2)
   unfolding c2
-  c2-bound e = either _ _ e odd-bound f3-bound
+  c2-bound e = ⊎-elim odd-bound f3-bound (or-cases _ _ e)
 
   -- the other classes: C0 decides the parity of the length
   rest-parity : c2 p s t ≡ false → (area p % 2 + (ifBlack s + ifBlack t)) % 2 ≡ bit (c0 p s t)
@@ -166,36 +171,41 @@ module _ (p : Panel) (s t : Cell) (ne : s ≢ t) {l : List Cell} (r : Track p s 
   c1-bound : c2 p s t ≡ false → c0 p s t ≡ false → Fits l (area p - 1)
   c1-bound e f = one-less (area p) (length l) _ _ _ (rest-parity e ∙ ap bit f) ends (at-most-area p (r .once) (r .within)) (some-cell (r .walk))
     where
-      one-less : (a k w d e : ℕ) → (a % 2 + (d + e)) % 2 ≡ 0 → 2 * w + 1 ≡ k + d + e → k ≤ a → 1 ≤ k → (k ≤ a - 1) × ((k + (a - 1)) % 2 ≡ 0)
+      one-less : (a k w d e : ℕ) → (a % 2 + (d + e)) % 2 ≡ 0 → 2 * w + 1 ≡ k + d + e → k ≤ a → 1 ≤ k
+          → (k ≤ a - 1) × ((k + (a - 1)) % 2 ≡ 0)
       one-less a k w d e h i j g = omega arith
 
 -- ---- the theorem
 
-abbrev Bounds : Panel → Cell → Cell → ClassCount → Type 0
-Bounds p s t c = (l : List Cell) → Track p s t l → Fits l (c .count .0)
+abbrev AllFit : Panel → Cell → Cell → ClassCount → Type 0
+AllFit p s t c = (l : List Cell) → Track p s t l → Fits l (c .count .0)
 
 -- terminals named so that s's x is not the larger
-decided-bound : (p : Panel) (s t : Cell) → s ≢ t → s .x ≤ t .x → Bounds p s t (decided p s t)
+decided-bound : (p : Panel) (s t : Cell) → s ≢ t → s .x ≤ t .x → AllFit p s t (decided p s t)
 unfolding decided
 decided-bound p s t ne h =
-    by-cond (Bounds p s t) (f1 p s t) (λ e l r. omega (arith, f1-bound p s t ne r h e))
-    (λ _. by-cond (Bounds p s t) (f2 p s t) (λ e l r. omega (arith, f2-bound p s t ne r e))
-    (λ _. by-cond (Bounds p s t) (c2 p s t) (λ e l r. omega (arith, c2-bound p s t ne r e))
-    (λ e. by-cond (Bounds p s t) (c0 p s t) (λ f l r. omega (arith, c0-bound p s t ne r e f))
+    both-branches (AllFit p s t) (f1 p s t) _ _ (λ e l r. omega (arith, f1-bound p s t ne r h e))
+    (λ _. both-branches (AllFit p s t) (f2 p s t) _ _ (λ e l r. omega (arith, f2-bound p s t ne r e))
+    (λ _. both-branches (AllFit p s t) (c2 p s t) _ _ (λ e l r. omega (arith, c2-bound p s t ne r e))
+    (λ e. both-branches (AllFit p s t) (c0 p s t) _ _ (λ f l r. omega (arith, c0-bound p s t ne r e f))
     (λ f l r. omega (arith, c1-bound p s t ne r e f)))))
 
-named-bound : (p : Panel) (s t : Cell) → s ≢ t → Bounds p s t (named p s t)
+named-bound : (p : Panel) (s t : Cell) → s ≢ t → AllFit p s t (named p s t)
 unfolding named
 named-bound p s t ne =
-    by-cond (Bounds p s t) (ltb (t .x) (s .x))
-    (λ e l r. let h : t .x < s .x = ltb-true _ _ e in omega (arith, decided-bound p t s (λ q. ne (sym q)) (omega arith) (reverse l) (backwards r), length-reverse l))
+    both-branches (AllFit p s t) (ltb (t .x) (s .x)) _ _
+    (λ e l r.
+    let h : t .x < s .x = ltb-true _ _ e in
+    omega (arith, decided-bound p t s (λ q. ne (sym q)) (omega arith) (reverse l) (backwards r), length-reverse l))
     (λ e. decided-bound p s t ne (ltb-false _ _ e))
 
-count-bound : (p : Panel) (s t : Cell) → s ≢ t → Bounds p s t (classCount p s t)
+count-bound : (p : Panel) (s t : Cell) → s ≢ t → AllFit p s t (classCount p s t)
 unfolding classCount
 count-bound p s t ne =
-    by-cond (Bounds p s t) (ltb (p .width) (p .height))
-    (λ e l r. omega (arith, named-bound (turned p) (turnedCell s) (turnedCell t) (λ q. ne (ap turnedCell q)) (map turnedCell l) (moved (turning p) r), length-map l turnedCell))
+    both-branches (AllFit p s t) (ltb (p .width) (p .height)) _ _
+    (λ e l r.
+    let q = named-bound (turned p) (turnedCell s) (turnedCell t) (λ q. ne (ap turnedCell q)) (map turnedCell l) (moved (turning p) r) in
+    omega (arith, q, length-map l turnedCell))
     (λ e. named-bound p s t ne)
 
 -- every track between two different cells has at most the count's cells

@@ -1,9 +1,9 @@
--- Laws of class and count: the terminals in either order, the panel turned, and 2 ≤ count ≤ mn.
+-- Laws of class and count: classes 1 to 5, the terminals in either order, the panel turned, the colours alone, and 2 ≤ count ≤ mn.
 -- Each test of the definition has its law first; the laws of `decided`, `named` and `classCount` put them together.
-use Prim.Native.Nat.{ℕ, suc, zero, _+_, _-_, _*_, _%_, _≤_, _<_, max}
+use Prim.Native.Nat.{ℕ, suc, zero, _+_, _-_, _*_, _%_, _≤_, _<_}
 use mathlib.Core.Path.{_≡_, refl, sym, ap, _∙_, subst, subst₂}
 use mathlib.Core.Logic.{_≢_, _⊎_, inl, inr, ⊎-elim}
-use mathlib.Core.Bool.{Bool, true, false, cond, not, _&&_, _||_, and-true, and-false, true≢false}
+use mathlib.Core.Bool.{Bool, true, false, cond, not, _&&_, _||_, and-true, and-false, and-comm, or-true, or-false, true≢false}
 use native.Mathlib.Omega.{arith}
 use native.Mathlib.Nat.{suc-mul, mul-one, mul-comm, mul-le-mul, mul-le-mul-left}
 use lib.Dec.{leb, ltb, eqb}
@@ -11,25 +11,14 @@ use borrow.Author.Tests.{ltb-true, ltb-false, lt-ltb, le-ltb, lt-leb, leb-true, 
 use Rattle.grid.specs.declared.Panel.{Panel}
 use Rattle.grid.specs.declared.Cell.{Cell}
 use Rattle.grid.specs.Panel.{OnPanel, black, turned, turnedCell}
-use Rattle.grid.proofs.Facts.{and-left, and-right, cell-eq}
-use Rattle.grid.proofs.Moves.{turn-on}
-use Rattle.grid.proofs.Tests.{and-no, cond-yes, cond-no}
-use Rattle.grid.proofs.Moves.{black-turned}
+use Rattle.grid.proofs.Facts.{and-left, and-right, or-cases, cell-eq}
+use Rattle.grid.proofs.Moves.{turn-on, black-turned}
+use Rattle.grid.proofs.Tests.{and-no, both-branches, cond-yes, cond-no}
 use Rattle.count.specs.declared.ClassCount.{ClassCount}
-use Rattle.count.specs.Count.{area, odd, endCell, f1, f2, f3, c2, c0, found, decided, named, classCount, count}
+use Rattle.count.specs.Count.{area, odd, endCell, f1, f2, f2Count, f3, c2, c0, found, decided, named, classCount, class, count}
+use Rattle.count.specs.ByColour.{coloured, byColour}
 
 -- ---- Boolean laws
-
-or-cases : (a b : Bool) → (a || b) ≡ true → (a ≡ true) ⊎ (b ≡ true)
-or-cases true b e = inl refl
-or-cases false true e = inr refl
-or-cases false false e = inr e
-
-and-swap : (a b : Bool) → (a && b) ≡ (b && a)
-and-swap true true = refl
-and-swap true false = refl
-and-swap false true = refl
-and-swap false false = refl
 
 -- C0 of an area's parity and two colours
 colours-swap : (o a b : Bool) → cond o (not a && not b) (cond a (not b) b) ≡ cond o (not b && not a) (cond b (not a) a)
@@ -40,12 +29,31 @@ colours-swap true false true = refl
 colours-swap false false true = refl
 colours-swap o false false = refl
 
--- what holds of both branches holds of the choice
-choice {ℓ} : {A : Type ℓ} (P : A → Type 0) (b : Bool) (x y : A) → (b ≡ true → P x) → (b ≡ false → P y) → P (cond b x y)
-choice P true x y f g = f refl
-choice P false x y f g = g refl
+-- ---- the classes are 1 to 5
+
+abbrev Small : ClassCount → Type 0
+Small r = r .class ≤ 5
+
+decided-small : (p : Panel) (s t : Cell) → Small (decided p s t)
+unfolding decided
+decided-small p s t =
+    both-branches Small (f1 p s t) _ _ (λ _. omega arith)
+    (λ _. both-branches Small (f2 p s t) _ _ (λ _. omega arith)
+    (λ _. both-branches Small (c2 p s t) _ _ (λ _. omega arith)
+    (λ _. both-branches Small (c0 p s t) _ _ (λ _. omega arith) (λ _. omega arith))))
+
+named-small : (p : Panel) (s t : Cell) → Small (named p s t)
+unfolding named
+named-small p s t = both-branches Small (ltb (t .x) (s .x)) _ _ (λ _. decided-small p t s) (λ _. decided-small p s t)
+
+pub class-small : (p : Panel) (s t : Cell) → class p s t ≤ 5
+unfolding classCount
+class-small p s t = both-branches Small (ltb (p .width) (p .height)) _ _ (λ _. named-small _ _ _) (λ _. named-small p s t)
 
 -- ---- areas
+
+area-turned : (p : Panel) → area (turned p) ≡ area p
+area-turned p = mul-comm (p .height) (p .width)
 
 pub sum-le-product : (w h : ℕ) → 1 ≤ w → 1 ≤ h → w + h ≤ w * h + 1
 sum-le-product zero h p q = omega arith
@@ -111,7 +119,7 @@ c2-area p s t o e =
 
 f1-swap : (p : Panel) (s t : Cell) → f1 p s t ≡ f1 p t s
 unfolding f1
-f1-swap p s t = λ i. eqb (p .height) 1 && not (and-swap (endCell p s) (endCell p t) i)
+f1-swap p s t = λ i. eqb (p .height) 1 && not (and-comm (endCell p s) (endCell p t) i)
 
 -- in one column F2* depends on the height alone
 f2-column : (p : Panel) (s t : Cell) → s .x ≡ t .x → f2 p s t ≡ eqb (p .height) 2
@@ -124,7 +132,9 @@ f2-column p s t e = always (eqb (p .height) 2) _ (eq-eqb _ _ e)
 -- F3 wants the other terminal to the right
 f3-right : (p : Panel) (s t : Cell) → t .x ≤ s .x → f3 p s t ≡ false
 unfolding f3
-f3-right p s t h = none (eqb (p .height) 3) (not (odd (p .width))) (black s) (not (black t)) (eqb (s .y) 2 && eqb (t .y) 2) (lt-leb (s .x + 2) (t .x) (omega arith)) (ne-eqb (s .x + 1) (t .x) (omega arith))
+f3-right p s t h =
+    none (eqb (p .height) 3) (not (odd (p .width))) (black s) (not (black t)) (eqb (s .y) 2 && eqb (t .y) 2)
+    (lt-leb (s .x + 2) (t .x) (omega arith)) (ne-eqb (s .x + 1) (t .x) (omega arith))
   where
     none : (h e b w : Bool) {f n : Bool} (r : Bool) → f ≡ false → n ≡ false → (h && (e && (b && (w && (f || (n && r)))))) ≡ false
     none h e b w r p q = simp (p, q, and-false)
@@ -135,7 +145,7 @@ c0-swap p s t = colours-swap (odd (area p)) (black s) (black t)
 
 c2-column : (p : Panel) (s t : Cell) → s .x ≡ t .x → c2 p s t ≡ c2 p t s
 unfolding c2
-c2-column p s t e = λ i. (odd (area p) && and-swap (black s) (black t) i) || (f3-right p s t (omega arith) ∙ sym (f3-right p t s (omega arith))) i
+c2-column p s t e = λ i. (odd (area p) && and-comm (black s) (black t) i) || (f3-right p s t (omega arith) ∙ sym (f3-right p t s (omega arith))) i
 
 decided-column : (p : Panel) (s t : Cell) → s .x ≡ t .x → decided p s t ≡ decided p t s
 unfolding decided
@@ -144,7 +154,7 @@ decided-column p s t e =
     let b : s .x + t .x ≡ t .x + s .x = omega arith in
     λ i.
     cond (f1-swap p s t i) (found 1 (a i + 1))
-    (cond ((f2-column p s t e ∙ sym (f2-column p t s (sym e))) i) (found 2 (max (b i) (2 * p .width - b i + 2)))
+    (cond ((f2-column p s t e ∙ sym (f2-column p t s (sym e))) i) (found 2 (f2Count (p .width) (b i)))
     (cond (c2-column p s t e i) (found 5 (area p - 2))
     (cond (c0-swap p s t i) (found 3 (area p))
     (found 4 (area p - 1)))))
@@ -153,7 +163,8 @@ named-swap : (p : Panel) (s t : Cell) → named p s t ≡ named p t s
 unfolding named
 named-swap p s t = swap (ltb (t .x) (s .x)) refl (ltb (s .x) (t .x)) refl
   where
-    swap : (a : Bool) → ltb (t .x) (s .x) ≡ a → (b : Bool) → ltb (s .x) (t .x) ≡ b → cond a (decided p t s) (decided p s t) ≡ cond b (decided p s t) (decided p t s)
+    swap : (a : Bool) → ltb (t .x) (s .x) ≡ a → (b : Bool) → ltb (s .x) (t .x) ≡ b
+        → cond a (decided p t s) (decided p s t) ≡ cond b (decided p s t) (decided p t s)
     swap true d true e = let h = ltb-true (t .x) (s .x) d in let k = ltb-true (s .x) (t .x) e in absurd (omega arith)
     swap true d false e = refl
     swap false d true e = refl
@@ -163,6 +174,52 @@ named-swap p s t = swap (ltb (t .x) (s .x)) refl (ltb (s .x) (t .x)) refl
 pub either-order : (p : Panel) (s t : Cell) → classCount p s t ≡ classCount p t s
 unfolding classCount
 either-order p s t = λ i. cond (ltb (p .width) (p .height)) (named-swap (turned p) (turnedCell s) (turnedCell t) i) (named-swap p s t i)
+
+-- ---- by the colours alone
+
+coloured-swap : (a : ℕ) (o b d : Bool) → coloured a o b d ≡ coloured a o d b
+coloured-swap a o b d = λ i. cond (o && and-comm b d i) (found 5 (a - 2)) (cond (colours-swap o b d i) (found 3 a) (found 4 (a - 1)))
+
+by-colour-swap : (p : Panel) (s t : Cell) → byColour p s t ≡ byColour p t s
+by-colour-swap p s t = coloured-swap (area p) (odd (area p)) (black s) (black t)
+
+by-colour-turned : (p : Panel) (s t : Cell) → byColour (turned p) (turnedCell s) (turnedCell t) ≡ byColour p s t
+by-colour-turned p s t = λ i. coloured (area-turned p i) (odd (area-turned p i)) (black-turned s i) (black-turned t i)
+
+pub f3-c2 : (p : Panel) (s t : Cell) → f3 p s t ≡ true → c2 p s t ≡ true
+unfolding c2
+f3-c2 p s t e = rw (e, or-true)
+
+-- the lines behind F1 and F2*
+rest-by-colour : (p : Panel) (s t : Cell) → f3 p s t ≡ false
+    → cond (c2 p s t) (found 5 (area p - 2)) (cond (c0 p s t) (found 3 (area p)) (found 4 (area p - 1))) ≡ byColour p s t
+unfolding c2 c0
+rest-by-colour p s t e = rw (e, or-false)
+
+pub decided-by-colour : (p : Panel) (s t : Cell) → f1 p s t ≡ false → f2 p s t ≡ false → f3 p s t ≡ false → decided p s t ≡ byColour p s t
+unfolding decided
+decided-by-colour p s t e f g = rw (e, f) (rest-by-colour p s t g)
+
+-- more than 3 rows and columns: neither F1, F2* nor F3 fits
+high : (p : Panel) (s t : Cell) → 3 < p .height → decided p s t ≡ byColour p s t
+unfolding f1 f2 f3
+high p s t h =
+    decided-by-colour p s t
+    (sym (and-no _ (ne-eqb (p .height) 1 (omega arith))))
+    (sym (and-no _ (ne-eqb (p .height) 2 (omega arith))))
+    (sym (and-no _ (ne-eqb (p .height) 3 (omega arith))))
+
+high-named : (p : Panel) (s t : Cell) → 3 < p .height → named p s t ≡ byColour p s t
+unfolding named
+high-named p s t h =
+    both-branches (λ (r : ClassCount). r ≡ byColour p s t) (ltb (t .x) (s .x)) _ _
+    (λ _. high p t s h ∙ by-colour-swap p t s) (λ _. high p s t h)
+
+pub class-by-colour : (p : Panel) (s t : Cell) → 3 < p .width → 3 < p .height → classCount p s t ≡ byColour p s t
+unfolding classCount
+class-by-colour p s t w h =
+    both-branches (λ (r : ClassCount). r ≡ byColour p s t) (ltb (p .width) (p .height)) _ _
+    (λ _. high-named (turned p) (turnedCell s) (turnedCell t) w ∙ by-colour-turned p s t) (λ _. high-named p s t h)
 
 -- ---- the panel turned
 
@@ -187,14 +244,6 @@ turned-class p s t n = go (ltb (p .width) (p .height)) refl
         let h = ltb-false (p .width) (p .height) e in
         tall-class (turned p) (turnedCell s) (turnedCell t) (omega arith) ∙ sym (wide-class p s t h)
 
--- by the area and the two colours alone
-plain : ℕ → Bool → Bool → ℕ
-plain a b d = cond (odd a && (b && d)) (a - 2) (cond (cond (odd a) (not b && not d) (cond b (not d) d)) a (a - 1))
-
-plain-swap : (a : ℕ) (b d : Bool) → plain a b d ≡ plain a d b
-unfolding plain
-plain-swap a b d = λ i. cond (odd a && and-swap b d i) (a - 2) (cond (colours-swap (odd a) b d i) a (a - 1))
-
 -- two different cells of a panel that is not tall, the left one first
 record Ordered (p : Panel) (s t : Cell) : Type 0 where
   wide : p .height ≤ p .width
@@ -208,7 +257,7 @@ by-name : (P : ClassCount → Type 0) (p : Panel) (s t : Cell) → p .height ≤
     → (Ordered p s t → P (decided p s t)) → (Ordered p t s → P (decided p t s)) → P (named p s t)
 unfolding named
 by-name P p s t h a b n f g =
-    choice P (ltb (t .x) (s .x)) _ _
+    both-branches P (ltb (t .x) (s .x)) _ _
     (λ e. let k = ltb-true (t .x) (s .x) e in g (record { wide = h; on-s = b; on-t = a; differ = λ r. n (sym r); left = omega arith }))
     (λ e. f (record { wide = h; on-s = a; on-t = b; differ = n; left = ltb-false (t .x) (s .x) e }))
 
@@ -235,28 +284,20 @@ square-f3 {p} {s} {t} q = go (eqb (p .height) 3) refl _
     go true e r = let h = eqb-true (p .height) 3 e in sym (and-no r (ap not (eq-eqb (p .width % 2) 1 (omega (arith, q .same)))))
     go false e r = refl
 
--- where no line of two rows fits, or of one
-square-rest : {p : Panel} {s t : Cell} → Square p s t → (cond (c2 p s t) (found 5 (area p - 2)) (cond (c0 p s t) (found 3 (area p)) (found 4 (area p - 1)))) .count .0 ≡ plain (area p) (black s) (black t)
-unfolding plain c2 c0
-square-rest {p} {s} {t} q = counts (odd (area p) && (black s && black t)) (f3 p s t) (c0 p s t) (square-f3 q)
-  where
-    counts : (a : Bool) (f : Bool) (b : Bool) → f ≡ false → (cond (a || f) (found 5 (area p - 2)) (cond b (found 3 (area p)) (found 4 (area p - 1)))) .count .0 ≡ cond a (area p - 2) (cond b (area p) (area p - 1))
-    counts true f b e = refl
-    counts false f true e = rw e
-    counts false f false e = rw e
+-- the count by the colours
+abbrev colourCount : Panel → Cell → Cell → ℕ
+colourCount p s t = (byColour p s t) .count .0
 
 -- two by two: F2* gives what the colours give
-plain-differ : (b : Bool) → plain 4 b (not b) ≡ 4
-unfolding plain
-plain-differ true = refl
-plain-differ false = refl
+differ-four : (b : Bool) → (coloured 4 false b (not b)) .count .0 ≡ 4
+differ-four true = refl
+differ-four false = refl
 
-plain-agree : (b : Bool) → plain 4 b b ≡ 3
-unfolding plain
-plain-agree true = refl
-plain-agree false = refl
+agree-three : (b : Bool) → (coloured 4 false b b) .count .0 ≡ 3
+agree-three true = refl
+agree-three false = refl
 
-square-two : {p : Panel} {s t : Cell} → Square p s t → f2 p s t ≡ true → max (s .x + t .x) (2 * p .width - (s .x + t .x) + 2) ≡ plain (area p) (black s) (black t)
+square-two : {p : Panel} {s t : Cell} → Square p s t → f2 p s t ≡ true → f2Count (p .width) (s .x + t .x) ≡ colourCount p s t
 square-two {p} {s} {t} q e = ⊎-elim column (λ h. diagonal (h .0) (h .1)) (f2-cases p s t e .1)
   where
     high : p .height ≡ 2
@@ -268,32 +309,37 @@ square-two {p} {s} {t} q e = ⊎-elim column (λ h. diagonal (h .0) (h .1)) (f2-
     four : area p ≡ 4
     four = λ i. wide i * high i
 
-    column : s .x ≡ t .x → max (s .x + t .x) (2 * p .width - (s .x + t .x) + 2) ≡ plain (area p) (black s) (black t)
+    -- of four cells
+    coloured-four : {b : Bool} → black t ≡ b → colourCount p s t ≡ (coloured 4 false (black s) b) .count .0
+    coloured-four d = λ i. (coloured (four i) (odd (four i)) (black s) (d i)) .count .0
+
+    column : s .x ≡ t .x → f2Count (p .width) (s .x + t .x) ≡ colourCount p s t
     column h =
         let n : s .y ≢ t .y = λ r. q .order .differ (cell-eq h r) in
-        let m : max (s .x + t .x) (2 * p .width - (s .x + t .x) + 2) ≡ 4 = omega (arith, wide) in
+        let m : f2Count (p .width) (s .x + t .x) ≡ 4 = omega (arith, wide) in
         let d : black t ≡ not (black s) = parity-differ (t .x + t .y) (s .x + s .y) (omega (arith, wide, high)) in
-        m ∙ sym ((λ i. plain (four i) (black s) (d i)) ∙ plain-differ (black s))
+        m ∙ sym (coloured-four d ∙ differ-four (black s))
 
-    diagonal : s .x + 1 ≡ t .x → s .y ≢ t .y → max (s .x + t .x) (2 * p .width - (s .x + t .x) + 2) ≡ plain (area p) (black s) (black t)
+    diagonal : s .x + 1 ≡ t .x → s .y ≢ t .y → f2Count (p .width) (s .x + t .x) ≡ colourCount p s t
     diagonal h n =
-        let m : max (s .x + t .x) (2 * p .width - (s .x + t .x) + 2) ≡ 3 = omega (arith, wide) in
+        let m : f2Count (p .width) (s .x + t .x) ≡ 3 = omega (arith, wide) in
         let a : (t .x + t .y) % 2 ≡ (s .x + s .y) % 2 = omega (arith, wide, high) in
         let d : black t ≡ black s = ap (λ (k : ℕ). eqb k 1) a in
-        m ∙ sym ((λ i. plain (four i) (black s) (d i)) ∙ plain-agree (black s))
+        m ∙ sym (coloured-four d ∙ agree-three (black s))
 
-square-decided : {p : Panel} {s t : Cell} → Square p s t → (decided p s t) .count .0 ≡ plain (area p) (black s) (black t)
+square-decided : {p : Panel} {s t : Cell} → Square p s t → (decided p s t) .count .0 ≡ colourCount p s t
 unfolding decided
 square-decided {p} {s} {t} q =
     rw (square-f1 q)
-    (choice (λ (r : ClassCount). r .count .0 ≡ plain (area p) (black s) (black t)) (f2 p s t) _ _ (square-two q) (λ e. square-rest q))
+    (both-branches (λ (r : ClassCount). r .count .0 ≡ colourCount p s t) (f2 p s t) _ _ (square-two q)
+    (λ e. ap (λ (r : ClassCount). r .count .0) (rest-by-colour p s t (square-f3 q))))
 
-square-count : (p : Panel) (s t : Cell) → p .width ≡ p .height → OnPanel p s → OnPanel p t → s ≢ t → count p s t ≡ plain (area p) (black s) (black t)
+square-count : (p : Panel) (s t : Cell) → p .width ≡ p .height → OnPanel p s → OnPanel p t → s ≢ t → count p s t ≡ colourCount p s t
 square-count p s t e a b n =
     ap (λ (r : ClassCount). r .count .0) (wide-class p s t (omega arith))
-    ∙ by-name (λ (r : ClassCount). r .count .0 ≡ plain (area p) (black s) (black t)) p s t (omega arith) a b n
+    ∙ by-name (λ (r : ClassCount). r .count .0 ≡ colourCount p s t) p s t (omega arith) a b n
     (λ q. square-decided (record { order = q; same = e }))
-    (λ q. square-decided (record { order = q; same = e }) ∙ plain-swap (area p) (black t) (black s))
+    (λ q. square-decided (record { order = q; same = e }) ∙ ap (λ (r : ClassCount). r .count .0) (by-colour-swap p t s))
 
 -- the same count for the panel turned
 pub turned-count : (p : Panel) (s t : Cell) → OnPanel p s → OnPanel p t → s ≢ t → count (turned p) (turnedCell s) (turnedCell t) ≡ count p s t
@@ -303,7 +349,7 @@ turned-count p s t a b n = go (eqb (p .width) (p .height)) refl
     go true e =
         let q = eqb-true (p .width) (p .height) e in
         square-count (turned p) (turnedCell s) (turnedCell t) (sym q) (turn-on a) (turn-on b) (λ r. n (ap turnedCell r))
-        ∙ (λ i. plain (mul-comm (p .height) (p .width) i) (black-turned s i) (black-turned t i))
+        ∙ ap (λ (r : ClassCount). r .count .0) (by-colour-turned p s t)
         ∙ sym (square-count p s t q a b n)
     go false e = ap (λ (r : ClassCount). r .count .0) (turned-class p s t (eqb-false _ _ e))
 
@@ -355,7 +401,7 @@ module _ {p : Panel} {s t : Cell} (q : Ordered p s t) where
       let h = eqb-true (p .height) 1 (and-left (eqb (p .height) 1) (not (endCell p s && endCell p t)) e) in
       omega (arith, row-area h, row-apart h)
 
-  within-2 : f2 p s t ≡ true → Within (area p) (found 2 (max (s .x + t .x) (2 * p .width - (s .x + t .x) + 2)))
+  within-2 : f2 p s t ≡ true → Within (area p) (found 2 (f2Count (p .width) (s .x + t .x)))
   within-2 e =
       let a : area p ≡ p .width * 2 = ap (λ (k : ℕ). p .width * k) (f2-cases p s t e .0) in
       omega arith
@@ -364,7 +410,11 @@ module _ {p : Panel} {s t : Cell} (q : Ordered p s t) where
   within-5 e h = ⊎-elim row (λ k. omega (arith, more-area k)) row-or-more
     where
       row : p .height ≡ 1 → Within (area p) (found 5 (area p - 2))
-      row k = absurd (⊎-elim (λ c. omega (arith, row-ends e k, row-area k, eqb-true (area p % 2) 1 (c .0), black-sum s (c .1))) (λ c. omega arith) (c2-cases p s t h))
+      row k =
+          absurd (⊎-elim
+          (λ c. omega (arith, row-ends e k, row-area k, eqb-true (area p % 2) 1 (c .0), black-sum s (c .1)))
+          (λ c. omega arith)
+          (c2-cases p s t h))
 
   within-3 : Within (area p) (found 3 (area p))
   within-3 = ⊎-elim (λ k. omega (arith, row-area k, row-apart k)) (λ k. omega (arith, more-area k)) row-or-more
@@ -398,10 +448,10 @@ module _ {p : Panel} {s t : Cell} (q : Ordered p s t) where
   within : Within (area p) (decided p s t)
   unfolding decided
   within =
-      choice (Within (area p)) (f1 p s t) _ _ within-1
-      (λ e. choice (Within (area p)) (f2 p s t) _ _ within-2
-      (λ _. choice (Within (area p)) (c2 p s t) _ _ (within-5 e)
-      (λ _. choice (Within (area p)) (c0 p s t) _ _ (λ _. within-3) (within-4 e))))
+      both-branches (Within (area p)) (f1 p s t) _ _ within-1
+      (λ e. both-branches (Within (area p)) (f2 p s t) _ _ within-2
+      (λ _. both-branches (Within (area p)) (c2 p s t) _ _ (within-5 e)
+      (λ _. both-branches (Within (area p)) (c0 p s t) _ _ (λ _. within-3) (within-4 e))))
 
 pub bounds : (p : Panel) (s t : Cell) → OnPanel p s → OnPanel p t → s ≢ t → (2 ≤ count p s t) × (count p s t ≤ area p)
 bounds p s t a b n = go (ltb (p .width) (p .height)) refl
@@ -412,7 +462,7 @@ bounds p s t a b n = go (ltb (p .width) (p .height)) refl
     go : (r : Bool) → ltb (p .width) (p .height) ≡ r → Within (area p) (classCount p s t)
     go true e =
         let h = ltb-true (p .width) (p .height) e in
-        subst₂ Within (mul-comm (p .height) (p .width)) (sym (tall-class p s t h))
+        subst₂ Within (area-turned p) (sym (tall-class p s t h))
         (wide (turned p) (turnedCell s) (turnedCell t) (omega arith) (turn-on a) (turn-on b) (λ r. n (ap turnedCell r)))
     go false e =
         let h = ltb-false (p .width) (p .height) e in

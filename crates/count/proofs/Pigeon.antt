@@ -20,7 +20,8 @@ use Rattle.count.specs.Longest.{weight, partialSum, columnsWeight}
 
 -- ---- sums
 
-pub sum-linear : (f g : ℕ → ℕ) (a k d e : ℕ) → ((i : ℕ) → a < i → i ≤ a + k → f i ≡ d * g i + e) → partialSum f a k ≡ d * partialSum g a k + k * e
+pub sum-linear : (f g : ℕ → ℕ) (a k d e : ℕ) → ((i : ℕ) → a < i → i ≤ a + k → f i ≡ d * g i + e)
+    → partialSum f a k ≡ d * partialSum g a k + k * e
 sum-linear f g a zero d e h = omega arith
 sum-linear f g a (suc k) d e h = omega (arith, h (a + suc k) (omega arith) (omega arith), sum-linear f g a k d e (λ i p q. h i p (omega arith)))
 
@@ -39,7 +40,8 @@ sum-split f a k zero = rw (add-zero k) (omega arith)
 sum-split f a k (suc j) = rw (add-suc k j) (omega (arith, sum-split f a k j, ap f (add-assoc a k (suc j)), ap f (ap (λ (i : ℕ). a + i) (add-suc k j))))
 
 -- two functions that are equal but at one place: their sums differ as they do there
-sum-change : (f g : ℕ → ℕ) (a k i : ℕ) → a < i → i ≤ a + k → ((j : ℕ) → i ≢ j → g j ≡ f j) → partialSum g a k + f i ≡ partialSum f a k + g i
+sum-change : (f g : ℕ → ℕ) (a k i : ℕ) → a < i → i ≤ a + k → ((j : ℕ) → i ≢ j → g j ≡ f j)
+    → partialSum g a k + f i ≡ partialSum f a k + g i
 sum-change f g a zero i p q same = absurd (omega arith)
 sum-change f g a (suc k) i p q same = elim (ℕ-discrete i (a + suc k)) [
   | yes t ↦ omega (arith, ap g t, ap f t, sum-same g f a k (λ j u v. same j (omega arith)))
@@ -78,7 +80,8 @@ put-bound c e w d k p q = go (sameCell c d)
     go true = p
     go false = q
 
-pub put-weight : (c : Cell) (e : ℕ) (w : Cell → ℕ) (a k n : ℕ) → InColumns a k n c → columnsWeight (put c e w) a k n + w c ≡ columnsWeight w a k n + e
+pub put-weight : (c : Cell) (e : ℕ) (w : Cell → ℕ) (a k n : ℕ) → InColumns a k n c
+    → columnsWeight (put c e w) a k n + w c ≡ columnsWeight w a k n + e
 unfolding columnsWeight
 put-weight c e w a k n o =
     let column : (Cell → ℕ) → ℕ → ℕ = λ v x. partialSum (λ y. v (cell x y)) 0 n in
@@ -118,7 +121,3 @@ at-most-columns a k n {l} o q = omega (arith, pigeon (λ c. 1) a k n o q, weight
 -- a list without repeats of cells on a panel has at most mn cells
 pub at-most-area : (p : Panel) {l : List Cell} → Once l → All (OnPanel p) l → length l ≤ area p
 at-most-area p o q = at-most-columns 0 (p .width) (p .height) o (all-map (λ c. in-columns) q)
-
--- and at most mn − 1 if some cell of the panel is not in it
-pub at-most-rest : (p : Panel) (c : Cell) {l : List Cell} → OnPanel p c → All (λ d. c ≢ d) l → Once l → All (OnPanel p) l → length l < area p
-at-most-rest p c r h o q = at-most-area p (Once.more h o) (All.more r q)

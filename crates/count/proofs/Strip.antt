@@ -1,4 +1,5 @@
--- Three rows, m even, s black, t white (F3). Let c be odd with s's x ≤ c < t's x. A black cell of the columns 1 to c weighs 2, a white one 0, a cell right of them 1 (`side`): the panel weighs mn − 1.
+-- Three rows, m even, s black, t white (F3). Let c be odd with s's x ≤ c < t's x. A black cell of the columns 1 to c weighs 2, a white one 0,
+-- a cell right of them 1 (`side`): the panel weighs mn − 1.
 -- The two cells of a step weigh 2 together, but 1 if it crosses from column c to c + 1 in row 1 or 3 (`gate`), where column c is white.
 -- No cell stands twice, so each gate is passed at most once: 2 * length + 3 ≤ 2 * (mn − 1) + 2 + 2 (`along`), and the length is even as mn is.
 use Prim.Native.Nat.{ℕ, suc, _+_, _-_, _*_, _/_, _%_, _≤_, _<_}
@@ -15,8 +16,8 @@ use Rattle.grid.specs.declared.Cell.{Cell}
 use Rattle.grid.specs.Panel.{Neighbours, cell}
 use Rattle.grid.specs.Track.{Walk, All, Once}
 use Rattle.grid.proofs.Facts.{beside-is, cell-eq, ne-x, beside-sym}
-use Rattle.count.specs.Longest.{weight, partialSum, columnsWeight, ifBlack}
 use Rattle.grid.proofs.Track.{first-in, last-in}
+use Rattle.count.specs.Longest.{weight, partialSum, columnsWeight, ifBlack}
 use Rattle.count.proofs.Pigeon.{InColumns, sum-linear, sum-const, sum-split, put, put-here, put-there, put-bound, put-weight, pigeon}
 use Rattle.count.proofs.Colour.{row-two, alternate, even-length, columns-black}
 
@@ -37,13 +38,15 @@ Heavy w e f a b = 2 ≤ w a + w b + ((e a + e b - 1) + (f a + f b - 1))
 -- a walk of such steps: its length, by its weight and its marked cells
 module _ {R : Cell → Type 0} (w e f : Cell → ℕ) (e1 : (c : Cell) → e c ≤ 1) (f1 : (c : Cell) → f c ≤ 1)
     (heavy : (a b : Cell) → R a → R b → Neighbours a b → Heavy w e f a b) where
-  along : {s t : Cell} {l : List Cell} → Walk s t l → All R l → 2 * length l + w s + w t ≤ 2 * weight w l + 2 + ((weight e l - 1) + (weight f l - 1))
+  along : {s t : Cell} {l : List Cell} → Walk s t l → All R l
+      → 2 * length l + w s + w t ≤ 2 * weight w l + 2 + ((weight e l - 1) + (weight f l - 1))
   along Walk.end r = omega arith
   along (Walk.step {a = a} {b = b} {t = t} {l = l} n v) (All.more r q) =
       go (length l) (w a) (w b) (w t) (weight w l) _ _ _ _ _ _ (along v q) (heavy a b r (first-in v q) n)
       (marked (e a) (e b) (weight e l) (e1 a) (e1 b) (first-weight e v)) (marked (f a) (f b) (weight f l) (f1 a) (f1 b) (first-weight f v))
     where
-      go : (k x y z u p q p' q' p'' q'' : ℕ) → 2 * k + y + z ≤ 2 * u + 2 + (p' + q') → 2 ≤ x + y + (p + q) → p + p' ≤ p'' → q + q' ≤ q'' → 2 * suc k + x + z ≤ 2 * (x + u) + 2 + (p'' + q'')
+      go : (k x y z u p q p' q' p'' q'' : ℕ) → 2 * k + y + z ≤ 2 * u + 2 + (p' + q') → 2 ≤ x + y + (p + q) → p + p' ≤ p'' → q + q' ≤ q''
+          → 2 * suc k + x + z ≤ 2 * (x + u) + 2 + (p'' + q'')
       go k x y z u p q p' q' p'' q'' h i j m = omega arith
 
 -- ---- cells of three rows
@@ -66,7 +69,9 @@ module _ (c : ℕ) where
 
   blank-weight : (m n : ℕ) → columnsWeight blank 0 m n ≡ 0
   unfolding columnsWeight blank
-  blank-weight m n = omega (arith, sum-const (λ x. partialSum (λ y. 0) 0 n) 0 m 0 (λ x p q. omega (arith, sum-const (λ y. 0) 0 n 0 (λ y u v. refl))))
+  blank-weight m n =
+      let column : partialSum (λ y. 0) 0 n ≡ 0 = omega (arith, sum-const (λ y. 0) 0 n 0 (λ y u v. refl)) in
+      omega (arith, sum-const (λ x. partialSum (λ y. 0) 0 n) 0 m 0 (λ x p q. column))
 
   -- marks the two cells beside the edge in row y
   gate : ℕ → Cell → ℕ
@@ -85,12 +90,19 @@ module _ (c : ℕ) where
   gate-bound y d = put-bound _ 1 _ d 1 (omega arith) (put-bound _ 1 blank d 1 (omega arith) (omega arith))
 
   -- a list without repeats has at most the two cells
-  gate-weight : (y m n : ℕ) {l : List Cell} → 1 ≤ c → c + 1 ≤ m → 1 ≤ y → y ≤ n → Once l → All (InColumns 0 m n) l → weight (gate y) l ≤ 2
+  gate-weight : (y m n : ℕ) {l : List Cell} → 1 ≤ c → c + 1 ≤ m → 1 ≤ y → y ≤ n → Once l → All (InColumns 0 m n) l
+      → weight (gate y) l ≤ 2
   unfolding gate
   gate-weight y m n p q u v o r =
       let a : Cell = cell c y in
       let b : Cell = cell (c + 1) y in
-      omega (arith, pigeon (put a 1 (put b 1 blank)) 0 m n o r, put-weight a 1 (put b 1 blank) 0 m n (omega arith), put-weight b 1 blank 0 m n (omega arith), blank-weight m n)
+      omega (
+        arith,
+        pigeon (put a 1 (put b 1 blank)) 0 m n o r,
+        put-weight a 1 (put b 1 blank) 0 m n (omega arith),
+        put-weight b 1 blank 0 m n (omega arith),
+        blank-weight m n,
+      )
 
   -- ---- the weights
 
@@ -109,10 +121,13 @@ module _ (c : ℕ) where
   unfolding columnsWeight
   side-total r o =
       let column : (ℕ → ℕ) = λ x. partialSum (λ y. side (cell x y)) 0 3 in
+      let blacks : (ℕ → ℕ) = λ x. partialSum (λ y. ifBlack (cell x y)) 0 3 in
+      let twice : ((x : ℕ) → 0 < x → x ≤ 0 + c → column x ≡ 2 * blacks x + 0) = λ x p q.
+      sum-linear (λ y. side (cell x y)) (λ y. ifBlack (cell x y)) 0 3 2 0 (λ y u v. omega (arith, side-in (cell x y) (omega arith))) in
       omega (
         arith,
         sum-split column 0 c r,
-        sum-linear column (λ x. partialSum (λ y. ifBlack (cell x y)) 0 3) 0 c 2 0 (λ x p q. sum-linear (λ y. side (cell x y)) (λ y. ifBlack (cell x y)) 0 3 2 0 (λ y u v. omega (arith, side-in (cell x y) (omega arith)))),
+        sum-linear column blacks 0 c 2 0 twice,
         sum-const column (0 + c) r 3 (λ x p q. sum-const _ 0 3 1 (λ y u v. side-out (cell x y) (omega arith))),
         columns-black c 3,
         odd-half c o,
@@ -151,9 +166,11 @@ pub strip : (c m : ℕ) {s t : Cell} {l : List Cell} → c % 2 ≡ 1 → m % 2 �
     → Walk s t l → Once l → All (InColumns 0 m 3) l → length l + 2 ≤ m * 3
 strip c m {s} {t} {l} o e p q ds dt w u a =
     let r : InColumns 0 m 3 t = last-in w a in
-    let total : columnsWeight (side c) 0 m 3 + 1 ≡ m * 3 = subst (λ (k : ℕ). columnsWeight (side c) 0 k 3 + 1 ≡ k * 3) (add-sub-of-le {n = m} {m = c} (omega arith)) (side-total c (m - c) o) in
+    let parts : c + (m - c) ≡ m = add-sub-of-le (omega arith) in
+    let total = subst (λ (k : ℕ). columnsWeight (side c) 0 k 3 + 1 ≡ k * 3) parts (side-total c (m - c) o) in
     go (length l) m _ _ _ _ _ _ e ((even-length w) .1 (omega arith)) (pigeon (side c) 0 m 3 u a) total
-    (gate-weight c 1 m 3 (omega arith) (omega arith) (omega arith) (omega arith) u a) (gate-weight c 3 m 3 (omega arith) (omega arith) (omega arith) (omega arith) u a)
+    (gate-weight c 1 m 3 (omega arith) (omega arith) (omega arith) (omega arith) u a)
+    (gate-weight c 3 m 3 (omega arith) (omega arith) (omega arith) (omega arith) u a)
     (side-in c s p) (side-out c t q)
     (along (side c) (gate c 1) (gate c 3) (gate-bound c 1) (gate-bound c 3) (pair c o m) w a)
   where
@@ -163,5 +180,6 @@ strip c m {s} {t} {l} o e p q ds dt w u a =
     both-even : (k m : ℕ) → m % 2 ≡ 0 → k % 2 ≡ 0 → k < m * 3 → k + 2 ≤ m * 3
     both-even k m e f h = omega (arith, halves (k / 2) (m / 2) (omega arith))
 
-    go : (k m x y z g h i : ℕ) → m % 2 ≡ 0 → k % 2 ≡ 0 → z ≤ i → i + 1 ≡ m * 3 → g ≤ 2 → h ≤ 2 → x ≡ 2 * ifBlack s → y ≡ 1 → 2 * k + x + y ≤ 2 * z + 2 + ((g - 1) + (h - 1)) → k + 2 ≤ m * 3
+    go : (k m x y z g h i : ℕ) → m % 2 ≡ 0 → k % 2 ≡ 0 → z ≤ i → i + 1 ≡ m * 3 → g ≤ 2 → h ≤ 2 → x ≡ 2 * ifBlack s → y ≡ 1
+        → 2 * k + x + y ≤ 2 * z + 2 + ((g - 1) + (h - 1)) → k + 2 ≤ m * 3
     go k m x y z g h i e f a b c d j n q = both-even k m e f (omega arith)

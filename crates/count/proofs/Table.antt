@@ -7,12 +7,13 @@ use lib.Dec.{eqb}
 use borrow.Author.Tests.{eqb-true}
 use Rattle.grid.specs.declared.Panel.{Panel}
 use Rattle.grid.specs.declared.Cell.{Cell}
+use Rattle.grid.specs.Panel.{panel, cell}
 use Rattle.grid.proofs.Facts.{and-left, and-right}
 use Rattle.count.specs.Count.{f1, f2, f3, c2, c0, decided, named, classCount, class, count}
 
 -- a row: an order, and the class and the count that it must have
 pub record Row : Type 0 where
-  pub panel : Panel
+  pub itsPanel : Panel
   pub entry : Cell
   pub exit : Cell
   pub itsClass : ℕ
@@ -22,9 +23,9 @@ pub record Row : Type 0 where
 abbrev row : (m n sx sy tx ty cl co : ℕ) → Row
 row m n sx sy tx ty cl co =
     record {
-      panel = record { width = m; height = n };
-      entry = record { x = sx; y = sy };
-      exit = record { x = tx; y = ty };
+      itsPanel = panel m n;
+      entry = cell sx sy;
+      exit = cell tx ty;
       itsClass = cl;
       itsCount = co;
     }
@@ -48,18 +49,18 @@ table =
 -- every row has its class and its count
 abbrev pub Holds : List Row → Type 0
 Holds [] = Unit {0}
-Holds (r ∷ l) = (class (r .panel) (r .entry) (r .exit) ≡ r .itsClass) × (count (r .panel) (r .entry) (r .exit) ≡ r .itsCount) × Holds l
+Holds (r ∷ l) = (class (r .itsPanel) (r .entry) (r .exit) ≡ r .itsClass) × (count (r .itsPanel) (r .entry) (r .exit) ≡ r .itsCount) × Holds l
 
 -- the same as a test
 abbrev holds : List Row → Bool
 holds [] = true
-holds (r ∷ l) = eqb (class (r .panel) (r .entry) (r .exit)) (r .itsClass) && (eqb (count (r .panel) (r .entry) (r .exit)) (r .itsCount) && holds l)
+holds (r ∷ l) = eqb (class (r .itsPanel) (r .entry) (r .exit)) (r .itsClass) && (eqb (count (r .itsPanel) (r .entry) (r .exit)) (r .itsCount) && holds l)
 
 tested : (l : List Row) → holds l ≡ true → Holds l
 tested [] e = tt
 tested (r ∷ l) e =
-    let a = eqb (class (r .panel) (r .entry) (r .exit)) (r .itsClass) in
-    let b = eqb (count (r .panel) (r .entry) (r .exit)) (r .itsCount) in
+    let a = eqb (class (r .itsPanel) (r .entry) (r .exit)) (r .itsClass) in
+    let b = eqb (count (r .itsPanel) (r .entry) (r .exit)) (r .itsCount) in
     let later = and-right a (b && holds l) e in
     (eqb-true _ _ (and-left a (b && holds l) e), eqb-true _ _ (and-left b (holds l) later), tested l (and-right b (holds l) later))
 

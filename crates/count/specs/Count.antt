@@ -12,9 +12,13 @@ use Rattle.count.specs.declared.ClassCount.{ClassCount}
 abbrev pub odd : ℕ → Bool
 odd k = eqb (k % 2) 1
 
+-- the first or the last of k
+abbrev pub isEnd : ℕ → ℕ → Bool
+isEnd k a = eqb a 1 || eqb a k
+
 -- an end cell of a panel of one row
 abbrev pub endCell : Panel → Cell → Bool
-endCell p c = eqb (c .x) 1 || eqb (c .x) (p .width)
+endCell p c = isEnd (p .width) (c .x)
 
 -- F1: n = 1 and a terminal is not an end cell
 unfoldable pub f1 : Panel → Cell → Cell → Bool
@@ -24,11 +28,17 @@ f1 p s t = eqb (p .height) 1 && not (endCell p s && endCell p t)
 unfoldable pub f2 : Panel → Cell → Cell → Bool
 f2 p s t = eqb (p .height) 2 && (eqb (s .x) (t .x) || (eqb (s .x + 1) (t .x) && not (eqb (s .y) (t .y))))
 
--- F3: n = 3, m even, s black, t white, and their x differ by 2 or more, or by 1 with both in row 2
+-- the larger of sum and 2m − sum + 2
+abbrev pub f2Count : ℕ → ℕ → ℕ
+f2Count m sum = max sum (2 * m - sum + 2)
+
+-- the x differ by 2 or more, or by 1 with both in row 2
+abbrev pub f3Apart : Cell → Cell → Bool
+f3Apart s t = leb (s .x + 2) (t .x) || (eqb (s .x + 1) (t .x) && (eqb (s .y) 2 && eqb (t .y) 2))
+
+-- F3: n = 3, m even, s black, t white, and their x differ by so much
 unfoldable pub f3 : Panel → Cell → Cell → Bool
-f3 p s t =
-    eqb (p .height) 3 && (not (odd (p .width)) && (black s && (not (black t) &&
-    (leb (s .x + 2) (t .x) || (eqb (s .x + 1) (t .x) && (eqb (s .y) 2 && eqb (t .y) 2))))))
+f3 p s t = eqb (p .height) 3 && (not (odd (p .width)) && (black s && (not (black t) && f3Apart s t)))
 
 -- C2: mn odd and both terminals black; or F3
 unfoldable pub c2 : Panel → Cell → Cell → Bool
@@ -46,7 +56,7 @@ found c k = record { class = c; count = record { 0 = k } }
 unfoldable pub decided : Panel → Cell → Cell → ClassCount
 decided p s t =
     cond (f1 p s t) (found 1 (t .x - s .x + 1))
-    (cond (f2 p s t) (found 2 (max (s .x + t .x) (2 * p .width - (s .x + t .x) + 2)))
+    (cond (f2 p s t) (found 2 (f2Count (p .width) (s .x + t .x)))
     (cond (c2 p s t) (found 5 (area p - 2))
     (cond (c0 p s t) (found 3 (area p))
     (found 4 (area p - 1)))))

@@ -9,32 +9,18 @@ use Rattle.grid.specs.declared.Cell.{Cell}
 use Rattle.grid.specs.declared.Check.{Check}
 use Rattle.grid.specs.declared.Check.the-variants.{Good}
 use Rattle.grid.specs.declared.Refusal.the-variants.{ShortBuffer}
+use Rattle.grid.specs.declared.CellsAnswer.{CellsAnswer}
+use Rattle.grid.specs.declared.CellsAnswer.the-variants.{Refused, Given}
 use Rattle.grid.specs.Track.{Track}
 use Rattle.grid.specs.Bytes.{front}
-use Rattle.grid.specs.Check.{checkOrder, after, expect, answer}
-use Rattle.grid.specs.Refusal.{number}
+use Rattle.grid.specs.Check.{checkOrder, after, expect}
+use Rattle.grid.specs.Answer.{GivesCells}
 use Rattle.count.specs.Count.{count}
 use Rattle.count.specs.Longest.{NoLonger}
-use Rattle.draw.specs.declared.DrawAnswer.{DrawAnswer}
-use Rattle.draw.specs.declared.DrawAnswer.the-variants.{Refused, Drawn}
 
 -- refused as Bound, then 5: the buffer is shorter than 2 bytes for each cell of the count
 abbrev pub drawCheck : Panel → Cell → Cell → ℕ → Check
 drawCheck p s t size = after (checkOrder p s t) (expect (leb (2 * count p s t) size) ShortBuffer Good)
-
--- the refusal, or the count of cells
-abbrev pub drawOf : Panel → Cell → Cell → ℕ → DrawAnswer
-drawOf p s t size = answer (drawCheck p s t size) Refused (Drawn (record { 0 = count p s t }))
-
--- the refusal's number, 0 where nothing is refused
-abbrev pub numberOf : DrawAnswer → ℕ
-numberOf (Refused r) = number r
-numberOf (Drawn k) = 0
-
--- the count of cells, 0 where refused
-abbrev pub countOf : DrawAnswer → ℕ
-countOf (Refused r) = 0
-countOf (Drawn k) = k .0
 
 -- the k cells read from the front of the buffer after the call are a track from s to t, every list of cells that is such a track has at most k,
 -- and the bytes behind the k cells are the old ones
@@ -45,11 +31,11 @@ pub record LongestAtFront (p : Panel) (s t : Cell) (k : ℕ) (old new : List ℕ
   pub behind : drop (2 * k) new ≡ drop (2 * k) old
 
 -- a refusal changes no byte
-abbrev pub Leaves : Panel → Cell → Cell → List ℕ → List ℕ → DrawAnswer → Type 0
+abbrev pub Leaves : Panel → Cell → Cell → List ℕ → List ℕ → CellsAnswer → Type 0
 Leaves p s t old new (Refused r) = new ≡ old
-Leaves p s t old new (Drawn k) = LongestAtFront p s t (k .0) old new
+Leaves p s t old new (Given k) = LongestAtFront p s t (k .0) old new
 
--- Draw's promise: the answer is the defined one, and the buffer holds a longest track and is otherwise as it was
-pub record Draws (p : Panel) (s t : Cell) (old new : List ℕ) (r : DrawAnswer) : Type 0 where
-  pub answers : r ≡ drawOf p s t (length old)
+-- Draw's promise: the count, or what the check refuses; and the buffer begins with a longest track and is otherwise as it was
+pub record Draws (p : Panel) (s t : Cell) (old new : List ℕ) (r : CellsAnswer) : Type 0 where
+  pub gives : GivesCells (drawCheck p s t (length old)) (count p s t) r
   pub leaves : Leaves p s t old new r

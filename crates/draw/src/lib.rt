@@ -1,102 +1,63 @@
-// Draw: a longest track between two cells, as a plan of corner tracks.
+// Draw: a longest track between two cells, from the table of the 3 by 3 panel or as a plan of corner
+// tracks.
 use grid::Cell;
 use grid::Cells;
+use grid::CellsAnswer;
 use grid::Check;
 use grid::Panel;
 use grid::Refusal;
-use legs::draw_plan;
-use small::draw_small;
-ghost use mathlib.Core.Path.{_≡_};
-ghost use mathlib.Core.Logic.{_≢_};
-ghost use Prim.Native.Nat.{_≤_, _*_};
-ghost use lib.ListN.{length};
-ghost use Rattle.grid.specs.Panel.{OnPanel, GoodPanel};
-ghost use Rattle.corner.specs.Drawn.{Drawn};
+use legs::draw_leg;
+use legs::draw_legs;
+use plan::Plan;
+ghost use Rattle.grid.specs.Panel.{OnPanel};
+ghost use Rattle.line.specs.Drawn.{Drawn};
 ghost use Rattle.count.specs.Count.{count};
-ghost use Rattle.draw.specs.Draw.{Draws, numberOf, countOf};
+ghost use Rattle.plan.specs.Leg.{legs};
+ghost use Rattle.plan.specs.Drawing.{Room, Written};
+ghost use Rattle.table.specs.Order.{ReadyOrder};
+ghost use Rattle.draw.specs.Draw.{Draws};
 
-mod legs;
-mod small;
-
-// How a row of the 3 by 3 panel's table is laid for two terminals: turned, then mirrored in x
-// (`across`) and in y (`down`), and walked from its end where `back` is set.
-pub struct Placing {
-    pub row: usize,
-    pub turn: bool,
-    pub across: bool,
-    pub down: bool,
-    pub back: bool,
-}
-
-// What Draw answers.
-pub enum DrawAnswer {
-    Refused(Refusal),
-    Drawn(Cells),
-}
-
-// Draws by a plan.
-fn draw_planned(p: Panel, s: Cell, t: Cell, buf: &mut [u8])
-    requires { ⌜ GoodPanel p ⌝ }
-    requires { ⌜ OnPanel p s ⌝ }
-    requires { ⌜ OnPanel p t ⌝ }
-    requires { ⌜ s ≢ t ⌝ }
-    requires { ⌜ 2 * count p s t ≤ length (now buf) ⌝ }
-    ensures { λ _. ⌜ Drawn (OnPanel p) s t (count p s t) (now (buf .entry)) (now (buf .exit)) ⌝ }
+// Gives the number of cells written.
+fn draw_plan(p: Plan, buf: &mut [u8]) -> Cells
+    requires { ⌜ Room (legs p) (now buf) ⌝ }
+    ensures { λ r. ⌜ Written (legs p) r (now (buf .entry)) (now (buf .exit)) ⌝ }
 {
-    let chosen = plan::choice::plan_of(p.width, p.height, s, t);
-    draw_plan(chosen, buf);
+    match p {
+        Plan::One(g) => draw_leg(g, buf),
+        Plan::Two(g, h) => draw_legs([g, h, h, h, h], 2, buf),
+        Plan::Three(g, h, i) => draw_legs([g, h, i, i, i], 3, buf),
+        Plan::Five(g, h, i, j, l) => draw_legs([g, h, i, j, l], 5, buf),
+    }
 }
 
 // Draws a longest track between two different cells of a panel, where there is room for it.
 fn draw_longest(p: Panel, s: Cell, t: Cell, buf: &mut [u8])
-    requires { ⌜ GoodPanel p ⌝ }
-    requires { ⌜ OnPanel p s ⌝ }
-    requires { ⌜ OnPanel p t ⌝ }
-    requires { ⌜ s ≢ t ⌝ }
-    requires { ⌜ 2 * count p s t ≤ length (now buf) ⌝ }
+    requires { ⌜ ReadyOrder p s t (now buf) ⌝ }
     ensures { λ _. ⌜ Drawn (OnPanel p) s t (count p s t) (now (buf .entry)) (now (buf .exit)) ⌝ }
 {
     if p.width == 3 {
         if p.height == 3 {
-            draw_small(s, t, buf);
+            table::draw_small(p, s, t, buf);
             return;
         }
     }
-    draw_planned(p, s, t, buf);
+    let chosen = choice::plan_of(p.width, p.height, s, t);
+    draw_plan(chosen, buf);
 }
 
 // The call.
-pub fn draw(p: Panel, entry: Cell, exit: Cell, buf: &mut [u8]) -> DrawAnswer
+pub fn draw(p: Panel, entry: Cell, exit: Cell, buf: &mut [u8]) -> CellsAnswer
     ensures { λ r. ⌜ Draws p entry exit (now (buf .entry)) (now (buf .exit)) r ⌝ }
 {
     let c = grid::check_order(p, entry, exit);
     if let Check::Refused(r) = c {
-        return DrawAnswer::Refused(r);
+        return CellsAnswer::Refused(r);
     }
-    let found = bound::class_count(p, entry, exit);
+    let found = class::class_count(p, entry, exit);
     let cells = found.count;
     if buf.len() < 2 * (cells.0 as usize) {
-        return DrawAnswer::Refused(Refusal::ShortBuffer);
+        return CellsAnswer::Refused(Refusal::ShortBuffer);
     }
     draw_longest(p, entry, exit, buf);
-    DrawAnswer::Drawn(cells)
-}
-
-// An answer's number, 0 where nothing is refused, and its count, 0 where refused.
-pub fn number_of(a: DrawAnswer) -> u32
-    ensures { λ r. ⌜ r ≡ numberOf a ⌝ }
-{
-    match a {
-        DrawAnswer::Refused(r) => grid::number_of(r),
-        DrawAnswer::Drawn(_) => 0,
-    }
-}
-
-pub fn count_of(a: DrawAnswer) -> Cells
-    ensures { λ r. ⌜ r .0 ≡ countOf a ⌝ }
-{
-    match a {
-        DrawAnswer::Refused(_) => Cells(0),
-        DrawAnswer::Drawn(cells) => cells,
-    }
+    CellsAnswer::Given(cells)
 }

@@ -1,8 +1,10 @@
 // Draws every order on panels up to 6 by 6, off-panel terminals included, into a filled buffer, and
 // checks each answer and each byte by a plain look at them; then the order of document 01 that
 // needs 32,768 bytes, with that many and with one fewer.
+use bound::bound_values;
 use grid::Cell;
-use grid::Panel;
+use grid::cells_values;
+use grid::panel_of;
 use trial::cells::Order;
 use trial::cells::filled;
 use trial::cells::is_track;
@@ -30,13 +32,13 @@ fn first() -> Cell {
 
 // One order into the buffer, which is filled: whether all of it is right.
 fn right(o: Order, buf: &mut [u8]) -> bool {
-    let b = bound::bound(o.panel, o.entry, o.exit);
-    let a = draw::draw(o.panel, o.entry, o.exit, buf);
-    let k = draw::count_of(a).0;
-    if k != bound::count_of(b).0 {
+    let b = bound_values(bound::bound(o.panel, o.entry, o.exit));
+    let a = cells_values(draw::draw(o.panel, o.entry, o.exit, buf));
+    let k = a.cells.0;
+    if k != b.count.0 {
         return false;
     }
-    if draw::number_of(a) != bound::number_of(b) {
+    if a.refusal != b.refusal {
         return false;
     }
     if !filled(buf, 2 * (k as usize), FILL) {
@@ -51,10 +53,7 @@ fn right(o: Order, buf: &mut [u8]) -> bool {
 // The order of number `code`: six numbers from 1 to 6.
 fn order_of(code: u32) -> Order {
     Order {
-        panel: Panel {
-            width: code % 6 + 1,
-            height: code / 6 % 6 + 1,
-        },
+        panel: panel_of(code % 6 + 1, code / 6 % 6 + 1),
         entry: Cell {
             x: code / 36 % 6 + 1,
             y: code / 216 % 6 + 1,
@@ -69,7 +68,7 @@ fn order_of(code: u32) -> Order {
 fn count_one(code: u32, t: Totals) -> Totals {
     let o = order_of(code);
     let mut buf = [FILL; 80];
-    let k = bound::count_of(bound::bound(o.panel, o.entry, o.exit)).0;
+    let k = bound_values(bound::bound(o.panel, o.entry, o.exit)).count.0;
     let good = right(o, &mut buf);
     Totals {
         orders: add(t.orders, 1),
@@ -104,17 +103,14 @@ fn small_panels() {
 
 // The largest panel, along its left edge.
 fn large(buf: &mut [u8]) {
-    let panel = Panel {
-        width: 128,
-        height: 128,
-    };
+    let panel = panel_of(128, 128);
     let entry = first();
     let exit = Cell { x: 1, y: 128 };
     let size = (buf.len() % 65536) as u32;
-    let a = draw::draw(panel, entry, exit, buf);
-    let k = draw::count_of(a).0;
+    let a = cells_values(draw::draw(panel, entry, exit, buf));
+    let k = a.cells.0;
     named(b"128 128 1 1 1 128 in ", size);
-    named(b" bytes: ", draw::number_of(a));
+    named(b" bytes: ", a.refusal);
     named(b" ", k);
     let o = Order { panel, entry, exit };
     if is_track(buf, o, first(), k) {

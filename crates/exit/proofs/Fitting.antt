@@ -33,7 +33,8 @@ fit-exit p s w c os oc e =
     }
 
 -- 12: no track from the entry to another cell of the panel has that many cells
-pub none-fits : (p : Panel) (s : Cell) (w : Cells) → any (fits p s w) (reading p) ≡ false → (c : Cell) → OnPanel p c → s ≢ c → (l : List Cell) → Track p s c l → length l < w .0
+pub none-fits : (p : Panel) (s : Cell) (w : Cells) → any (fits p s w) (reading p) ≡ false
+    → (c : Cell) → OnPanel p c → s ≢ c → (l : List Cell) → Track p s c l → length l < w .0
 none-fits p s w e c oc d l r =
     let n : (not (sameCell s c) && leb (w .0) (count p s c)) ≡ false = any-none (fits p s w) p c oc e in
     let f = leb-false (w .0) (count p s c) (sym (ap (λ (b : Bool). not b && leb (w .0) (count p s c)) (ne-same s c d)) ∙ n) in

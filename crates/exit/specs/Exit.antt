@@ -15,10 +15,11 @@ use Rattle.grid.specs.declared.Check.the-variants.{Good, Refused}
 use Rattle.grid.specs.Panel.{OnPanel, cell, sameCell}
 use Rattle.grid.specs.Track.{Track}
 use Rattle.grid.specs.Refusal.{number}
-use Rattle.grid.specs.Check.{expect, after, checkEntry}
+use Rattle.grid.specs.Check.{expect, after, checkEntry, answer}
+use Rattle.grid.specs.Answer.{refusalNumber}
 use Rattle.count.specs.Count.{count}
 use Rattle.exit.specs.declared.ExitAnswer.{ExitAnswer}
-use Rattle.exit.specs.declared.ExitAnswer.the-variants as E
+use Rattle.exit.specs.declared.ExitAnswer.the-variants as exit
 use Rattle.exit.specs.declared.Search.{Search}
 use Rattle.exit.specs.declared.Search.the-variants.{At, Nothing}
 
@@ -58,18 +59,23 @@ pub record Exit (p : Panel) (s : Cell) (w : Cells) (c : Cell) : Type 0 where
 
 -- the answer: the refusal of the check, or where all is good such a cell
 abbrev pub ExitIs : Panel → Cell → Cells → ExitAnswer → Type 0
-ExitIs p s w (E.Refused r) = exitCheck p s w ≡ Refused r
-ExitIs p s w (E.Found c) = (exitCheck p s w ≡ Good) × Exit p s w c
+ExitIs p s w (exit.Refused r) = exitCheck p s w ≡ Refused r
+ExitIs p s w (exit.Given c) = (exitCheck p s w ≡ Good) × Exit p s w c
 
--- the refusal's number, 0 where nothing is refused
-abbrev pub numberOf : ExitAnswer → ℕ
-numberOf (E.Refused r) = number r
-numberOf (E.Found c) = 0
+-- number and cell of an answer
+pub record ExitValues : Type 0 where
+  pub refusal : ℕ
+  pub cell : Cell
 
--- the cell, (0, 0) where refused
-abbrev pub cellOf : ExitAnswer → Cell
-cellOf (E.Refused r) = cell 0 0
-cellOf (E.Found c) = c
+abbrev pub exitValues : ExitAnswer → ExitValues
+exitValues (exit.Refused r) = record { refusal = number r; cell = cell 0 0 }
+exitValues (exit.Given c) = record { refusal = 0; cell = c }
+
+-- what Exit promises: the cell is (0, 0) where the check refuses, and else such a cell
+pub record Exits (p : Panel) (s : Cell) (w : Cells) (r : ExitAnswer) : Type 0 where
+  pub answers : ExitIs p s w r
+  pub number : (exitValues r) .refusal ≡ refusalNumber (exitCheck p s w)
+  pub cell : answer (exitCheck p s w) (λ x. (exitValues r) .cell ≡ cell 0 0) (Exit p s w ((exitValues r) .cell))
 
 -- ---- the search: no promise of Exit rests on what follows
 

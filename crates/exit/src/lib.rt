@@ -7,12 +7,12 @@ use grid::Refusal;
 ghost use mathlib.Core.Path.{_≡_};
 ghost use Prim.Native.Nat.{_≤_};
 ghost use Rattle.grid.specs.Panel.{OnPanel, GoodPanel};
-ghost use Rattle.exit.specs.Exit.{fits, ExitIs, numberOf, cellOf, RowIs, SearchIs};
+ghost use Rattle.exit.specs.Exit.{fits, Exits, RowIs, SearchIs};
 
 // What Exit answers.
 pub enum ExitAnswer {
     Refused(Refusal),
-    Found(Cell),
+    Given(Cell),
 }
 
 // What a search finds.
@@ -31,7 +31,7 @@ fn is_fit(p: Panel, entry: Cell, wanted: Cells, c: Cell) -> bool
     if grid::same_cell(entry, c) {
         return false;
     }
-    let found = bound::class_count(p, entry, c);
+    let found = class::class_count(p, entry, c);
     wanted.0 <= found.count.0
 }
 
@@ -72,8 +72,9 @@ fn in_panel(p: Panel, entry: Cell, wanted: Cells) -> Search
     Search::Nothing
 }
 
+// The call.
 pub fn find_exit(p: Panel, entry: Cell, wanted: Cells) -> ExitAnswer
-    ensures { λ r. ⌜ ExitIs p entry wanted r ⌝ }
+    ensures { λ r. ⌜ Exits p entry wanted r ⌝ }
 {
     let checked = grid::check_entry(p, entry);
     if let Check::Refused(r) = checked {
@@ -81,27 +82,7 @@ pub fn find_exit(p: Panel, entry: Cell, wanted: Cells) -> ExitAnswer
     }
     let found = in_panel(p, entry, wanted);
     if let Search::At(c) = found {
-        return ExitAnswer::Found(c);
+        return ExitAnswer::Given(c);
     }
     ExitAnswer::Refused(Refusal::NoExit)
-}
-
-// Document 01's number of the refusal, 0 where there is none.
-pub fn number_of(a: ExitAnswer) -> u32
-    ensures { λ r. ⌜ r ≡ numberOf a ⌝ }
-{
-    match a {
-        ExitAnswer::Refused(r) => grid::number_of(r),
-        ExitAnswer::Found(_) => 0,
-    }
-}
-
-// The cell, (0, 0) where refused.
-pub fn cell_of(a: ExitAnswer) -> Cell
-    ensures { λ r. ⌜ r ≡ cellOf a ⌝ }
-{
-    match a {
-        ExitAnswer::Refused(_) => Cell { x: 0, y: 0 },
-        ExitAnswer::Found(c) => c,
-    }
 }

@@ -1,8 +1,8 @@
 // Answers Exit for a list of panels, entries and wanted counts. A line gives these and, behind the
 // colon, the refusal's number (0: none) and the cell.
+use exit::ExitAnswer;
 use grid::Cell;
 use grid::Cells;
-use grid::Panel;
 use trial::print::row;
 
 // The largest number of 32 bits.
@@ -10,13 +10,11 @@ const MAX: u32 = 4294967295;
 
 fn answer(m: u32, n: u32, x: u32, y: u32, wanted: u32) {
     row(&[m, n, x, y, wanted], b": ");
-    let panel = Panel {
-        width: m,
-        height: n,
-    };
-    let a = exit::find_exit(panel, Cell { x, y }, Cells(wanted));
-    let c = exit::cell_of(a);
-    row(&[exit::number_of(a), c.x, c.y], b"\n");
+    let panel = grid::panel_of(m, n);
+    match exit::find_exit(panel, Cell { x, y }, Cells(wanted)) {
+        ExitAnswer::Refused(r) => row(&[grid::number_of(r), 0, 0], b"\n"),
+        ExitAnswer::Given(c) => row(&[0, c.x, c.y], b"\n"),
+    }
 }
 
 // Cells found: in one row, two rows, three rows and on large panels.

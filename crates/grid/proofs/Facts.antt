@@ -2,7 +2,7 @@
 use Prim.Native.Nat.{ℕ, _+_, _-_, _≤_}
 use mathlib.Core.Path.{_≡_, refl, sym, ap, _∙_}
 use mathlib.Core.Logic.{_≢_, _⊎_, inl, inr}
-use mathlib.Core.Bool.{Bool, true, false, _&&_, true≢false}
+use mathlib.Core.Bool.{Bool, true, false, _&&_, _||_, true≢false}
 use native.Mathlib.Nat.{mul-le-mul}
 use native.Mathlib.Omega.{arith}
 use lib.Dec.{leb, eqb}
@@ -11,7 +11,13 @@ use Rattle.grid.specs.declared.Panel.{Panel}
 use Rattle.grid.specs.declared.Cell.{Cell}
 use Rattle.grid.specs.Panel.{maxSide, upTo, goodPanel, GoodPanel, area, onPanel, OnPanel, sameCell, dist, apart, Neighbours, neighbours}
 
--- ---- Boolean "and"
+-- ---- what cannot be
+
+-- `cc` proves 0 ≡ 1 from two constructors that are said to be equal
+pub clash {ℓ} : {A : Type ℓ} → _≡_ {A = ℕ} 0 1 → A
+clash e = absurd (omega arith)
+
+-- ---- Boolean "and" and "or"
 
 pub and-left : (a b : Bool) → (a && b) ≡ true → a ≡ true
 and-left true b e = refl
@@ -27,6 +33,10 @@ and-parts a b e = (and-left a b e, and-right a b e)
 
 pub and-both : {a b : Bool} → a ≡ true → b ≡ true → (a && b) ≡ true
 and-both p q = λ i. p i && q i
+
+pub or-cases : (a b : Bool) → (a || b) ≡ true → (a ≡ true) ⊎ (b ≡ true)
+or-cases true b e = inl refl
+or-cases false b e = inr e
 
 -- ---- panels
 

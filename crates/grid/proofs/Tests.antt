@@ -1,7 +1,7 @@
 -- How a test in the code decides a definition: one law for each way that a definition goes by cases.
 -- Each takes what the test showed, so that an answer to `returns` is read off the branches on the way to it.
 use mathlib.Core.Path.{_≡_, refl, subst⁻¹}
-use mathlib.Core.Bool.{Bool, true, false, cond, _&&_}
+use mathlib.Core.Bool.{Bool, true, false, cond, _&&_, _||_}
 use Rattle.grid.specs.declared.Refusal.{Refusal}
 use Rattle.grid.specs.declared.Check.{Check}
 use Rattle.grid.specs.declared.Check.the-variants.{Good, Refused}
@@ -12,6 +12,17 @@ and-yes b {r} e f = subst⁻¹ (λ (x : Bool). r ≡ (x && b)) e f
 
 pub and-no : {a : Bool} (b : Bool) → a ≡ false → false ≡ (a && b)
 and-no b e = subst⁻¹ (λ (x : Bool). false ≡ (x && b)) e refl
+
+pub or-yes : {a : Bool} (b : Bool) → a ≡ true → true ≡ (a || b)
+or-yes b e = subst⁻¹ (λ (x : Bool). true ≡ (x || b)) e refl
+
+pub or-no : {a : Bool} (b : Bool) {r : Bool} → a ≡ false → r ≡ b → r ≡ (a || b)
+or-no b {r} e f = subst⁻¹ (λ (x : Bool). r ≡ (x || b)) e f
+
+-- what holds of both branches holds of the choice
+pub both-branches {ℓ} : {A : Type ℓ} (P : A → Type 0) (b : Bool) (x y : A) → (b ≡ true → P x) → (b ≡ false → P y) → P (cond b x y)
+both-branches P true x y f g = f refl
+both-branches P false x y f g = g refl
 
 module _ {ℓ} {A : Type ℓ} where
   pub cond-yes : {b : Bool} (x y : A) {z : A} → b ≡ true → z ≡ x → z ≡ cond b x y

@@ -39,7 +39,8 @@ once-append Once.none o a = o
 once-append (Once.more h r) o (All.more q a) = Once.more (all-append h q) (once-append r o a)
 
 -- lists in regions that have no cell in common
-pub apart-regions : {A B : Cell → Type 0} {l k : List Cell} → ((c : Cell) → A c → B c → ⊥) → All A l → All B k → All (λ c. All (λ d. c ≢ d) k) l
+pub apart-regions : {A B : Cell → Type 0} {l k : List Cell} → ((c : Cell) → A c → B c → ⊥)
+    → All A l → All B k → All (λ c. All (λ d. c ≢ d) k) l
 apart-regions {A} {B} dis a b = all-map (λ c p. all-map (λ d q e. dis c p (subst B (sym e) q)) b) a
 
 -- ---- walks
@@ -87,7 +88,8 @@ some-cell (Walk.step n w) = omega arith
 
 walk-reverse : {s t : Cell} {l : List Cell} → Walk s t l → Walk t s (reverse l)
 walk-reverse Walk.end = Walk.end
-walk-reverse {t = t} (Walk.step {a = a} {b = b} {l = l} n w) = subst (λ (k : List Cell). Walk t a k) (sym (reverse-cons a l)) (walk-append (walk-reverse w) (beside-sym n) Walk.end)
+walk-reverse {t = t} (Walk.step {a = a} {b = b} {l = l} n w) =
+    subst (λ (k : List Cell). Walk t a k) (sym (reverse-cons a l)) (walk-append (walk-reverse w) (beside-sym n) Walk.end)
 
 pub all-reverse : {P : Cell → Type 0} {l : List Cell} → All P l → All P (reverse l)
 all-reverse All.none = All.none

@@ -3,3 +3,4 @@ pub mod Track
 pub mod Bytes
 pub mod Refusal
 pub mod Check
+pub mod Answer

@@ -6,6 +6,10 @@ use lib.Dec.{leb, eqb}
 use Rattle.grid.specs.declared.Panel.{Panel}
 use Rattle.grid.specs.declared.Cell.{Cell}
 
+-- a panel of m columns and n rows
+abbrev pub panel : ℕ → ℕ → Panel
+panel m n = record { width = m; height = n }
+
 -- the largest side
 abbrev pub maxSide : ℕ
 maxSide = 128
@@ -71,8 +75,8 @@ black c = eqb ((c .x + c .y) % 2) 1
 
 -- the turned panel: m exchanged with n (the transposed grid)
 abbrev pub turned : Panel → Panel
-turned p = record { width = p .height; height = p .width }
+turned p = panel (p .height) (p .width)
 
 -- a cell of the turned panel: x exchanged with y
 abbrev pub turnedCell : Cell → Cell
-turnedCell c = record { x = c .y; y = c .x }
+turnedCell c = cell (c .y) (c .x)

@@ -1,24 +1,24 @@
 -- Document 01's numbers of the refusals.
 use Prim.Native.Nat.{ℕ}
 use Rattle.grid.specs.declared.Refusal.{Refusal}
-use Rattle.grid.specs.declared.Refusal.the-variants.{Side, EntryOff, ExitOff, SameCell, ShortBuffer, ListLength, CellOff, NotNeighbours, Repeated, TooManyCells, WrongEnds, NoExit, OneWide, Mark, StepCount, UnknownByte, CutShort}
+use Rattle.grid.specs.declared.Refusal.the-variants as refusal
 
 -- the number of a refusal
 abbrev pub number : Refusal → ℕ
-number Side = 1
-number EntryOff = 2
-number ExitOff = 3
-number SameCell = 4
-number ShortBuffer = 5
-number ListLength = 6
-number CellOff = 7
-number NotNeighbours = 8
-number Repeated = 9
-number TooManyCells = 10
-number WrongEnds = 11
-number NoExit = 12
-number OneWide = 13
-number Mark = 14
-number StepCount = 15
-number UnknownByte = 16
-number CutShort = 17
+number refusal.Side = 1
+number refusal.EntryOff = 2
+number refusal.ExitOff = 3
+number refusal.SameCell = 4
+number refusal.ShortBuffer = 5
+number refusal.ListLength = 6
+number refusal.CellOff = 7
+number refusal.NotNeighbours = 8
+number refusal.Repeated = 9
+number refusal.TooManyCells = 10
+number refusal.WrongEnds = 11
+number refusal.NoExit = 12
+number refusal.OneWide = 13
+number refusal.Mark = 14
+number refusal.StepCount = 15
+number refusal.UnknownByte = 16
+number refusal.CutShort = 17

@@ -2,9 +2,10 @@
 // the calls share.
 ghost use mathlib.Core.Path.{_≡_};
 ghost use Prim.Native.Nat.{_≤_, _+_};
-ghost use Rattle.grid.specs.Panel.{upTo, goodPanel, area, onPanel, sameCell};
+ghost use Rattle.grid.specs.Panel.{upTo, panel, goodPanel, area, onPanel, sameCell, dist, turned, turnedCell};
 ghost use Rattle.grid.specs.Refusal.{number};
-ghost use Rattle.grid.specs.Check.{checkPanel, checkEntry, checkOrder};
+ghost use Rattle.grid.specs.Check.{expect, after, checkPanel, checkEntry, checkOrder};
+ghost use Rattle.grid.specs.Answer.{cellsValues};
 
 // The largest side of a panel.
 pub const MAX_SIDE: u32 = 128;
@@ -54,6 +55,39 @@ pub enum Check {
     Refused(Refusal),
 }
 
+// What a call answers that gives a number of cells: why it refuses, or how many.
+pub enum CellsAnswer {
+    Refused(Refusal),
+    Given(Cells),
+}
+
+// Document 01's number of the refusal, 0 where nothing is refused, and the cells, 0 where refused.
+pub struct CellsValues {
+    pub refusal: u32,
+    pub cells: Cells,
+}
+
+// What a call answers that gives a number of bytes: why it refuses, or how many.
+pub enum BytesAnswer {
+    Refused(Refusal),
+    Given(u32),
+}
+
+pub fn cells_values(a: CellsAnswer) -> CellsValues
+    ensures { λ r. ⌜ r ≡ cellsValues a ⌝ }
+{
+    match a {
+        CellsAnswer::Refused(r) => CellsValues {
+            refusal: number_of(r),
+            cells: Cells(0),
+        },
+        CellsAnswer::Given(k) => CellsValues {
+            refusal: 0,
+            cells: k,
+        },
+    }
+}
+
 // The one way from cells to steps.
 pub fn steps_of(cells: Cells) -> Steps
     requires { ⌜ 1 ≤ cells .0 ⌝ }
@@ -93,6 +127,32 @@ fn up_to(k: u32, a: u32) -> bool
     if 1 <= a { a <= k } else { false }
 }
 
+// The one way that a panel is made.
+pub fn panel_of(width: u32, height: u32) -> Panel
+    ensures { λ r. ⌜ r ≡ panel width height ⌝ }
+{
+    Panel { width, height }
+}
+
+pub fn turn_panel(p: Panel) -> Panel
+    ensures { λ r. ⌜ r ≡ turned p ⌝ }
+{
+    panel_of(p.height, p.width)
+}
+
+pub fn turn_cell(c: Cell) -> Cell
+    ensures { λ r. ⌜ r ≡ turnedCell c ⌝ }
+{
+    Cell { x: c.y, y: c.x }
+}
+
+// How far two numbers are apart.
+pub fn distance(a: u32, b: u32) -> u32
+    ensures { λ r. ⌜ r ≡ dist a b ⌝ }
+{
+    if a <= b { b - a } else { a - b }
+}
+
 pub fn good_panel(p: Panel) -> bool
     ensures { λ r. ⌜ r ≡ goodPanel p ⌝ }
 {
@@ -126,41 +186,44 @@ pub fn same_cell(a: Cell, b: Cell) -> bool
     if a.x == b.x { a.y == b.y } else { false }
 }
 
+// A test that passes goes on to the tests behind it, a test that fails refuses.
+pub fn expect(ok: bool, r: Refusal, rest: Check) -> Check
+    ensures { λ c. ⌜ c ≡ expect ok r rest ⌝ }
+{
+    if ok { rest } else { Check::Refused(r) }
+}
+
+// One list of tests after another.
+pub fn after(first: Check, rest: Check) -> Check
+    ensures { λ c. ⌜ c ≡ after first rest ⌝ }
+{
+    match first {
+        Check::Good => rest,
+        Check::Refused(r) => Check::Refused(r),
+    }
+}
+
 pub fn check_panel(p: Panel) -> Check
     ensures { λ r. ⌜ r ≡ checkPanel p ⌝ }
 {
-    if good_panel(p) {
-        Check::Good
-    } else {
-        Check::Refused(Refusal::Side)
-    }
+    expect(good_panel(p), Refusal::Side, Check::Good)
 }
 
 pub fn check_entry(p: Panel, s: Cell) -> Check
     ensures { λ r. ⌜ r ≡ checkEntry p s ⌝ }
 {
-    let c = check_panel(p);
-    if let Check::Refused(r) = c {
-        return Check::Refused(r);
-    }
-    if !on_panel(p, s) {
-        return Check::Refused(Refusal::EntryOff);
-    }
-    Check::Good
+    after(
+        check_panel(p),
+        expect(on_panel(p, s), Refusal::EntryOff, Check::Good),
+    )
 }
 
 pub fn check_order(p: Panel, s: Cell, t: Cell) -> Check
     ensures { λ r. ⌜ r ≡ checkOrder p s t ⌝ }
 {
-    let c = check_entry(p, s);
-    if let Check::Refused(r) = c {
-        return Check::Refused(r);
-    }
-    if !on_panel(p, t) {
-        return Check::Refused(Refusal::ExitOff);
-    }
-    if same_cell(s, t) {
-        return Check::Refused(Refusal::SameCell);
-    }
-    Check::Good
+    let differ = expect(!same_cell(s, t), Refusal::SameCell, Check::Good);
+    after(
+        check_entry(p, s),
+        expect(on_panel(p, t), Refusal::ExitOff, differ),
+    )
 }

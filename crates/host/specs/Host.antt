@@ -1,13 +1,17 @@
--- What the C host gets: a call's answer as one number, which can be taken apart again (proofs/Packing.antt).
+-- What the C host gets: a call's number, class and count as one number, which can be taken apart again (proofs/Packing.antt).
 use Prim.Native.Nat.{ℕ, _+_, _*_, _/_, _%_, _^_}
+use mathlib.Core.Path.{_≡_}
+use mathlib.Core.List.{List}
+use lib.ListN.{length}
 use Rattle.grid.specs.declared.Panel.{Panel}
-pub use Rattle.grid.specs.Panel.{cell}
-use Rattle.bound.specs.declared.Bounded.{Bounded}
-use Rattle.bound.specs.Bound.{numberOf, classOf, countOf}
-use Rattle.draw.specs.declared.DrawAnswer.{DrawAnswer}
-use Rattle.draw.specs.Draw as draw
-use Rattle.judge.specs.declared.Judged.{Judged}
-use Rattle.judge.specs.Judge.{judgedNumber, judgedCount}
+use Rattle.grid.specs.declared.Cell.{Cell}
+use Rattle.grid.specs.declared.Check.{Check}
+use Rattle.grid.specs.Check.{checkOrder}
+use Rattle.grid.specs.Bytes.{cellsIn}
+use Rattle.grid.specs.Answer.{refusalNumber, given, cellsAnswer}
+use Rattle.count.specs.Count.{class, count}
+use Rattle.draw.specs.Draw.{drawCheck, Leaves}
+use Rattle.judge.specs.Judge.{judgeCheck, scratchAfter}
 
 -- refusal · 2^32 + class · 2^24 + count
 abbrev pub packed : ℕ → ℕ → ℕ → ℕ
@@ -23,16 +27,20 @@ classIn k = k / 2 ^ 24 % 2 ^ 8
 abbrev pub countIn : ℕ → ℕ
 countIn k = k % 2 ^ 24
 
--- a panel by two of an order's six numbers; a cell by two others is `cell`
-abbrev pub panel : ℕ → ℕ → Panel
-panel m n = record { width = m; height = n }
+-- the packed number of what a check refuses, or of class and count
+abbrev pub packedBehind : Check → ℕ → ℕ → ℕ
+packedBehind c class count = packed (refusalNumber c) (given c class) (given c count)
 
--- the answers of the calls, packed; only Bound has a class
-abbrev pub packedBound : Bounded → ℕ
-packedBound b = packed (numberOf b) (classOf b) (countOf b)
+-- Bound's answer, packed
+pub record PacksBound (p : Panel) (s t : Cell) (r : ℕ) : Type 0 where
+  pub packs : r ≡ packedBehind (checkOrder p s t) (class p s t) (count p s t)
 
-abbrev pub packedDraw : DrawAnswer → ℕ
-packedDraw a = packed (draw.numberOf a) 0 (draw.countOf a)
+-- Draw's answer, packed, and the buffer as Draw leaves it; there is no class
+pub record PacksDraw (p : Panel) (s t : Cell) (old new : List ℕ) (r : ℕ) : Type 0 where
+  pub packs : r ≡ packedBehind (drawCheck p s t (length old)) 0 (count p s t)
+  pub leaves : Leaves p s t old new (cellsAnswer (drawCheck p s t (length old)) (count p s t))
 
-abbrev pub packedJudge : Judged → ℕ
-packedJudge j = packed (judgedNumber j) 0 (judgedCount j)
+-- Judge's answer, packed, and scratch as Judge leaves it; there is no class
+pub record PacksJudge (p : Panel) (s t : Cell) (list old new : List ℕ) (r : ℕ) : Type 0 where
+  pub packs : r ≡ packedBehind (judgeCheck p s t list (length old)) 0 (length (cellsIn list))
+  pub scratch : new ≡ scratchAfter p s t list old

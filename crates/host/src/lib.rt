@@ -2,15 +2,15 @@
 // and count packed in one number. host/foil.h declares them.
 use grid::Cell;
 use grid::Cells;
+use grid::CellsAnswer;
 use grid::Panel;
-use judge::Judged;
+use grid::cells_values;
+use grid::panel_of;
 ghost use mathlib.Core.Path.{_≡_};
 ghost use Prim.Native.Nat.{_<_, _^_};
-ghost use lib.ListN.{length};
-ghost use Rattle.bound.specs.Bound.{boundOf};
-ghost use Rattle.draw.specs.Draw.{drawOf, Leaves};
-ghost use Rattle.judge.specs.Judge.{judgeOf, scratchAfter, judgedNumber, judgedCount};
-ghost use Rattle.host.specs.Host.{packed, panel, cell, packedBound, packedDraw, packedJudge};
+ghost use Rattle.grid.specs.Panel.{panel, cell};
+ghost use Rattle.grid.specs.Answer.{cellsValues};
+ghost use Rattle.host.specs.Host.{packed, PacksBound, PacksDraw, PacksJudge};
 
 const REFUSAL_UNIT: u64 = 4294967296;
 
@@ -27,10 +27,7 @@ fn order_of(m: u32, n: u32, sx: u32, sy: u32, tx: u32, ty: u32) -> Order
     ensures { λ r. ⌜ r ≡ record { panel = panel m n; entry = cell sx sy; exit = cell tx ty } ⌝ }
 {
     Order {
-        panel: Panel {
-            width: m,
-            height: n,
-        },
+        panel: panel_of(m, n),
         entry: Cell { x: sx, y: sy },
         exit: Cell { x: tx, y: ty },
     }
@@ -44,32 +41,23 @@ fn pack(refusal: u32, class: u32, count: Cells) -> u64
     (refusal as u64) * REFUSAL_UNIT + (class as u64) * CLASS_UNIT + (count.0 as u64)
 }
 
-fn judged_number(j: Judged) -> u32
-    ensures { λ r. ⌜ r ≡ judgedNumber j ⌝ }
+// An answer without a class.
+fn pack_cells(a: CellsAnswer) -> u64
+    requires { ⌜ (cellsValues a) .cells .0 < 2 ^ 24 ⌝ }
+    ensures { λ r. ⌜ r ≡ packed ((cellsValues a) .refusal) 0 ((cellsValues a) .cells .0) ⌝ }
 {
-    match j {
-        Judged::Refused(r) => grid::number_of(r),
-        Judged::Accepted(_) => 0,
-    }
-}
-
-fn judged_count(j: Judged) -> Cells
-    ensures { λ r. ⌜ r .0 ≡ judgedCount j ⌝ }
-{
-    match j {
-        Judged::Refused(_) => Cells(0),
-        Judged::Accepted(k) => k,
-    }
+    let v = cells_values(a);
+    pack(v.refusal, 0, v.cells)
 }
 
 // Bound: refusal · 2^32 + class · 2^24 + count.
 #[no_mangle]
 pub extern "C" fn foil_bound(m: u32, n: u32, sx: u32, sy: u32, tx: u32, ty: u32) -> u64
-    ensures { λ r. ⌜ r ≡ packedBound (boundOf (panel m n) (cell sx sy) (cell tx ty)) ⌝ }
+    ensures { λ r. ⌜ PacksBound (panel m n) (cell sx sy) (cell tx ty) r ⌝ }
 {
     let o = order_of(m, n, sx, sy, tx, ty);
-    let b = bound::bound(o.panel, o.entry, o.exit);
-    pack(bound::number_of(b), bound::class_of(b), bound::count_of(b))
+    let v = bound::bound_values(bound::bound(o.panel, o.entry, o.exit));
+    pack(v.refusal, v.class, v.count)
 }
 
 // Draw: refusal · 2^32 + count.
@@ -83,11 +71,10 @@ pub extern "C" fn foil_draw(
     ty: u32,
     buffer: &mut [u8],
 ) -> u64
-    ensures { λ r. ⌜ (r ≡ packedDraw (drawOf (panel m n) (cell sx sy) (cell tx ty) (length (now (buffer .entry))))) × Leaves (panel m n) (cell sx sy) (cell tx ty) (now (buffer .entry)) (now (buffer .exit)) (drawOf (panel m n) (cell sx sy) (cell tx ty) (length (now (buffer .entry)))) ⌝ }
+    ensures { λ r. ⌜ PacksDraw (panel m n) (cell sx sy) (cell tx ty) (now (buffer .entry)) (now (buffer .exit)) r ⌝ }
 {
     let o = order_of(m, n, sx, sy, tx, ty);
-    let a = draw::draw(o.panel, o.entry, o.exit, buffer);
-    pack(draw::number_of(a), 0, draw::count_of(a))
+    pack_cells(draw::draw(o.panel, o.entry, o.exit, buffer))
 }
 
 // Judge: refusal · 2^32 + count.
@@ -102,9 +89,8 @@ pub extern "C" fn foil_judge(
     list: &[u8],
     scratch: &mut [u8],
 ) -> u64
-    ensures { λ r. ⌜ (r ≡ packedJudge (judgeOf (panel m n) (cell sx sy) (cell tx ty) (now (list .entry)) (length (now (scratch .entry))))) × (now (scratch .exit) ≡ scratchAfter (panel m n) (cell sx sy) (cell tx ty) (now (list .entry)) (now (scratch .entry))) ⌝ }
+    ensures { λ r. ⌜ PacksJudge (panel m n) (cell sx sy) (cell tx ty) (now (list .entry)) (now (scratch .entry)) (now (scratch .exit)) r ⌝ }
 {
     let o = order_of(m, n, sx, sy, tx, ty);
-    let j = judge::judge(o.panel, o.entry, o.exit, list, scratch);
-    pack(judged_number(j), 0, judged_count(j))
+    pack_cells(judge::judge(o.panel, o.entry, o.exit, list, scratch))
 }

@@ -1,34 +1,37 @@
 -- The first cell of a list stands in its first two bytes, the last in its last two. The law goes along the list, two bytes at a time.
-use Prim.Native.Nat.{ℕ, zero, suc, _-_, _%_, _≤_}
+use Prim.Native.Nat.{ℕ, suc, _-_, _%_}
+use native.Mathlib.Numerals.{add-one}
 use native.Mathlib.Omega.{arith}
 use mathlib.Core.Path.{_≡_, refl, sym, ap, _∙_}
-use mathlib.Core.Bool.{_&&_}
+use mathlib.Core.Bool.{Bool, true, false, _&&_}
 use mathlib.Core.List.{List, [], _∷_}
-use lib.ListN.{length, getD}
+use lib.ListN.{length}
 use Rattle.grid.specs.declared.Cell.{Cell}
 use Rattle.grid.specs.Bytes.{cellsIn}
-use Rattle.grid.specs.Panel.{sameCell}
-use Rattle.judge.specs.List.{lastFrom, runs}
+use Rattle.grid.specs.Panel.{cell, sameCell}
+use Rattle.grid.proofs.Tests.{and-yes, and-no}
+use Rattle.list.specs.List.{cellAt, wholeCells, lastFrom, runs}
+use Rattle.list.proofs.Whole.{whole}
 
--- the last cell stands in the last two bytes
-last-of : (x y : ℕ) (b : List ℕ) (k : ℕ) → length b ≡ k → k % 2 ≡ 0 → lastFrom (record { x = x; y = y }) (cellsIn b) ≡ record { x = getD (x ∷ y ∷ b) k 0; y = getD (x ∷ y ∷ b) (suc k) 0 }
-last-of x y [] zero e h = refl
-last-of x y [] (suc k) e h = absurd (omega arith)
-last-of x y (z ∷ []) zero e h = absurd (omega arith)
-last-of x y (z ∷ []) (suc zero) e h = absurd (omega arith)
-last-of x y (z ∷ []) (suc (suc k)) e h = absurd (omega arith)
-last-of x y (z ∷ w ∷ b) zero e h = absurd (omega arith)
-last-of x y (z ∷ w ∷ b) (suc zero) e h = absurd (omega arith)
-last-of x y (z ∷ w ∷ b) (suc (suc k)) e h = last-of z w b k (omega arith) (omega arith)
+last-of : (x y : ℕ) (b : List ℕ) → length b % 2 ≡ 0 → lastFrom (cell x y) (cellsIn b) ≡ cellAt (x ∷ y ∷ b) (length b)
+last-of x y [] h = refl
+last-of x y (z ∷ []) h = absurd (omega arith)
+last-of x y (z ∷ w ∷ b) h = last-of z w b (omega arith) ∙ simp add-one
 
-pub runs-is : (s t : Cell) (b : List ℕ) → (2 ≤ length b) × (length b % 2 ≡ 0)
-    → runs s t (cellsIn b)
-    ≡ (sameCell (record { x = getD b 0 0; y = getD b 1 0 }) s && sameCell (record { x = getD b (length b - 2) 0; y = getD b (length b - 1) 0 }) t)
-runs-is s t [] w = absurd (omega arith)
-runs-is s t (x ∷ []) w = absurd (omega arith)
-runs-is s t (x ∷ y ∷ b) w =
-    let e : suc (suc (length b)) - 2 ≡ length b = omega arith in
-    let f : suc (suc (length b)) - 1 ≡ suc (length b) = omega arith in
-    ap (λ (c : Cell). sameCell (record { x = x; y = y }) s && sameCell c t)
-    (last-of x y b (length b) refl (omega arith)
-    ∙ (λ i. record { x = getD (x ∷ y ∷ b) (sym e i) 0; y = getD (x ∷ y ∷ b) (sym f i) 0 }))
+runs-is : (s t : Cell) (b : List ℕ) → wholeCells (length b) ≡ true
+    → runs s t (cellsIn b) ≡ (sameCell (cellAt b 0) s && sameCell (cellAt b (length b - 2)) t)
+runs-is s t [] e = let w = whole 0 e in absurd (omega arith)
+runs-is s t (x ∷ []) e = let w = whole 1 e in absurd (omega arith)
+runs-is s t (x ∷ y ∷ b) e =
+    let w = whole (suc (suc (length b))) e in
+    let back : length b ≡ suc (suc (length b)) - 2 = omega arith in
+    ap (λ (c : Cell). sameCell (cell x y) s && sameCell c t) (last-of x y b (omega arith) ∙ ap (cellAt (x ∷ y ∷ b)) back)
+
+-- the first cell of the list is a: where it is not s, the list does not run from s; where it is, the last cell z decides
+module _ (s t : Cell) (b : List ℕ) (w : wholeCells (length b) ≡ true) {a : Cell} (f : a ≡ cellAt b 0) where
+  pub starts-elsewhere : sameCell a s ≡ false → false ≡ runs s t (cellsIn b)
+  starts-elsewhere e = and-no _ (ap (λ (c : Cell). sameCell c s) (sym f) ∙ e) ∙ sym (runs-is s t b w)
+
+  pub starts-here : {z : Cell} {r : Bool} → sameCell a s ≡ true → z ≡ cellAt b (length b - 2) → r ≡ sameCell z t → r ≡ runs s t (cellsIn b)
+  starts-here e l q =
+      and-yes _ (ap (λ (c : Cell). sameCell c s) (sym f) ∙ e) (q ∙ ap (λ (c : Cell). sameCell c t) l) ∙ sym (runs-is s t b w)

@@ -3,7 +3,7 @@
 // filled with 255 before, are 0 and 255 after.
 use grid::Cell;
 use grid::Panel;
-use judge::Judged;
+use grid::panel_of;
 use trial::cells::snake;
 use trial::print::row;
 use trial::print::text;
@@ -33,19 +33,14 @@ fn try_order(p: Panel, entry: Cell, exit: Cell, list: &[u8], scratch: &mut [u8])
     let j = judge::judge(p, entry, exit, list, scratch);
     let zeros = count(scratch, 0);
     let kept = count(scratch, 255);
-    match j {
-        Judged::Refused(r) => row(&[grid::number_of(r), 0, zeros, kept], b"\n"),
-        Judged::Accepted(k) => row(&[0, k.0, zeros, kept], b"\n"),
-    }
+    let v = grid::cells_values(j);
+    row(&[v.refusal, v.cells.0, zeros, kept], b"\n");
 }
 
 // A list on the panel of 3 by 2, from (1,1) to (1,2), with 8 bytes of scratch.
 fn try_list(list: &[u8]) {
     let mut scratch = [0u8; 8];
-    let p = Panel {
-        width: 3,
-        height: 2,
-    };
+    let p = panel_of(3, 2);
     let entry = Cell { x: 1, y: 1 };
     let exit = Cell { x: 1, y: 2 };
     try_order(p, entry, exit, list, &mut scratch);
@@ -53,7 +48,7 @@ fn try_list(list: &[u8]) {
 
 // The list of two cells (1,1) and (1,2), with some of the order's numbers and of scratch changed.
 fn try_sides(width: u32, height: u32, scratch: &mut [u8]) {
-    let p = Panel { width, height };
+    let p = panel_of(width, height);
     let entry = Cell { x: 1, y: 1 };
     let exit = Cell { x: 1, y: 2 };
     try_order(p, entry, exit, b"\x01\x01\x01\x02", scratch);
@@ -61,10 +56,7 @@ fn try_sides(width: u32, height: u32, scratch: &mut [u8]) {
 
 fn try_ends(ex: u32, ey: u32, tx: u32, ty: u32) {
     let mut scratch = [0u8; 8];
-    let p = Panel {
-        width: 3,
-        height: 2,
-    };
+    let p = panel_of(3, 2);
     let entry = Cell { x: ex, y: ey };
     let exit = Cell { x: tx, y: ty };
     try_order(p, entry, exit, b"\x01\x01\x01\x02", &mut scratch);
@@ -153,10 +145,7 @@ fn try_snake(
     scratch: &mut [u8],
     room: usize,
 ) {
-    let p = Panel {
-        width: 128,
-        height: 128,
-    };
+    let p = panel_of(128, 128);
     let entry = Cell { x: 1, y: 1 };
     snake(list);
     if 2 <= bytes {

@@ -2,3 +2,5 @@ pub mod Cells
 pub mod Turns
 pub mod Whole
 pub mod Tracks
+pub mod Checks
+pub mod Squares

@@ -5,9 +5,8 @@ use native.Mathlib.Omega.{arith}
 use mathlib.Core.Path.{_≡_, refl, sym, ap, _∙_}
 use mathlib.Core.Bool.{Bool, true, false, _&&_}
 use mathlib.Core.List.{List}
-use lib.ListN.{length, drop, getD}
+use lib.ListN.{length, drop}
 use Rattle.grid.specs.declared.Panel.{Panel}
-use Rattle.grid.specs.declared.Cell.{Cell}
 use Rattle.grid.specs.Panel.{onPanel, neighbours}
 use Rattle.grid.specs.Bytes.{cellsIn}
 use Rattle.list.specs.List.{allOn, allSteps, cellAt}
@@ -27,18 +26,9 @@ module _ (b : List ℕ) (i : ℕ) where
     pub on-end : length b ≤ i + 1 → allOn p (cellsIn (drop i b)) ≡ true
     on-end h = ap (allOn p) (cells-end b i h)
 
-  -- the cell after the one at i
-  next-cell : cellAt b (i + 2) ≡ record { x = getD b (i + 2) 0; y = getD b (i + 3) 0 }
-  next-cell = λ j. record { x = getD b (i + 2) 0; y = getD b (e j) 0 }
-    where
-      e : i + 2 + 1 ≡ i + 3
-      e = omega arith
-
   pub step-turn : i + 3 < length b
-      → allSteps (cellsIn (drop i b)) ≡ (neighbours (cellAt b i) (record { x = getD b (i + 2) 0; y = getD b (i + 3) 0 }) && allSteps (cellsIn (drop (i + 2) b)))
-  step-turn h =
-      pairs-more allSteps (λ a c k. neighbours a c && k) (λ a c r. refl) b i h
-      ∙ ap (λ (c : Cell). neighbours (cellAt b i) c && allSteps (cellsIn (drop (i + 2) b))) next-cell
+      → allSteps (cellsIn (drop i b)) ≡ (neighbours (cellAt b i) (cellAt b (i + 2)) && allSteps (cellsIn (drop (i + 2) b)))
+  step-turn h = pairs-more allSteps (λ a c k. neighbours a c && k) (λ a c r. refl) b i h
 
   pub step-end : length b ≤ i + 3 → allSteps (cellsIn (drop i b)) ≡ true
   step-end h = pairs-end allSteps true refl (λ a. refl) b i h

@@ -1,12 +1,16 @@
--- Document 01, "Judge" and "Write": the tests of a list that both calls make, each over the whole list.
+-- Document 01: what is tested of a list of cells, each test over the whole list; the cell at a byte; the squares.
 use Prim.Native.Nat.{ℕ, _+_, _%_}
-use mathlib.Core.Bool.{Bool, true, _&&_}
+use mathlib.Core.Bool.{Bool, true, false, not, _&&_, _||_}
 use mathlib.Core.List.{List, [], _∷_}
 use lib.Dec.{leb, eqb}
 use lib.ListN.{getD}
 use Rattle.grid.specs.declared.Panel.{Panel}
 use Rattle.grid.specs.declared.Cell.{Cell}
-use Rattle.grid.specs.Panel.{onPanel, neighbours}
+use Rattle.grid.specs.Panel.{cell, onPanel, sameCell, neighbours}
+
+-- the cell whose x stands at a byte of a list
+abbrev pub cellAt : List ℕ → ℕ → Cell
+cellAt b i = cell (getD b i 0) (getD b (i + 1) 0)
 
 -- a number of bytes that is neither 0 nor odd
 abbrev pub wholeCells : ℕ → Bool
@@ -27,6 +31,27 @@ abbrev pub allSteps : List Cell → Bool
 allSteps [] = true
 allSteps (a ∷ l) = stepsFrom a l
 
--- the cell whose x stands at a byte of a list
-abbrev pub cellAt : List ℕ → ℕ → Cell
-cellAt b i = record { x = getD b i 0; y = getD b (i + 1) 0 }
+-- the cell stands in the list
+abbrev pub among : Cell → List Cell → Bool
+among c [] = false
+among c (d ∷ l) = sameCell c d || among c l
+
+-- no cell stands twice: each differs from all that follow
+abbrev pub noneTwice : List Cell → Bool
+noneTwice [] = true
+noneTwice (c ∷ l) = not (among c l) && noneTwice l
+
+-- the last of a cell and those that follow it
+abbrev pub lastFrom : Cell → List Cell → Cell
+lastFrom c [] = c
+lastFrom c (d ∷ l) = lastFrom d l
+
+-- the first cell is s and the last is t
+abbrev pub runs : Cell → Cell → List Cell → Bool
+runs s t [] = false
+runs s t (c ∷ l) = sameCell c s && sameCell (lastFrom c l) t
+
+-- the squares in hundredths: 100 for each cell
+abbrev pub squares : List Cell → ℕ
+squares [] = 0
+squares (c ∷ l) = 100 + squares l

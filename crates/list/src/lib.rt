@@ -1,10 +1,37 @@
-// Lists of cells, x and y for each: the tests that Judge and Write share.
+// Lists of cells, x and y for each: the cell at a place, the tests that Judge and Write share, what
+// Write tests before its buffer, and the squares of a list.
 use grid::Cell;
+use grid::Check;
 use grid::Panel;
+use grid::Refusal;
+use grid::area_of;
+use grid::check_panel;
+use grid::distance;
 ghost use mathlib.Core.Path.{_≡_};
-ghost use Rattle.grid.specs.Panel.{onPanel, dist, neighbours};
+ghost use Prim.Native.Nat.{_+_, _<_, _≤_};
+ghost use lib.ListN.{length, getD};
+ghost use Rattle.grid.specs.Panel.{onPanel, neighbours};
 ghost use Rattle.grid.specs.Bytes.{cellsIn};
-ghost use Rattle.list.specs.List.{wholeCells, allOn, allSteps};
+ghost use Rattle.list.specs.List.{cellAt, wholeCells, allOn, allSteps, squares};
+ghost use Rattle.list.specs.Check.{checkWalk, goodCount, checkList};
+
+pub fn byte_at(s: &[u8], i: usize) -> u32
+    requires { ⌜ i < length (now s) ⌝ }
+    ensures { λ r. ⌜ (r ≡ getD (now (s .entry)) i 0) × (r < 256) ⌝ }
+{
+    s[i] as u32
+}
+
+// The cell whose x stands at i.
+pub fn cell_at(list: &[u8], i: usize) -> Cell
+    requires { ⌜ i + 1 < length (now list) ⌝ }
+    ensures { λ r. ⌜ r ≡ cellAt (now (list .entry)) i ⌝ }
+{
+    Cell {
+        x: byte_at(list, i),
+        y: byte_at(list, i + 1),
+    }
+}
 
 // Whether so many bytes hold cells and nothing else: not empty, and two bytes for each cell.
 pub fn whole_cells(bytes: usize) -> bool
@@ -13,26 +40,13 @@ pub fn whole_cells(bytes: usize) -> bool
     if 1 <= bytes { bytes % 2 == 0 } else { false }
 }
 
-// Whether the two bytes are a cell of the panel.
-fn on_panel(p: Panel, x: u8, y: u8) -> bool
-    ensures { λ r. ⌜ r ≡ onPanel p (record { x = x; y = y }) ⌝ }
-{
-    grid::on_panel(
-        p,
-        Cell {
-            x: x as u32,
-            y: y as u32,
-        },
-    )
-}
-
 // Whether every cell of the list is on the panel.
-pub fn all_on_panel(p: Panel, list: &[u8]) -> bool
+fn all_on_panel(p: Panel, list: &[u8]) -> bool
     ensures { λ r. ⌜ r ≡ allOn p (cellsIn (now (list .entry))) ⌝ }
 {
     let mut i = 0;
     while i + 1 < list.len() {
-        if !on_panel(p, list[i], list[i + 1]) {
+        if !grid::on_panel(p, cell_at(list, i)) {
             return false;
         }
         i += 2;
@@ -40,32 +54,88 @@ pub fn all_on_panel(p: Panel, list: &[u8]) -> bool
     true
 }
 
-// How far two bytes are apart.
-fn gap(a: u8, b: u8) -> u8
-    ensures { λ r. ⌜ r ≡ dist a b ⌝ }
+// One step in y, or one in x.
+fn adjacent(a: Cell, b: Cell) -> bool
+    ensures { λ r. ⌜ r ≡ neighbours a b ⌝ }
 {
-    if a < b { b - a } else { a - b }
+    if a.x == b.x {
+        return distance(a.y, b.y) == 1;
+    }
+    if a.y == b.y {
+        return distance(a.x, b.x) == 1;
+    }
+    false
 }
 
-// Whether two cells, each given by its two bytes, are neighbours.
-fn adjacent(ax: u8, ay: u8, bx: u8, by: u8) -> bool
-    ensures { λ r. ⌜ r ≡ neighbours (record { x = ax; y = ay }) (record { x = bx; y = by }) ⌝ }
+// Whether the cells whose x stand at i and at i + 2 are neighbours.
+fn step_at(list: &[u8], i: usize) -> bool
+    requires { ⌜ i + 3 < length (now list) ⌝ }
+    ensures { λ r. ⌜ r ≡ neighbours (cellAt (now (list .entry)) i) (cellAt (now (list .entry)) (i + 2)) ⌝ }
 {
-    let dx = gap(ax, bx) as u32;
-    let dy = gap(ay, by) as u32;
-    dx + dy == 1
+    adjacent(cell_at(list, i), cell_at(list, i + 2))
 }
 
 // Whether each two successive cells of the list are neighbours.
-pub fn all_adjacent(list: &[u8]) -> bool
+fn all_adjacent(list: &[u8]) -> bool
     ensures { λ r. ⌜ r ≡ allSteps (cellsIn (now (list .entry))) ⌝ }
 {
     let mut i = 0;
     while i + 3 < list.len() {
-        if !adjacent(list[i], list[i + 1], list[i + 2], list[i + 3]) {
+        if !step_at(list, i) {
             return false;
         }
         i += 2;
     }
     true
+}
+
+// What Judge and Write both test of the cells: 7, then 8.
+pub fn check_walk(p: Panel, list: &[u8]) -> Check
+    ensures { λ r. ⌜ r ≡ checkWalk p (cellsIn (now (list .entry))) ⌝ }
+{
+    if !all_on_panel(p, list) {
+        return Check::Refused(Refusal::CellOff);
+    }
+    if !all_adjacent(list) {
+        return Check::Refused(Refusal::NotNeighbours);
+    }
+    Check::Good
+}
+
+fn good_count(p: Panel, k: usize) -> bool
+    ensures { λ r. ⌜ r ≡ goodCount p k ⌝ }
+{
+    if 2 <= k {
+        return k <= area_of(p);
+    }
+    false
+}
+
+// What Write refuses whatever the buffer.
+pub fn check_list(p: Panel, list: &[u8]) -> Check
+    ensures { λ r. ⌜ r ≡ checkList p (now (list .entry)) ⌝ }
+{
+    let c = check_panel(p);
+    if let Check::Refused(r) = c {
+        return Check::Refused(r);
+    }
+    if !whole_cells(list.len()) {
+        return Check::Refused(Refusal::ListLength);
+    }
+    let w = check_walk(p, list);
+    if let Check::Refused(r) = w {
+        return Check::Refused(r);
+    }
+    if !good_count(p, list.len() / 2) {
+        return Check::Refused(Refusal::StepCount);
+    }
+    Check::Good
+}
+
+// The squares of a list of at most 16,384 cells, in hundredths.
+pub fn squares_of(list: &[u8]) -> u32
+    requires { ⌜ length (now list) ≤ 32768 ⌝ }
+    ensures { λ r. ⌜ r ≡ squares (cellsIn (now (list .entry))) ⌝ }
+{
+    100 * ((list.len() / 2) as u32)
 }

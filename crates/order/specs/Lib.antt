@@ -1,4 +1,2 @@
-pub mod Decimal
 pub mod Line
-pub mod Text
 pub mod Order

@@ -1,4 +1,5 @@
--- Document 01, "Program foil": what is printed for every input. Of the letters only a property is promised: they are those of a longest track.
+-- Document 01, "Program foil": what is printed for every input. The counts and the letters are those of one track, and of that track only a
+-- property is promised: it is a longest one.
 use Prim.Native.Nat.{ℕ}
 use mathlib.Core.Path.{_≡_}
 use mathlib.Core.List.{List, _++_}
@@ -8,35 +9,34 @@ use Rattle.grid.specs.declared.Cell.{Cell}
 use Rattle.grid.specs.declared.Refusal.the-variants.{UnknownByte}
 use Rattle.grid.specs.Refusal.{number}
 use Rattle.grid.specs.Track.{Track}
-use Rattle.count.specs.Count.{count}
 use Rattle.count.specs.Longest.{NoLonger}
-use Rattle.bound.specs.declared.Bounded.{Bounded}
-use Rattle.bound.specs.declared.Bounded.the-variants.{Refused, Found}
+use Rattle.bound.specs.declared.BoundAnswer.{BoundAnswer}
+use Rattle.bound.specs.declared.BoundAnswer.the-variants.{Refused, Given}
 use Rattle.bound.specs.Bound.{boundOf}
-use Rattle.record.specs.Format.{lettersOf}
+use Rattle.printout.specs.Text.{refusedText, answerText}
 use Rattle.order.specs.declared.Line.{Line}
 use Rattle.order.specs.declared.Line.the-variants.{Other, Order}
 use Rattle.order.specs.Line.{lineIn}
-use Rattle.order.specs.Text.{refusedText, answerText}
 
 -- the text for an answer of Bound, and for a line, where the track is the one chosen
-abbrev pub boundText : Bounded → List Cell → List ℕ
+abbrev pub boundText : BoundAnswer → List Cell → List ℕ
 boundText (Refused r) track = refusedText (number r)
-boundText (Found f) track = answerText (f .class) (f .count .0) (lettersOf track)
+boundText (Given f) track = answerText (f .class) track
 
 abbrev pub textOf : Line → List Cell → List ℕ
 textOf Other track = refusedText (number UnknownByte)
 textOf (Order p s t) track = boundText (boundOf p s t) track
 
--- a list of cells is a track from s to t, and no track is longer
-pub record Longest (p : Panel) (s t : Cell) (l : List Cell) : Type 0 where
+-- a list of k cells is a track from s to t, and no track is longer
+pub record Longest (p : Panel) (s t : Cell) (k : ℕ) (l : List Cell) : Type 0 where
+  pub size : length l ≡ k
   pub track : Track p s t l
-  pub none-longer : NoLonger p s t (length l)
+  pub none-longer : NoLonger p s t k
 
--- the track chosen is a longest one, where the line is an order that is not refused; else nothing is asked of it
-abbrev pub Chosen : Bounded → Panel → Cell → Cell → List Cell → Type 0
+-- the track chosen is a longest one and has Bound's count of cells, where the line is an order that is not refused; else nothing is asked of it
+abbrev pub Chosen : BoundAnswer → Panel → Cell → Cell → List Cell → Type 0
 Chosen (Refused r) p s t l = Unit {0}
-Chosen (Found f) p s t l = Longest p s t l
+Chosen (Given f) p s t l = Longest p s t (f .count .0) l
 
 abbrev pub ChosenFor : Line → List Cell → Type 0
 ChosenFor Other l = Unit {0}
@@ -50,7 +50,7 @@ pub record Printed (Choice : List Cell → Type 0) (text : List Cell → List �
   pub size : k ≡ length (text track)
 
 -- the promise for an answer of Bound, and for every input
-abbrev pub AnswersBound : Bounded → Panel → Cell → Cell → List ℕ → List ℕ → ℕ → Type 0
+abbrev pub AnswersBound : BoundAnswer → Panel → Cell → Cell → List ℕ → List ℕ → ℕ → Type 0
 AnswersBound b p s t old new k = Printed (Chosen b p s t) (boundText b) old new k
 
 abbrev pub Answers : List ℕ → List ℕ → List ℕ → ℕ → Type 0

@@ -1,7 +1,7 @@
 -- A chain of legs: each on the panel, in rectangles that are apart, each starting beside the end of the one before. Its corner tracks, one after
 -- the other, are a track from its start to its end, and their cells add up. So a plan that is good shows that a track of its size exists.
 use Prim.Native.Nat.{ℕ, _+_, _≤_, _<_, min, max}
-use mathlib.Core.Path.{_≡_, refl, sym, ap, _∙_, subst}
+use mathlib.Core.Path.{_≡_, refl, sym, ap, _∙_, subst, subst₂}
 use mathlib.Core.Bool.{Bool, true, false, cond, not}
 use mathlib.Core.List.{List, [], _∷_, _++_, append-nil}
 use native.Mathlib.Omega.{arith}
@@ -12,11 +12,12 @@ use Rattle.grid.specs.Panel.{OnPanel, Neighbours}
 use Rattle.grid.specs.Track.{TrackIn, Track}
 use Rattle.grid.proofs.Facts.{beside-sym}
 use Rattle.grid.proofs.Track.{join, widen}
-use Rattle.corner.specs.Corner.{Inside}
+use Rattle.line.specs.Rectangle.{Inside}
 use Rattle.plan.specs.declared.Leg.{Leg}
 use Rattle.plan.specs.declared.Plan.{Plan}
-use Rattle.plan.specs.Leg.{start, stop, legs, legCount, total, reversedLeg, reversedPlan}
-pub use Rattle.plan.specs.Drawing.{Each, Drawn}
+use Rattle.plan.specs.declared.Plan.the-variants.{One, Two, Three, Five}
+use Rattle.plan.specs.Leg.{start, stop, legs, legCount, total, forth, back, reversedLeg, reversedPlan}
+pub use Rattle.plan.specs.Drawing.{Each, LegTracks}
 
 -- ---- a leg from s to t on the panel
 
@@ -26,6 +27,12 @@ pub record LegFrom (p : Panel) (g : Leg) (s t : Cell) : Type 0 where
   pub target : Inside (g .a) (g .b) (g .t)
   pub from : start g ≡ s
   pub to : stop g ≡ t
+
+pub forth-leg : {p : Panel} {a b t : Cell} → OnPanel p a → OnPanel p b → Inside a b t → LegFrom p (forth a b t) a t
+forth-leg oa ob i = record { corner = oa; opposite = ob; target = i; from = refl; to = refl }
+
+pub back-leg : {p : Panel} {a b t : Cell} → OnPanel p a → OnPanel p b → Inside a b t → LegFrom p (back a b t) t a
+back-leg oa ob i = record { corner = oa; opposite = ob; target = i; from = refl; to = refl }
 
 -- a rectangle with its corners on the panel lies on it
 pub inside-on : {p : Panel} {a b c : Cell} → OnPanel p a → OnPanel p b → Inside a b c → OnPanel p c
@@ -49,6 +56,19 @@ sep-sym (on-left k p q r s) = on-right k r s p q
 sep-sym (on-right k p q r s) = on-left k r s p q
 sep-sym (above k p q r s) = below k r s p q
 sep-sym (below k p q r s) = above k r s p q
+
+-- the four numbers in one
+pub left-of : {g h : Leg} (k : ℕ) → (g .a .x ≤ k) × (g .b .x ≤ k) × (k < h .a .x) × (k < h .b .x) → Sep g h
+left-of k (a, b, c, d) = on-left k a b c d
+
+pub right-of : {g h : Leg} (k : ℕ) → (h .a .x ≤ k) × (h .b .x ≤ k) × (k < g .a .x) × (k < g .b .x) → Sep g h
+right-of k f = sep-sym (left-of k f)
+
+pub over : {g h : Leg} (k : ℕ) → (g .a .y ≤ k) × (g .b .y ≤ k) × (k < h .a .y) × (k < h .b .y) → Sep g h
+over k (a, b, c, d) = above k a b c d
+
+pub under : {g h : Leg} (k : ℕ) → (h .a .y ≤ k) × (h .b .y ≤ k) × (k < g .a .y) × (k < g .b .y) → Sep g h
+under k f = sep-sym (over k f)
 
 -- between two numbers, seen from a bound on both
 below-max : {a b c k : ℕ} → a ≤ k → b ≤ k → c ≤ max a b → c ≤ k
@@ -88,17 +108,18 @@ among-on (Chain.more f n e r) (Among.here i) = inside-on (f .corner) (f .opposit
 among-on (Chain.more f n e r) (Among.later m) = among-on r m
 
 -- a leg's track with its ends named
-renamed : {p : Panel} {g : Leg} {s t : Cell} {c : List Cell} → LegFrom p g s t → TrackIn (Inside (g .a) (g .b)) (start g) (stop g) c → TrackIn (Inside (g .a) (g .b)) s t c
-renamed {g = g} {s = s} {c = c} f r = subst (λ (u : Cell). TrackIn (Inside (g .a) (g .b)) s u c) (f .to) (subst (λ (u : Cell). TrackIn (Inside (g .a) (g .b)) u (stop g) c) (f .from) r)
+renamed : {p : Panel} {g : Leg} {s t : Cell} {c : List Cell}
+    → LegFrom p g s t → TrackIn (Inside (g .a) (g .b)) (start g) (stop g) c → TrackIn (Inside (g .a) (g .b)) s t c
+renamed {g = g} {c = c} f r = subst₂ (λ (u v : Cell). TrackIn (Inside (g .a) (g .b)) u v c) (f .from) (f .to) r
 
-among-track : {p : Panel} {s t : Cell} {l : List Leg} {c : List Cell} → Chain p s t l → Drawn l c → TrackIn (Among l) s t c
-among-track {s = s} {t = t} (Chain.one {g = g} f) (Drawn.more {c = c} r Drawn.none) =
+among-track : {p : Panel} {s t : Cell} {l : List Leg} {c : List Cell} → Chain p s t l → LegTracks l c → TrackIn (Among l) s t c
+among-track {s = s} {t = t} (Chain.one {g = g} f) (LegTracks.more {c = c} r LegTracks.none) =
     subst (λ (k : List Cell). TrackIn (Among (g ∷ [])) s t k) (sym (append-nil c)) (widen (λ d i. Among.here i) (renamed f r))
-among-track (Chain.more f n e h) (Drawn.more r d) =
+among-track (Chain.more f n e h) (LegTracks.more r d) =
     join (λ c i. Among.here i) (λ c m. Among.later m) (λ c i m. sep-among e i m) (renamed f r) n (among-track h d)
 
 -- the tracks of a chain's legs make one track on the panel
-pub chain-track : {p : Panel} {s t : Cell} {l : List Leg} {c : List Cell} → Chain p s t l → Drawn l c → Track p s t c
+pub chain-track : {p : Panel} {s t : Cell} {l : List Leg} {c : List Cell} → Chain p s t l → LegTracks l c → Track p s t c
 chain-track h d = widen (λ c m. among-on h m) (among-track h d)
 
 -- ---- a plan of k cells from s to t
@@ -106,6 +127,39 @@ chain-track h d = widen (λ c m. among-on h m) (among-track h d)
 pub record Plans (p : Panel) (s t : Cell) (k : ℕ) (q : Plan) : Type 0 where
   pub chain : Chain p s t (legs q)
   pub size : total (legs q) ≡ k
+
+-- plans of one, two, three and five legs
+module _ {p : Panel} {s t : Cell} {k : ℕ} where
+  pub one-leg : {g : Leg} → LegFrom p g s t → legCount g ≡ k → Plans p s t k (One g)
+  one-leg f e = record { chain = Chain.one f; size = omega arith }
+
+  pub two-legs : {u v : Cell} {g h : Leg} → LegFrom p g s u → Neighbours u v → LegFrom p h v t → Sep g h → legCount g + (legCount h + 0) ≡ k
+      → Plans p s t k (Two g h)
+  two-legs a n b d e = record { chain = Chain.more a n (Each.more d Each.none) (Chain.one b); size = e }
+
+  pub three-legs : {u₁ v₁ u₂ v₂ : Cell} {a b c : Leg}
+      → LegFrom p a s u₁ → Neighbours u₁ v₁ → LegFrom p b v₁ u₂ → Neighbours u₂ v₂ → LegFrom p c v₂ t
+      → Sep a b × Sep a c → Sep b c
+      → legCount a + (legCount b + (legCount c + 0)) ≡ k → Plans p s t k (Three a b c)
+  three-legs a n b o c (ab, ac) bc z = record {
+    chain = Chain.more a n (Each.more ab (Each.more ac Each.none)) (Chain.more b o (Each.more bc Each.none) (Chain.one c));
+    size = z;
+  }
+
+  pub five-legs : {u₁ v₁ u₂ v₂ u₃ v₃ u₄ v₄ : Cell} {a b c d e : Leg}
+      → LegFrom p a s u₁ → Neighbours u₁ v₁ → LegFrom p b v₁ u₂ → Neighbours u₂ v₂ → LegFrom p c v₂ u₃ → Neighbours u₃ v₃
+      → LegFrom p d v₃ u₄ → Neighbours u₄ v₄ → LegFrom p e v₄ t
+      → Sep a b × Sep a c × Sep a d × Sep a e → Sep b c × Sep b d × Sep b e → Sep c d × Sep c e → Sep d e
+      → legCount a + (legCount b + (legCount c + (legCount d + (legCount e + 0)))) ≡ k → Plans p s t k (Five a b c d e)
+  five-legs a n b o c q d r e (ab, ac, ad, ae) (bc, bd, be) (cd, ce) de z = record {
+    chain =
+        Chain.more a n (Each.more ab (Each.more ac (Each.more ad (Each.more ae Each.none))))
+        (Chain.more b o (Each.more bc (Each.more bd (Each.more be Each.none)))
+        (Chain.more c q (Each.more cd (Each.more ce Each.none))
+        (Chain.more d r (Each.more de Each.none)
+        (Chain.one e))));
+    size = z;
+  }
 
 -- ---- a chain walked the other way
 
@@ -117,7 +171,8 @@ each-append : {P : Leg → Type 0} {l k : List Leg} → Each P l → Each P k �
 each-append Each.none b = b
 each-append (Each.more p a) b = Each.more p (each-append a b)
 
-chain-end : {p : Panel} {s u v t : Cell} {g : Leg} {l : List Leg} → Chain p s u l → Neighbours u v → Each (λ h. Sep h g) l → LegFrom p g v t → Chain p s t (l ++ (g ∷ []))
+chain-end : {p : Panel} {s u v t : Cell} {g : Leg} {l : List Leg}
+    → Chain p s u l → Neighbours u v → Each (λ h. Sep h g) l → LegFrom p g v t → Chain p s t (l ++ (g ∷ []))
 chain-end (Chain.one f) n (Each.more s Each.none) h = Chain.more f n (Each.more s Each.none) (Chain.one h)
 chain-end (Chain.more f m e r) n (Each.more s a) h = Chain.more f m (each-append e (Each.more s Each.none)) (chain-end r n a h)
 
@@ -132,7 +187,8 @@ rev-stop : (g : Leg) → stop (reversedLeg g) ≡ start g
 rev-stop g = the-other (g .back) (g .a) (g .t)
 
 leg-back : {p : Panel} {g : Leg} {s t : Cell} → LegFrom p g s t → LegFrom p (reversedLeg g) t s
-leg-back {g = g} f = record { corner = f .corner; opposite = f .opposite; target = f .target; from = rev-start g ∙ f .to; to = rev-stop g ∙ f .from }
+leg-back {g = g} f =
+    record { corner = f .corner; opposite = f .opposite; target = f .target; from = rev-start g ∙ f .to; to = rev-stop g ∙ f .from }
 
 sep-back : {g h : Leg} → Sep g h → Sep (reversedLeg h) (reversedLeg g)
 sep-back (on-left k p q r s) = on-right k r s p q

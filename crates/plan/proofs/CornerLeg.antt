@@ -6,21 +6,23 @@ use mathlib.Core.Logic.{_⊎_, inl, inr, ⊎-elim}
 use mathlib.Core.Bool.{Bool, true, false, not, _&&_, _||_, true≢false}
 use native.Mathlib.Omega.{arith}
 use lib.Dec.{eqb, leb}
-use borrow.Author.Tests.{eq-eqb, eqb-true, eqb-false, leb-true, not-true}
+use borrow.Author.Tests.{eq-eqb, eqb-true, leb-true, not-true}
 use Rattle.grid.specs.declared.Panel.{Panel}
 use Rattle.grid.specs.declared.Cell.{Cell}
 use Rattle.grid.specs.Panel.{OnPanel, dist, black}
-use Rattle.grid.proofs.Facts.{and-left, and-right}
-use Rattle.corner.specs.Corner.{Inside, trackCount}
-use Rattle.count.specs.Count.{odd, f3, decided}
+use Rattle.grid.proofs.Facts.{and-left, and-right, and-parts}
+use Rattle.line.specs.Rectangle.{Inside}
+use Rattle.corner.specs.Corner.{trackCount}
+use Rattle.count.specs.Count.{odd, f3}
 use Rattle.plan.specs.Leg.{cell, forth, back}
 use Rattle.plan.specs.Plan.{corner, differ}
 use Rattle.plan.specs.declared.Plan.the-variants.{One}
-use Rattle.plan.proofs.Parity.{four, implies, apply, bit, colour}
+use Rattle.plan.proofs.Cases.{one-of, or-left, or-right}
+use Rattle.plan.proofs.Parity.{four, implies, apply, bit, is-even, colour}
+use Rattle.plan.proofs.Decided.{decidedCount}
 use Rattle.plan.proofs.Defect.{loss, block-size, defect, Fits, fits-exchanged, fits-decided}
-use Rattle.plan.proofs.Chain.{Plans}
-use Rattle.plan.proofs.Corners.{NotCorner}
-use Rattle.plan.proofs.Rows.{one-leg}
+use Rattle.plan.proofs.Chain.{Plans, forth-leg, back-leg, one-leg}
+use Rattle.plan.proofs.Terminals.{Distinct, NotCorner}
 
 -- ---- corners of the panel
 
@@ -28,36 +30,41 @@ pub record Corner (p : Panel) (c : Cell) : Type 0 where
   pub side : (c .x ≡ 1) ⊎ (c .x ≡ p .width)
   pub level : (c .y ≡ 1) ⊎ (c .y ≡ p .height)
 
-either : (a b c : ℕ) → (eqb a b || eqb a c) ≡ true → (a ≡ b) ⊎ (a ≡ c)
-either a b c e = go (eqb a b) refl e
-  where
-    go : (r : Bool) → eqb a b ≡ r → (r || eqb a c) ≡ true → (a ≡ b) ⊎ (a ≡ c)
-    go true q h = inl (eqb-true _ _ q)
-    go false q h = inr (eqb-true _ _ h)
+module _ (p : Panel) (c : Cell) where
+  -- the two tests
+  abbrev outer-column : Bool
+  outer-column = eqb (c .x) 1 || eqb (c .x) (p .width)
 
-or-left : {a : Bool} (b : Bool) → a ≡ true → (a || b) ≡ true
-or-left b e = ap (λ (x : Bool). x || b) e
+  abbrev outer-row : Bool
+  outer-row = eqb (c .y) 1 || eqb (c .y) (p .height)
 
-or-right : (a : Bool) {b : Bool} → b ≡ true → (a || b) ≡ true
-or-right true e = refl
-or-right false e = e
+  pub is-corner : corner (p .width) (p .height) c ≡ true → Corner p c
+  is-corner e =
+      let h = and-parts outer-column outer-row e in
+      record { side = one-of (c .x) 1 (p .width) (h .0); level = one-of (c .y) 1 (p .height) (h .1) }
 
-pub is-corner : (p : Panel) (c : Cell) → corner (p .width) (p .height) c ≡ true → Corner p c
-is-corner p c e = record {
-  side = either (c .x) 1 (p .width) (and-left (eqb (c .x) 1 || eqb (c .x) (p .width)) (eqb (c .y) 1 || eqb (c .y) (p .height)) e);
-  level = either (c .y) 1 (p .height) (and-right (eqb (c .x) 1 || eqb (c .x) (p .width)) (eqb (c .y) 1 || eqb (c .y) (p .height)) e);
-}
+  pub no-corner : corner (p .width) (p .height) c ≡ false → NotCorner p c
+  no-corner e = record {
+    upper-left = λ a b. neither (left a) (top b);
+    upper-right = λ a b. neither (right a) (top b);
+    lower-left = λ a b. neither (left a) (bottom b);
+    lower-right = λ a b. neither (right a) (bottom b);
+  }
+    where
+      neither : outer-column ≡ true → outer-row ≡ true → ⊥
+      neither q r = true≢false ((λ i. sym q i && sym r i) ∙ e)
 
-pub no-corner : (p : Panel) (c : Cell) → corner (p .width) (p .height) c ≡ false → NotCorner p c
-no-corner p c e = record {
-  upper-left = λ a b. clash (or-left _ (eq-eqb (c .x) 1 a)) (or-left _ (eq-eqb (c .y) 1 b));
-  upper-right = λ a b. clash (or-right (eqb (c .x) 1) (eq-eqb (c .x) (p .width) a)) (or-left _ (eq-eqb (c .y) 1 b));
-  lower-left = λ a b. clash (or-left _ (eq-eqb (c .x) 1 a)) (or-right (eqb (c .y) 1) (eq-eqb (c .y) (p .height) b));
-  lower-right = λ a b. clash (or-right (eqb (c .x) 1) (eq-eqb (c .x) (p .width) a)) (or-right (eqb (c .y) 1) (eq-eqb (c .y) (p .height) b));
-}
-  where
-    clash : (eqb (c .x) 1 || eqb (c .x) (p .width)) ≡ true → (eqb (c .y) 1 || eqb (c .y) (p .height)) ≡ true → ⊥
-    clash q r = true≢false ((λ i. sym q i && sym r i) ∙ e)
+      left : c .x ≡ 1 → outer-column ≡ true
+      left a = or-left _ (eq-eqb (c .x) 1 a)
+
+      right : c .x ≡ p .width → outer-column ≡ true
+      right a = or-right (eqb (c .x) 1) (eq-eqb (c .x) (p .width) a)
+
+      top : c .y ≡ 1 → outer-row ≡ true
+      top a = or-left _ (eq-eqb (c .y) 1 a)
+
+      bottom : c .y ≡ p .height → outer-row ≡ true
+      bottom a = or-right (eqb (c .y) 1) (eq-eqb (c .y) (p .height) a)
 
 -- ---- F3 says where the terminals are
 
@@ -68,9 +75,6 @@ pub record ThreeApart (p : Panel) (s t : Cell) : Type 0 where
   pub light : (t .x + t .y) % 2 ≡ 0
   pub apart : s .x < t .x
 
-pub not-odd : (k : ℕ) → not (odd k) ≡ true → k % 2 ≡ 0
-not-odd k e = let h : k % 2 ≡ 1 → ⊥ = eqb-false (k % 2) 1 (not-true (odd k) e) in omega arith
-
 pub f3-facts : (p : Panel) (s t : Cell) → f3 p s t ≡ true → ThreeApart p s t
 unfolding f3
 f3-facts p s t e =
@@ -80,9 +84,9 @@ f3-facts p s t e =
     let r4 = and-right (not (black t)) _ r3 in
     record {
       rows = eqb-true _ _ (and-left (eqb (p .height) 3) _ e);
-      even = not-odd (p .width) (and-left (not (odd (p .width))) _ r1);
+      even = is-even (p .width) (not-true _ (and-left (not (odd (p .width))) _ r1));
       dark = eqb-true _ _ (and-left (black s) _ r2);
-      light = not-odd (t .x + t .y) (and-left (not (black t)) _ r3);
+      light = is-even (t .x + t .y) (not-true _ (and-left (not (black t)) _ r3));
       apart = far (leb (s .x + 2) (t .x)) refl r4;
     }
   where
@@ -117,7 +121,7 @@ abbrev over : Panel → Cell → Cell
 over p a = cell (p .width + 1 - a .x) (p .height + 1 - a .y)
 
 over-on : (p : Panel) (a : Cell) → OnPanel p a → OnPanel p (over p a)
-over-on p a o = record { left = omega (arith, o .right); right = omega (arith, o .left); top = omega (arith, o .bottom); bottom = omega (arith, o .top) }
+over-on p a o = omega arith
 
 over-inside : (p : Panel) (a c : Cell) → Corner p a → OnPanel p c → Inside a (over p a) c
 over-inside p a c k o = record {
@@ -137,51 +141,62 @@ corner-white : (p : Panel) (a : Cell) → Corner p a → implies (odd (p .width)
 corner-white p a k = go (odd (p .width)) (odd (p .height)) refl refl
   where
     go : (w h : Bool) → odd (p .width) ≡ w → odd (p .height) ≡ h → implies (w && h) (not (black a)) ≡ true
-    go true true e f = ap not (colour a ∙ (λ i. differ (end-odd (p .width) (a .x) (k .side) e i) (end-odd (p .height) (a .y) (k .level) f i)))
+    go true true e f =
+        let x = end-odd (p .width) (a .x) (k .side) e in
+        let y = end-odd (p .height) (a .y) (k .level) f in
+        ap not (colour a ∙ (λ i. differ (x i) (y i)))
     go true false e f = refl
     go false h e f = refl
 
 -- so the leg leaves out what the longest track does
 same-loss : (m n a c : Bool) → implies (m && n) (not a) ≡ true → bit (loss m n (differ a c)) ≡ defect m n a c
-same-loss m n a c e = eqb-true _ _ (apply (four (λ m n a c. implies (implies (m && n) (not a)) (eqb (bit (loss m n (differ a c))) (defect m n a c))) refl m n a c) e)
+same-loss m n a c e = eqb-true _ _ (apply (four test refl m n a c) e)
+  where
+    test : Bool → Bool → Bool → Bool → Bool
+    test m n a c = implies (implies (m && n) (not a)) (eqb (bit (loss m n (differ a c))) (defect m n a c))
 
 same-sum : {a b k : ℕ} (c : ℕ) → a + c ≡ k → b + c ≡ k → a ≡ b
 same-sum c e f = omega arith
 
 module _ (p : Panel) (m : 3 ≤ p .width) (n : 3 ≤ p .height) where
-  over-size : (a c : Cell) (k : ℕ) → Corner p a → (a .x ≡ c .x → a .y ≡ c .y → ⊥) → Fits (p .width) (p .height) a c k → trackCount a (over p a) c ≡ k
+  over-size : (a c : Cell) (k : ℕ) → Corner p a → Distinct a c → Fits p a c k → trackCount a (over p a) c ≡ k
   over-size a c k r d f =
+      let w = span (p .width) (a .x) (omega arith) (r .side) in
+      let h = span (p .height) (a .y) (omega arith) (r .level) in
+      let lost = same-loss (odd (p .width)) (odd (p .height)) (black a) (black c) (corner-white p a r) in
       same-sum _
-      (ap (λ (z : ℕ). trackCount a (over p a) c + z) (sym (same-loss (odd (p .width)) (odd (p .height)) (black a) (black c) (corner-white p a r)))
-      ∙ block-size a (over p a) c (p .width) (p .height) (span (p .width) (a .x) (omega arith) (r .side)) (span (p .height) (a .y) (omega arith) (r .level)) (omega arith) (omega arith) d)
+      (ap (λ (z : ℕ). trackCount a (over p a) c + z) (sym lost)
+      ∙ block-size a (over p a) c (p .width) (p .height) w h (omega arith) (omega arith) d)
       (f .fits)
 
 -- ---- either terminal in a corner
 
 -- F3 holds with no terminal in a corner
 f3-from : (p : Panel) (s t : Cell) → OnPanel p t → Corner p s → f3 p s t ≡ false
-f3-from p s t ot k = no-f3 p s t λ f. ⊎-elim (λ (q : s .x ≡ 1). level f q (k .level)) (λ (q : s .x ≡ p .width). omega (arith, f .apart, ot .right)) (k .side)
+f3-from p s t ot k =
+    no-f3 p s t λ f.
+    ⊎-elim (λ (q : s .x ≡ 1). level f q (k .level)) (λ (q : s .x ≡ p .width). omega (arith, f .apart, ot .right)) (k .side)
   where
     level : ThreeApart p s t → s .x ≡ 1 → (s .y ≡ 1) ⊎ (s .y ≡ p .height) → ⊥
-    level f q (inl r) = let d = f .dark in omega arith
-    level f q (inr r) = let d = f .dark in let h = f .rows in omega arith
+    level f q (inl r) = omega (arith, f .dark)
+    level f q (inr r) = omega (arith, f .dark, f .rows)
 
 f3-to : (p : Panel) (s t : Cell) → OnPanel p s → Corner p t → f3 p s t ≡ false
-f3-to p s t os k = no-f3 p s t λ f. ⊎-elim (λ (q : t .x ≡ 1). omega (arith, f .apart, os .left)) (λ (q : t .x ≡ p .width). level f q (k .level)) (k .side)
+f3-to p s t os k =
+    no-f3 p s t λ f.
+    ⊎-elim (λ (q : t .x ≡ 1). omega (arith, f .apart, os .left)) (λ (q : t .x ≡ p .width). level f q (k .level)) (k .side)
   where
     level : ThreeApart p s t → t .x ≡ p .width → (t .y ≡ 1) ⊎ (t .y ≡ p .height) → ⊥
-    level f q (inl r) = let d = f .light in let e = f .even in omega arith
-    level f q (inr r) = let d = f .light in let e = f .even in let h = f .rows in omega arith
+    level f q (inl r) = omega (arith, f .light, f .even)
+    level f q (inr r) = omega (arith, f .light, f .even, f .rows)
 
-module _ (p : Panel) (s t : Cell) (m : 3 ≤ p .width) (n : 3 ≤ p .height) (os : OnPanel p s) (ot : OnPanel p t) (d : s .x ≡ t .x → s .y ≡ t .y → ⊥) where
-  pub from-corner : Corner p s → Plans p s t ((decided p s t) .count .0) (One (forth s (over p s) t))
+module _ (p : Panel) (s t : Cell) (m : 3 ≤ p .width) (n : 3 ≤ p .height) (os : OnPanel p s) (ot : OnPanel p t) (d : Distinct s t) where
+  pub from-corner : Corner p s → Plans p s t (decidedCount p s t) (One (forth s (over p s) t))
   from-corner k =
-      one-leg
-      (record { corner = os; opposite = over-on p s os; target = over-inside p s t k ot; from = refl; to = refl })
+      one-leg (forth-leg os (over-on p s os) (over-inside p s t k ot))
       (over-size p m n s t _ k d (fits-decided p s t m n (f3-from p s t ot k)))
 
-  pub to-corner : Corner p t → Plans p s t ((decided p s t) .count .0) (One (back t (over p t) s))
+  pub to-corner : Corner p t → Plans p s t (decidedCount p s t) (One (back t (over p t) s))
   to-corner k =
-      one-leg
-      (record { corner = ot; opposite = over-on p t ot; target = over-inside p t s k os; from = refl; to = refl })
+      one-leg (back-leg ot (over-on p t ot) (over-inside p t s k os))
       (over-size p m n t s _ k (λ x y. d (sym x) (sym y)) (fits-exchanged (fits-decided p s t m n (f3-to p s t os k))))

@@ -4,39 +4,42 @@ use Prim.Native.Nat.{ℕ, _+_, _-_, _*_, _%_, _≤_, max}
 use mathlib.Core.Path.{_≡_, refl, sym, ap, _∙_}
 use mathlib.Core.Bool.{Bool, true, false, not, cond, _&&_, _||_}
 use native.Mathlib.Omega.{arith}
-use borrow.Author.Tests.{eq-eqb, ne-eqb}
+use borrow.Author.Tests.{ne-eqb}
 use Rattle.grid.specs.declared.Panel.{Panel}
 use Rattle.grid.specs.declared.Cell.{Cell}
 use Rattle.grid.specs.Panel.{black}
-use Rattle.plan.proofs.Parity.{bit, mod-bit}
+use Rattle.plan.proofs.Parity.{bit, mod-bit, odd-yes, odd-no}
 use Rattle.count.specs.Count.{area, odd, f1, f2, f3, c2, c0, found, decided}
 
--- ---- parities
-
-pub odd-yes : (k : ℕ) → k % 2 ≡ 1 → odd k ≡ true
-odd-yes k e = eq-eqb (k % 2) 1 e
-
-pub odd-no : (k : ℕ) → k % 2 ≡ 0 → odd k ≡ false
-odd-no k e = ne-eqb (k % 2) 1 (λ (q : k % 2 ≡ 1). omega arith)
-
 -- ---- the lines of the definition
+
+-- the count that the lines give, for m not less than n and s not right of t
+abbrev pub decidedCount : Panel → Cell → Cell → ℕ
+decidedCount p s t = (decided p s t) .count .0
+
+-- what the first two lines say
+abbrev line1 : Cell → Cell → ℕ
+line1 s t = t .x - s .x + 1
+
+abbrev line2 : Panel → Cell → Cell → ℕ
+line2 p s t = max (s .x + t .x) (2 * p .width - (s .x + t .x) + 2)
 
 -- the count, by which lines fit and what they say
 chosen : Bool → Bool → Bool → Bool → ℕ → ℕ → ℕ → ℕ
 chosen a b c d j k n = (cond a (found 1 j) (cond b (found 2 k) (cond c (found 5 (n - 2)) (cond d (found 3 n) (found 4 (n - 1)))))) .count .0
 
 module _ (p : Panel) (s t : Cell) where
-  decided-chosen : (decided p s t) .count .0 ≡ chosen (f1 p s t) (f2 p s t) (c2 p s t) (c0 p s t) (t .x - s .x + 1) (max (s .x + t .x) (2 * p .width - (s .x + t .x) + 2)) (area p)
+  decided-chosen : decidedCount p s t ≡ chosen (f1 p s t) (f2 p s t) (c2 p s t) (c0 p s t) (line1 s t) (line2 p s t) (area p)
   unfolding decided chosen
   decided-chosen = refl
 
-  pub decided-one : f1 p s t ≡ true → (decided p s t) .count .0 ≡ t .x - s .x + 1
+  pub decided-one : f1 p s t ≡ true → decidedCount p s t ≡ t .x - s .x + 1
   unfolding chosen
-  decided-one e = decided-chosen ∙ ap (λ (b : Bool). chosen b (f2 p s t) (c2 p s t) (c0 p s t) (t .x - s .x + 1) (max (s .x + t .x) (2 * p .width - (s .x + t .x) + 2)) (area p)) e
+  decided-one e = decided-chosen ∙ (λ i. chosen (e i) (f2 p s t) (c2 p s t) (c0 p s t) (line1 s t) (line2 p s t) (area p))
 
-  pub decided-two : f1 p s t ≡ false → f2 p s t ≡ true → (decided p s t) .count .0 ≡ max (s .x + t .x) (2 * p .width - (s .x + t .x) + 2)
+  pub decided-two : f1 p s t ≡ false → f2 p s t ≡ true → decidedCount p s t ≡ max (s .x + t .x) (2 * p .width - (s .x + t .x) + 2)
   unfolding chosen
-  decided-two e f = decided-chosen ∙ (λ i. chosen (e i) (f i) (c2 p s t) (c0 p s t) (t .x - s .x + 1) (max (s .x + t .x) (2 * p .width - (s .x + t .x) + 2)) (area p))
+  decided-two e f = decided-chosen ∙ (λ i. chosen (e i) (f i) (c2 p s t) (c0 p s t) (line1 s t) (line2 p s t) (area p))
 
 -- what is left of a cells, by the parity of a, the colours of the terminals and F3
 left : Bool → Bool → Bool → Bool → ℕ → ℕ
@@ -67,30 +70,28 @@ last-lines false true j k n = refl
 last-lines false false j k n = refl
 
 module _ (p : Panel) (s t : Cell) (no1 : f1 p s t ≡ false) (no2 : f2 p s t ≡ false) where
-  decided-left : (decided p s t) .count .0 ≡ left (odd (area p)) (black s) (black t) (f3 p s t) (area p)
+  decided-left : decidedCount p s t ≡ left (odd (area p)) (black s) (black t) (f3 p s t) (area p)
   unfolding left c2 c0
   decided-left =
       decided-chosen p s t
-      ∙ (λ i. chosen (no1 i) (no2 i) (c2 p s t) (c0 p s t) (t .x - s .x + 1) (max (s .x + t .x) (2 * p .width - (s .x + t .x) + 2)) (area p))
+      ∙ (λ i. chosen (no1 i) (no2 i) (c2 p s t) (c0 p s t) (line1 s t) (line2 p s t) (area p))
       ∙ last-lines (c2 p s t) (c0 p s t) _ _ (area p)
 
-  pub decided-odd : area p % 2 ≡ 1 → f3 p s t ≡ false → 2 ≤ area p → (decided p s t) .count .0 + ((s .x + s .y) % 2 + (t .x + t .y) % 2) ≡ area p
+  pub decided-odd : area p % 2 ≡ 1 → f3 p s t ≡ false → 2 ≤ area p → decidedCount p s t + ((s .x + s .y) % 2 + (t .x + t .y) % 2) ≡ area p
   decided-odd o n h =
-      (λ i. (decided-left ∙ (λ j. left (odd-yes (area p) o j) (black s) (black t) (n j) (area p))) i + (mod-bit (s .x + s .y) i + mod-bit (t .x + t .y) i))
-      ∙ left-odd (black s) (black t) (area p) h
+      let q = decided-left ∙ (λ j. left (odd-yes (area p) o j) (black s) (black t) (n j) (area p)) in
+      (λ i. q i + (mod-bit (s .x + s .y) i + mod-bit (t .x + t .y) i)) ∙ left-odd (black s) (black t) (area p) h
 
-  pub decided-even : area p % 2 ≡ 0 → f3 p s t ≡ false → 1 ≤ area p → (decided p s t) .count .0 + (s .x + s .y + (t .x + t .y) + 1) % 2 ≡ area p
+  pub decided-even : area p % 2 ≡ 0 → f3 p s t ≡ false → 1 ≤ area p → decidedCount p s t + (s .x + s .y + (t .x + t .y) + 1) % 2 ≡ area p
   decided-even o n h =
-      let q : (decided p s t) .count .0 ≡ left false (black s) (black t) false (area p) = decided-left ∙ (λ j. left (odd-no (area p) o j) (black s) (black t) (n j) (area p)) in
+      let q = decided-left ∙ (λ j. left (odd-no (area p) o j) (black s) (black t) (n j) (area p)) in
       let e = left-even (black s) (black t) (area p) h in
-      let a = sym (mod-bit (s .x + s .y)) in
-      let b = sym (mod-bit (t .x + t .y)) in
-      ap (λ (k : ℕ). k + (s .x + s .y + (t .x + t .y) + 1) % 2) q ∙ sums (left false (black s) (black t) false (area p)) (bit (black s)) (bit (black t)) (s .x + s .y) (t .x + t .y) (area p) a b e
+      sums (s .x + s .y) (t .x + t .y) (sym q) (sym (mod-bit (s .x + s .y))) (sym (mod-bit (t .x + t .y))) e
     where
-      sums : (l a b x y k : ℕ) → a ≡ x % 2 → b ≡ y % 2 → l + (a + b + 1) % 2 ≡ k → l + (x + y + 1) % 2 ≡ k
-      sums l a b x y k p q e = omega arith
+      sums : {l d a b k : ℕ} (x y : ℕ) → l ≡ d → a ≡ x % 2 → b ≡ y % 2 → l + (a + b + 1) % 2 ≡ k → d + (x + y + 1) % 2 ≡ k
+      sums x y q f g e = omega arith
 
-  pub decided-f3 : area p % 2 ≡ 0 → black s ≡ true → black t ≡ false → f3 p s t ≡ true → 2 ≤ area p → (decided p s t) .count .0 + 2 ≡ area p
+  pub decided-f3 : area p % 2 ≡ 0 → black s ≡ true → black t ≡ false → f3 p s t ≡ true → 2 ≤ area p → decidedCount p s t + 2 ≡ area p
   decided-f3 o b w f h =
       ap (λ (k : ℕ). k + 2) (decided-left ∙ (λ j. left (odd-no (area p) o j) (b j) (w j) (f j) (area p))) ∙ left-f3 (area p) h
 

@@ -3,7 +3,7 @@ pub mod Size
 pub mod Parity
 pub mod Chain
 pub mod Moved
-pub mod Corners
+pub mod Terminals
 pub mod Decided
 pub mod Defect
 pub mod Rows
@@ -18,4 +18,3 @@ pub mod FourRows
 pub mod Wide
 pub mod Exists
 pub mod Theorem
-pub mod Branch

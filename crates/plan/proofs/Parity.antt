@@ -15,24 +15,28 @@ use Rattle.plan.specs.Plan.{differ}
 
 -- ---- a test over all values
 
-abbrev pub both : (Bool → Bool) → Bool
+abbrev both : (Bool → Bool) → Bool
 both f = f true && f false
+
+abbrev both² : (Bool → Bool → Bool) → Bool
+both² f = both (λ a. both (λ b. f a b))
 
 for-both : (f : Bool → Bool) → both f ≡ true → (b : Bool) → f b ≡ true
 for-both f e true = and-left (f true) (f false) e
 for-both f e false = and-right (f true) (f false) e
 
-pub two : (f : Bool → Bool → Bool) → both (λ a. both (λ b. f a b)) ≡ true → (a b : Bool) → f a b ≡ true
+pub two : (f : Bool → Bool → Bool) → both² f ≡ true → (a b : Bool) → f a b ≡ true
 two f h a b = for-both (λ b. f a b) (for-both (λ a. both (λ b. f a b)) h a) b
 
-pub three : (f : Bool → Bool → Bool → Bool) → both (λ a. both (λ b. both (λ c. f a b c))) ≡ true → (a b c : Bool) → f a b c ≡ true
+pub three : (f : Bool → Bool → Bool → Bool) → both² (λ a b. both (λ c. f a b c)) ≡ true → (a b c : Bool) → f a b c ≡ true
 three f h a b c = for-both (λ c. f a b c) (two (λ a b. both (λ c. f a b c)) h a b) c
 
-pub four : (f : Bool → Bool → Bool → Bool → Bool) → both (λ a. both (λ b. both (λ c. both (λ d. f a b c d)))) ≡ true → (a b c d : Bool) → f a b c d ≡ true
-four f h a b c d = two (λ c d. f a b c d) (two (λ a b. both (λ c. both (λ d. f a b c d))) h a b) c d
+pub four : (f : Bool → Bool → Bool → Bool → Bool) → both² (λ a b. both² (λ c d. f a b c d)) ≡ true → (a b c d : Bool) → f a b c d ≡ true
+four f h a b c d = two (λ c d. f a b c d) (two (λ a b. both² (λ c d. f a b c d)) h a b) c d
 
-pub six : (f : Bool → Bool → Bool → Bool → Bool → Bool → Bool) → both (λ a. both (λ b. both (λ c. both (λ d. both (λ e. both (λ g. f a b c d e g)))))) ≡ true → (a b c d e g : Bool) → f a b c d e g ≡ true
-six f h a b c d e g = two (λ e g. f a b c d e g) (four (λ a b c d. both (λ e. both (λ g. f a b c d e g))) h a b c d) e g
+pub six : (f : Bool → Bool → Bool → Bool → Bool → Bool → Bool) → both² (λ a b. both² (λ c d. both² (λ e g. f a b c d e g))) ≡ true
+    → (a b c d e g : Bool) → f a b c d e g ≡ true
+six f h a b c d e g = two (λ e g. f a b c d e g) (four (λ a b c d. both² (λ e g. f a b c d e g)) h a b c d) e g
 
 pub same : (a b : Bool) → Bool·beq a b ≡ true → a ≡ b
 same true true e = refl
@@ -52,6 +56,18 @@ apply {a} {b} h e = sym (ap (λ (z : Bool). cond z b true) e) ∙ h
 pub odd-bit : (k : ℕ) (b : Bool) → k % 2 ≡ bit b → odd k ≡ b
 odd-bit k true e = eq-eqb (k % 2) 1 e
 odd-bit k false e = ne-eqb (k % 2) 1 (λ (z : k % 2 ≡ 1). omega arith)
+
+pub odd-yes : (k : ℕ) → k % 2 ≡ 1 → odd k ≡ true
+odd-yes k e = odd-bit k true e
+
+pub odd-no : (k : ℕ) → k % 2 ≡ 0 → odd k ≡ false
+odd-no k e = odd-bit k false e
+
+pub is-odd : (k : ℕ) → odd k ≡ true → k % 2 ≡ 1
+is-odd k e = mod-bit k ∙ ap bit e
+
+pub is-even : (k : ℕ) → odd k ≡ false → k % 2 ≡ 0
+is-even k e = mod-bit k ∙ ap bit e
 
 sum-bit : (a b : ℕ) (p q : Bool) → a % 2 ≡ bit p → b % 2 ≡ bit q → (a + b) % 2 ≡ bit (differ p q)
 sum-bit a b true true e f = omega arith

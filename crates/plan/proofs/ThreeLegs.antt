@@ -1,57 +1,30 @@
--- The plans on three rows: split, middle and ess are chains from s to t, and what they lose. Each leg that is not a line is a block of three rows with
+-- The plans on three rows: split, middle and zigzag are chains from s to t, and what they lose. Each leg that is not a line is a block of three rows with
 -- its corner in row 1 or 3, and loses a cell by parity alone, also where it is one column wide; the sums are over plain numbers.
 use Prim.Native.Nat.{ℕ, _+_, _-_, _*_, _%_, _≤_, _<_, min, max}
 use mathlib.Core.Path.{_≡_, refl, sym, ap, _∙_, subst⁻¹}
-use mathlib.Core.Logic.{⊎-elim}
+use mathlib.Core.Logic.{dite}
 use native.Mathlib.Omega.{arith}
+use native.Mathlib.Decide.{ℕ-discrete, decLt}
 use Rattle.grid.specs.declared.Panel.{Panel}
 use Rattle.grid.specs.declared.Cell.{Cell}
-use Rattle.grid.specs.Panel.{OnPanel, Neighbours, dist}
+use Rattle.grid.specs.Panel.{OnPanel, dist}
 use Rattle.grid.proofs.Facts.{beside-x, beside-sym}
-use Rattle.corner.specs.Corner.{Inside, cornerCount, trackCount}
-use Rattle.plan.specs.declared.Leg.{Leg}
-use Rattle.plan.specs.declared.Plan.the-variants.{Two, Five}
-use Rattle.plan.specs.Leg.{cell, forth, back, legCount}
-use Rattle.plan.specs.Plan.{split, round, ess, middle}
-use Rattle.plan.proofs.Cases.{equal?, less?, if-equal}
+use Rattle.line.specs.Rectangle.{Inside}
+use Rattle.corner.specs.Corner.{cornerCount, trackCount}
 use Rattle.corner.proofs.Count.{count-thin}
+use Rattle.plan.specs.declared.Leg.{Leg}
+use Rattle.plan.specs.Leg.{cell, forth, back, legCount}
+use Rattle.plan.specs.Plan.{split, round, zigzag, middle}
+use Rattle.plan.proofs.Cases.{if-equal}
 use Rattle.plan.proofs.Size.{count-block, block-loss}
-use Rattle.plan.proofs.Chain.{LegFrom, Sep, on-left, above, below, sep-sym, Each, Chain, Plans}
+use Rattle.plan.proofs.Chain.{LegFrom, forth-leg, back-leg, Sep, sep-sym, left-of, right-of, over, under, Plans, two-legs, five-legs}
 use Rattle.plan.proofs.Rows.{size-row}
 use Rattle.plan.proofs.ThreeCount.{loss}
 
--- ---- chains of two and of five legs
-
-two-legs : {p : Panel} {s t u v : Cell} {k : ℕ} {g h : Leg} → LegFrom p g s u → Neighbours u v → LegFrom p h v t → Sep g h → legCount g + (legCount h + 0) ≡ k → Plans p s t k (Two g h)
-two-legs a n b d e = record { chain = Chain.more a n (Each.more d Each.none) (Chain.one b); size = e }
-
-five-legs : {p : Panel} {s t u₁ v₁ u₂ v₂ u₃ v₃ u₄ v₄ : Cell} {k : ℕ} {a b c d e : Leg} →
-    LegFrom p a s u₁ → Neighbours u₁ v₁ → LegFrom p b v₁ u₂ → Neighbours u₂ v₂ → LegFrom p c v₂ u₃ → Neighbours u₃ v₃ → LegFrom p d v₃ u₄ → Neighbours u₄ v₄ → LegFrom p e v₄ t →
-    Sep a b × Sep a c × Sep a d × Sep a e → Sep b c × Sep b d × Sep b e → Sep c d × Sep c e → Sep d e →
-    legCount a + (legCount b + (legCount c + (legCount d + (legCount e + 0)))) ≡ k → Plans p s t k (Five a b c d e)
-five-legs a n b o c q d r e (ab, ac, ad, ae) (bc, bd, be) (cd, ce) de z = record {
-  chain =
-      Chain.more a n (Each.more ab (Each.more ac (Each.more ad (Each.more ae Each.none))))
-      (Chain.more b o (Each.more bc (Each.more bd (Each.more be Each.none)))
-      (Chain.more c q (Each.more cd (Each.more ce Each.none))
-      (Chain.more d r (Each.more de Each.none)
-      (Chain.one e))));
-  size = z;
-}
-
--- legs on either side of a line between columns, and in two rows
-left-of : {g h : Leg} (k : ℕ) → (g .a .x ≤ k) × (g .b .x ≤ k) × (k < h .a .x) × (k < h .b .x) → Sep g h
-left-of k (a, b, c, d) = on-left k a b c d
-
-right-of : {g h : Leg} (k : ℕ) → (h .a .x ≤ k) × (h .b .x ≤ k) × (k < g .a .x) × (k < g .b .x) → Sep g h
-right-of k f = sep-sym (left-of k f)
-
+-- legs in two rows
 rows-apart : {g h : Leg} (a b : ℕ) → (a ≡ b → ⊥) → g .a .y ≡ a → g .b .y ≡ a → h .a .y ≡ b → h .b .y ≡ b → Sep g h
 rows-apart a b n c d e f =
-    ⊎-elim
-    (λ l. above a (omega arith) (omega arith) (omega arith) (omega arith))
-    (λ l. below b (omega arith) (omega arith) (omega arith) (omega arith))
-    (less? a b)
+    dite (decLt a b) (λ l. over a (omega arith)) (λ l. under b (omega arith))
 
 -- ---- from row 1 or 3: to the other one, and to a row y
 
@@ -60,7 +33,7 @@ pub data Outer : ℕ → Type 0 where
   lower : Outer 3
 
 pub outer : (r : ℕ) → 1 ≤ r → r ≤ 3 → (r ≡ 2 → ⊥) → Outer r
-outer r p q n = ⊎-elim (λ e. subst⁻¹ Outer e upper) (λ e. subst⁻¹ Outer (three e) lower) (equal? r 1)
+outer r p q n = dite (ℕ-discrete r 1) (λ e. subst⁻¹ Outer e upper) (λ e. subst⁻¹ Outer (three e) lower)
   where
     three : (r ≡ 1 → ⊥) → r ≡ 3
     three e = omega arith
@@ -110,14 +83,15 @@ record Block (p : Panel) (x far r tx y w dx : ℕ) : Type 0 where
   target : Inside (cell x r) (cell far (4 - r)) (cell tx y)
   size : trackCount (cell x r) (cell far (4 - r)) (cell tx y) + (w + dx + y) % 2 ≡ 3 * w
 
-block-forth : {p : Panel} {x far r tx y w dx : ℕ} → Block p x far r tx y w dx → LegFrom p (forth (cell x r) (cell far (4 - r)) (cell tx y)) (cell x r) (cell tx y)
-block-forth b = record { corner = b .corner; opposite = b .opposite; target = b .target; from = refl; to = refl }
+module _ {p : Panel} {x far r tx y w dx : ℕ} where
+  block-forth : Block p x far r tx y w dx → LegFrom p (forth (cell x r) (cell far (4 - r)) (cell tx y)) (cell x r) (cell tx y)
+  block-forth b = forth-leg (b .corner) (b .opposite) (b .target)
 
-block-back : {p : Panel} {x far r tx y w dx : ℕ} → Block p x far r tx y w dx → LegFrom p (back (cell x r) (cell far (4 - r)) (cell tx y)) (cell tx y) (cell x r)
-block-back b = record { corner = b .corner; opposite = b .opposite; target = b .target; from = refl; to = refl }
+  block-back : Block p x far r tx y w dx → LegFrom p (back (cell x r) (cell far (4 - r)) (cell tx y)) (cell tx y) (cell x r)
+  block-back b = back-leg (b .corner) (b .opposite) (b .target)
 
 three-count : (w dx dy : ℕ) → dx < w → dy < 3 → 0 < dx + dy → cornerCount w 3 dx dy + (w + dx + dy + 1) % 2 ≡ 3 * w
-three-count w dx dy p q r = ⊎-elim column block (equal? w 1)
+three-count w dx dy p q r = dite (ℕ-discrete w 1) column block
   where
     column : w ≡ 1 → cornerCount w 3 dx dy + (w + dx + dy + 1) % 2 ≡ 3 * w
     column e = let h = count-thin w 3 dx dy e (omega arith) q in omega arith
@@ -130,7 +104,8 @@ three-count w dx dy p q r = ⊎-elim column block (equal? w 1)
 
 target-off : (dx r y : ℕ) → (dx ≡ 0 → y ≡ r → ⊥) → 0 < dx + dist r y
 unfolding dist
-target-off dx r y n = ⊎-elim (λ e. ⊎-elim (λ f. absurd (n e f)) (λ f. omega arith) (equal? y r)) (λ e. omega arith) (equal? dx 0)
+target-off dx r y n =
+    dite (ℕ-discrete dx 0) (λ e. dite (ℕ-discrete y r) (λ f. absurd (n e f)) (λ f. omega arith)) (λ e. omega arith)
 
 target-near : {m x far tx y w dx : ℕ} → Lies m x far tx y w dx → dx < w
 unfolding dist
@@ -161,15 +136,16 @@ two-sum g h k c w m a b e f i j = omega arith
 even-rest : (w c m : ℕ) → w + c ≡ m → m % 2 ≡ 0 → c % 2 ≡ 0 → 0 ≡ (w + 0 + 2) % 2
 even-rest w c m e f g = omega arith
 
--- w and v are the columns right and left of an ess, r its third row
-ess-right : (w z m y r q : ℕ) → w + z ≡ m → y + r + q ≡ 6 → (z + q + m + 1) % 2 ≡ (w + y + r + 1) % 2
-ess-right w z m y r q e f = omega arith
+-- w and v are the columns right and left of a zigzag, r its third row
+zigzag-right : (w z m y r q : ℕ) → w + z ≡ m → y + r + q ≡ 6 → (z + q + m + 1) % 2 ≡ (w + y + r + 1) % 2
+zigzag-right w z m y r q e f = omega arith
 
-ess-left : (v x y r q : ℕ) → v + 1 ≡ x → y + r + q ≡ 6 → (x + y) % 2 ≡ (v + r + q + 1) % 2
-ess-left v x y r q e f = omega arith
+zigzag-left : (v x y r q : ℕ) → v + 1 ≡ x → y + r + q ≡ 6 → (x + y) % 2 ≡ (v + r + q + 1) % 2
+zigzag-left v x y r q e f = omega arith
 
 -- its lines have l + 1 cells each
-five-sum : (a b c d e k m x z w v l f g : ℕ) → w + z ≡ m → v + 1 ≡ x → x + l ≡ z → a ≡ l + 1 → c ≡ l + 1 → e ≡ l + 1 → b + f ≡ 3 * w → d + g ≡ 3 * v → k + (g + f) ≡ 3 * m → a + (b + (c + (d + (e + 0)))) ≡ k
+five-sum : (a b c d e k m x z w v l f g : ℕ) → w + z ≡ m → v + 1 ≡ x → x + l ≡ z → a ≡ l + 1 → c ≡ l + 1 → e ≡ l + 1
+    → b + f ≡ 3 * w → d + g ≡ 3 * v → k + (g + f) ≡ 3 * m → a + (b + (c + (d + (e + 0)))) ≡ k
 five-sum a b c d e k m x z w v l f g ew ev el ea ec ee eb ed ek = omega arith
 
 -- the third row is another
@@ -202,7 +178,8 @@ module _ (p : Panel) (high : p .height ≡ 3) where
       from-middle e =
           let o = outer q q1 q3 (λ z. n (e ∙ sym z)) in
           let b = block l o (λ z. n) in
-          record { leg = block-back b; near = refl; end = refl; size = resized _ (ap (λ (k : ℕ). k % 2) swapped ∙ outer-past w r o) (b .size) }
+          let past = ap (λ (k : ℕ). k % 2) swapped ∙ outer-past w r o in
+          record { leg = block-back b; near = refl; end = refl; size = resized _ past (b .size) }
         where
           swapped : w + r + q + 1 ≡ w + q + r + 1
           swapped = omega arith
@@ -216,11 +193,13 @@ module _ (p : Panel) (high : p .height ≡ 3) where
   on : (x y : ℕ) → (1 ≤ x) × (x ≤ p .width) × (1 ≤ y) × (y ≤ p .height) → OnPanel p (cell x y)
   on x y (a, b, c, d) = record { left = a; right = b; top = c; bottom = d }
 
-  line : {x far y : ℕ} → OnPanel p (cell x y) → OnPanel p (cell far y) → LegFrom p (forth (cell x y) (cell far y) (cell far y)) (cell x y) (cell far y)
-  line {x} {far} {y} c d = record { corner = c; opposite = d; target = omega arith; from = refl; to = refl }
+  line : {x far y : ℕ} → OnPanel p (cell x y) → OnPanel p (cell far y)
+      → LegFrom p (forth (cell x y) (cell far y) (cell far y)) (cell x y) (cell far y)
+  line {x} {far} {y} c d = forth-leg c d (omega arith)
 
   module _ {s t : Cell} (os : OnPanel p s) (ot : OnPanel p t) where
-    pub split-three : {k : ℕ} (j : ℕ) → Outer j → s .x < t .x → (s .y ≡ j → ⊥) → (s .x + 1 ≡ t .x → t .y ≡ j → ⊥) → k + loss (p .width) s t ≡ 3 * p .width → Plans p s t k (split (p .width) 3 s t (s .x) j)
+    pub split-three : {k : ℕ} (j : ℕ) → Outer j → s .x < t .x → (s .y ≡ j → ⊥) → (s .x + 1 ≡ t .x → t .y ≡ j → ⊥)
+        → k + loss (p .width) s t ≡ 3 * p .width → Plans p s t k (split (p .width) 3 s t (s .x) j)
     unfolding split dist
     split-three {k} j o l ns nt e =
         two-legs (block-back left) (beside-x refl refl) (block-forth right) (left-of (s .x) (omega arith))
@@ -238,11 +217,13 @@ module _ (p : Panel) (high : p .height ≡ 3) where
         two : (t .x + t .y + p .width + 1) % 2 ≡ (p .width - s .x + (t .x - (s .x + 1)) + t .y) % 2
         two = sym (split-right _ _ (t .x) (t .y) (s .x) (p .width) (omega arith) (omega arith))
 
-    pub middle-three : Outer (s .y) → Outer (t .y) → s .x + 1 ≡ t .x → s .x % 2 ≡ 0 → p .width % 2 ≡ 0 → Plans p s t (3 * p .width) (middle (p .width) s t)
+    pub middle-three : Outer (s .y) → Outer (t .y) → s .x + 1 ≡ t .x → s .x % 2 ≡ 0 → p .width % 2 ≡ 0
+        → Plans p s t (3 * p .width) (middle (p .width) s t)
     unfolding middle dist
     middle-three a b e ec em =
         two-legs (block-forth left) (beside-x e refl) (block-back right) (left-of (s .x) (omega arith))
-        (two-sum _ _ (3 * p .width) (s .x) (p .width - s .x) (p .width) 0 0 (omega arith) (resized _ (even-rest (s .x) 0 (s .x) (omega arith) ec (omega arith)) (left .size)) (resized _ (even-rest (p .width - s .x) (s .x) (p .width) (omega arith) em ec) (right .size)) (omega arith))
+        (two-sum _ _ (3 * p .width) (s .x) (p .width - s .x) (p .width) 0 0 (omega arith)
+        (resized _ one (left .size)) (resized _ two (right .size)) (omega arith))
       where
         left : Block p (s .x) 1 (s .y) (s .x) 2 (s .x) 0
         left = block (omega arith) a (λ z. outer-rows a .4)
@@ -250,9 +231,16 @@ module _ (p : Panel) (high : p .height ≡ 3) where
         right : Block p (t .x) (p .width) (t .y) (t .x) 2 (p .width - s .x) 0
         right = block (omega arith) b (λ z. outer-rows b .4)
 
-    pub ess-three : {k : ℕ} (r : ℕ) → s .y + r + t .y ≡ 6 → (s .y ≡ t .y → ⊥) → s .x ≤ t .x → 1 < s .x → t .x < p .width → k + loss (p .width) s t ≡ 3 * p .width → Plans p s t k (ess (p .width) s t r)
-    unfolding ess dist
-    ess-three {k} r er n l a b e =
+        one : 0 ≡ (s .x + 0 + 2) % 2
+        one = even-rest (s .x) 0 (s .x) (omega arith) ec (omega arith)
+
+        two : 0 ≡ (p .width - s .x + 0 + 2) % 2
+        two = even-rest (p .width - s .x) (s .x) (p .width) (omega arith) em ec
+
+    pub zigzag-three : {k : ℕ} (r : ℕ) → s .y + r + t .y ≡ 6 → (s .y ≡ t .y → ⊥) → s .x ≤ t .x → 1 < s .x → t .x < p .width
+        → k + loss (p .width) s t ≡ 3 * p .width → Plans p s t k (zigzag (p .width) s t r)
+    unfolding zigzag dist
+    zigzag-three {k} r er n l a b e =
         five-legs
         (line os (on (t .x) (s .y) (omega arith)))
         (beside-x refl refl)
@@ -263,10 +251,10 @@ module _ (p : Panel) (high : p .height ≡ 3) where
         (left .leg)
         (beside-x (omega arith) refl)
         (line (on (s .x) (t .y) (omega arith)) ot)
-        (left-of (t .x) (omega (arith, right .near, right .end)), rows-apart (s .y) r sr refl refl refl refl, right-of (s .x - 1) (omega (arith, left .near, left .end)), rows-apart (s .y) (t .y) n refl refl refl refl)
-        (right-of (t .x) (omega (arith, right .near, right .end)), right-of (t .x) (omega (arith, right .near, right .end, left .near, left .end)), right-of (t .x) (omega (arith, right .near, right .end)))
-        (right-of (s .x - 1) (omega (arith, left .near, left .end)), rows-apart r (t .y) rt refl refl refl refl)
-        (left-of (s .x - 1) (omega (arith, left .near, left .end)))
+        (before-right (omega arith), rows-apart (s .y) r sr refl refl refl refl, after-left (omega arith), rows-apart (s .y) (t .y) n refl refl refl refl)
+        (sep-sym (before-right (omega arith)), sep-sym (before-right left-ends), sep-sym (before-right (omega arith)))
+        (after-left (omega arith), rows-apart r (t .y) rt refl refl refl refl)
+        (sep-sym (after-left (omega arith)))
         (five-sum _ _ _ _ _ k (p .width) (s .x) (t .x) (p .width - t .x) (s .x - 1) (t .x - s .x) _ _
         (omega arith)
         (omega arith)
@@ -274,8 +262,8 @@ module _ (p : Panel) (high : p .height ≡ 3) where
         (size-row _ _ _ refl refl ∙ (omega arith))
         (size-row _ _ _ refl refl ∙ (omega arith))
         (size-row _ _ _ refl refl ∙ (omega arith))
-        (resized _ (ess-right (p .width - t .x) (t .x) (p .width) (s .y) r (t .y) (omega arith) er) (right .size))
-        (resized _ (ess-left (s .x - 1) (s .x) (s .y) r (t .y) (omega arith) er) (left .size))
+        (resized _ (zigzag-right (p .width - t .x) (t .x) (p .width) (s .y) r (t .y) (omega arith) er) (right .size))
+        (resized _ (zigzag-left (s .x - 1) (s .x) (s .y) r (t .y) (omega arith) er) (left .size))
         e)
       where
         sr : s .y ≡ r → ⊥
@@ -289,3 +277,19 @@ module _ (p : Panel) (high : p .height ≡ 3) where
 
         left : Around p (s .x - 1) 1 r (t .y) (s .x - 1) (round (s .x - 1) 1 r (t .y))
         left = around (s .x - 1) 1 r (t .y) (s .x - 1) (omega arith) (ot .top) (omega arith) rt
+
+        right-turn : Leg
+        right-turn = round (t .x + 1) (p .width) (s .y) r
+
+        left-turn : Leg
+        left-turn = round (s .x - 1) 1 r (t .y)
+
+        -- a leg left of the right turn, and one right of the left turn
+        before-right : {g : Leg} → (g .a .x ≤ t .x) × (g .b .x ≤ t .x) → Sep g right-turn
+        before-right (u, v) = left-of (t .x) (omega (arith, right .near, right .end))
+
+        after-left : {g : Leg} → (s .x ≤ g .a .x) × (s .x ≤ g .b .x) → Sep g left-turn
+        after-left (u, v) = right-of (s .x - 1) (omega (arith, left .near, left .end))
+
+        left-ends : (left-turn .a .x ≤ t .x) × (left-turn .b .x ≤ t .x)
+        left-ends = omega (arith, left .near, left .end)

@@ -4,10 +4,11 @@ use mathlib.Core.Path.{_≡_}
 use mathlib.Core.List.{List, [], _∷_, _++_}
 use lib.ListN.{length, drop}
 use Rattle.grid.specs.declared.Cell.{Cell}
+use Rattle.grid.specs.declared.Cells.{Cells}
 use Rattle.grid.specs.Track.{TrackIn}
 use Rattle.grid.specs.Bytes.{bytes}
-use Rattle.corner.specs.Corner.{Inside}
-use Rattle.corner.specs.Drawn.{Small}
+use Rattle.line.specs.Rectangle.{Inside}
+use Rattle.line.specs.Drawn.{InBytes}
 use Rattle.plan.specs.declared.Leg.{Leg}
 use Rattle.plan.specs.Leg.{start, stop, total}
 
@@ -17,14 +18,14 @@ pub data Each (P : Leg → Type 0) : List Leg → Type 0 where
   more : {g : Leg} {l : List Leg} → P g → Each P l → Each P (g ∷ l)
 
 -- the legs' tracks, one after the other
-pub data Drawn : List Leg → List Cell → Type 0 where
-  none : Drawn [] []
-  more : {g : Leg} {l : List Leg} {c d : List Cell} → TrackIn (Inside (g .a) (g .b)) (start g) (stop g) c → Drawn l d → Drawn (g ∷ l) (c ++ d)
+pub data LegTracks : List Leg → List Cell → Type 0 where
+  none : LegTracks [] []
+  more : {g : Leg} {l : List Leg} {c d : List Cell} → TrackIn (Inside (g .a) (g .b)) (start g) (stop g) c → LegTracks l d → LegTracks (g ∷ l) (c ++ d)
 
 -- a leg whose coordinates are bytes, with its target in its rectangle
 pub record Drawable (g : Leg) : Type 0 where
-  pub corner : Small (g .a)
-  pub opposite : Small (g .b)
+  pub corner : InBytes (g .a)
+  pub opposite : InBytes (g .b)
   pub inside : Inside (g .a) (g .b) (g .t)
 
 -- legs to draw, and room for their cells
@@ -32,10 +33,10 @@ pub record Room (l : List Leg) (buf : List ℕ) : Type 0 where
   pub each : Each Drawable l
   pub room : 2 * total l ≤ length buf
 
--- the r cells of the legs' tracks stand at the front of the buffer, which is the old one behind them
-pub record Written (l : List Leg) (r : ℕ) (old new : List ℕ) : Type 0 where
-  pub count : r ≡ total l
+-- r is the number of the cells of the legs' tracks, which stand at the front of the buffer; behind them it is the old one
+pub record Written (l : List Leg) (r : Cells) (old new : List ℕ) : Type 0 where
+  pub count : r .0 ≡ total l
   pub cells : List Cell
-  pub drawn : Drawn l cells
-  pub size : length cells ≡ r
-  pub content : new ≡ bytes cells ++ drop (2 * r) old
+  pub drawn : LegTracks l cells
+  pub size : length cells ≡ r .0
+  pub content : new ≡ bytes cells ++ drop (2 * r .0) old

@@ -1,4 +1,4 @@
 pub mod Leg
 pub mod Plan
-pub mod Motion
 pub mod Drawing
+pub mod Small

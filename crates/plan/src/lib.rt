@@ -1,9 +1,6 @@
-// Which plan a longest track is drawn by: a chain of corner tracks.
+// What a longest track is made of: legs, which are corner tracks, and plans, which are chains of them.
+// The definitions and theorems about them are in specs/ and proofs/; the code that chooses a plan is the crate choice.
 use grid::Cell;
-
-pub mod choice;
-pub mod motions;
-pub mod shapes;
 
 // A leg of a track: the corner track from the corner `a` of a rectangle to its cell `t`, `b` being
 // the opposite corner; walked from `t` to `a` where `back` is set.
@@ -20,11 +17,4 @@ pub enum Plan {
     Two(Leg, Leg),
     Three(Leg, Leg, Leg),
     Five(Leg, Leg, Leg, Leg, Leg),
-}
-
-// How a plan is moved: turned, or mirrored so that x, or y, becomes the number less it.
-pub enum Motion {
-    Turn,
-    MirrorX(u32),
-    MirrorY(u32),
 }

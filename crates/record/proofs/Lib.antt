@@ -1,5 +1,4 @@
-pub mod Laws
-pub mod Lists
-pub mod Checks
-pub mod Directions
+pub mod Walks
+pub mod Made
+pub mod Answers
 pub mod Records

@@ -1,3 +1,2 @@
-pub mod Format
 pub mod Write
 pub mod Read

@@ -1,7 +1,10 @@
 // Tries Write, Read and Letters. A line `write` gives the refusal's number (0: none) and the bytes written; a line
 // `read` the number, the panel, the cells and the record's length; a line `letters` what Letters hands back; a
 // line `bytes` a buffer after a call.
-use grid::Panel;
+use grid::BytesAnswer;
+use grid::number_of;
+use grid::panel_of;
+use record::ReadAnswer;
 use trial::cells::snake;
 use trial::cells::wide;
 use trial::print::named;
@@ -21,30 +24,27 @@ fn show_bytes(s: &[u8]) {
 }
 
 fn show_write(m: u32, n: u32, list: &[u8], out: &mut [u8]) {
-    let p = Panel {
-        width: m,
-        height: n,
-    };
-    let w = record::write(p, list, out);
     text(b"write ");
-    row(&[record::write_number(w), record::bytes_written(w)], b"\n");
+    match record::write(panel_of(m, n), list, out) {
+        BytesAnswer::Refused(r) => row(&[number_of(r), 0], b"\n"),
+        BytesAnswer::Given(k) => row(&[0, k], b"\n"),
+    }
 }
 
 fn show_read(file: &[u8], list: &mut [u8]) {
-    let r = record::read(file, list);
-    let p = record::panel_given(r);
-    let k = record::cells_given(r).0;
     text(b"read ");
-    row(
-        &[
-            record::read_number(r),
-            p.width,
-            p.height,
-            k,
-            record::length_given(r),
-        ],
-        b"\n",
-    );
+    match record::read(file, list) {
+        ReadAnswer::Refused(r) => row(&[number_of(r), 0, 0, 0, 0], b"\n"),
+        ReadAnswer::Given(p, n, k) => row(&[0, p.width, p.height, n.0, k], b"\n"),
+    }
+}
+
+// The number that Read gives, 0 where nothing is refused.
+fn read_number(file: &[u8], list: &mut [u8]) -> u32 {
+    match record::read(file, list) {
+        ReadAnswer::Refused(r) => number_of(r),
+        ReadAnswer::Given(_, _, _) => 0,
+    }
 }
 
 fn show_letters(file: &[u8]) {
@@ -197,10 +197,8 @@ fn read_prefix(file: &[u8], n: usize)
     requires { ⌜ n ≤ length (now file) ⌝ }
 {
     let mut list = [85u8; 8];
-    row(
-        &[record::read_number(record::read(&file[0..n], &mut list))],
-        b" ",
-    );
+    let k = read_number(&file[0..n], &mut list);
+    row(&[k], b" ");
 }
 
 fn prefixes(file: &[u8]) {
@@ -221,7 +219,7 @@ fn one_more(k: u32) -> u32 {
 // Reads a file, and counts its answer.
 fn count_answer(file: &[u8], tally: &mut [u32]) {
     let mut list = [85u8; 20];
-    let k = record::read_number(record::read(file, &mut list)) as usize;
+    let k = read_number(file, &mut list) as usize;
     if k < tally.len() {
         tally[k] = one_more(tally[k]);
     }

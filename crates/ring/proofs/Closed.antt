@@ -1,7 +1,7 @@
 -- A corner track from (1, 1) to a neighbour of it in the whole panel is a longest closed track: its count is mn, or mn − 1 if mn is odd, and a closed
 -- track has an even number of cells, at most mn.
 use Prim.Native.Nat.{ℕ, _+_, _-_, _*_, _/_, _%_, _≤_}
-use mathlib.Core.Path.{_≡_, sym, ap, _∙_, subst}
+use mathlib.Core.Path.{_≡_, refl, sym, ap, _∙_, subst}
 use mathlib.Core.Bool.{cond}
 use mathlib.Core.List.{List, _++_}
 use native.Mathlib.Omega.{arith}
@@ -11,28 +11,35 @@ use lib.Seq.{drop-at}
 use borrow.Author.Tests.{eq-eqb, ne-eqb}
 use Rattle.grid.specs.declared.Panel.{Panel}
 use Rattle.grid.specs.declared.Cell.{Cell}
-use Rattle.grid.specs.Panel.{OnPanel, dist, apart, Neighbours}
+use Rattle.grid.specs.declared.Cells.{Cells}
+use Rattle.grid.specs.declared.Refusal.{Refusal}
+use Rattle.grid.specs.declared.Check.the-variants as check
+use Rattle.grid.specs.declared.CellsAnswer.the-variants.{Refused, Given}
+use Rattle.grid.specs.Panel.{cell, area, OnPanel, dist, apart, Neighbours}
 use Rattle.grid.specs.Bytes.{bytes, front}
 use Rattle.grid.proofs.Facts.{beside-sym}
 use Rattle.grid.proofs.Track.{widen}
-use Rattle.grid.proofs.Tests.{cond-yes, cond-no}
+use Rattle.grid.proofs.Answers.{gives-cells}
+use Rattle.grid.proofs.Tests.{cond-yes, cond-no, answer-good, answer-refused}
 use Rattle.grid.proofs.Bytes.{front-bytes, length-bytes}
-use Rattle.corner.specs.Corner.{Inside, trackCount, cornerCount}
-use Rattle.corner.specs.Drawn.{Ready, Drawn}
-use Rattle.corner.proofs.Between.{Between, dist-up, by-eq}
+use Rattle.line.specs.Rectangle.{Inside}
+use Rattle.corner.specs.Corner.{trackCount, cornerCount}
+use Rattle.corner.specs.Drawn.{Ready}
+use Rattle.line.specs.Drawn.{Drawn}
+use Rattle.line.proofs.Between.{Between, dist-up, by-eq}
 use Rattle.corner.proofs.Count.{count-full}
-use Rattle.corner.proofs.First.{inside-x, inside-y}
+use Rattle.line.proofs.Frame.{inside, inside-x, inside-y}
 use Rattle.count.specs.Count.{odd}
 use Rattle.count.proofs.Colour.{closed-no-longer}
-use Rattle.ring.specs.Ring.{ringCount, LongestClosed}
-use Rattle.ring.proofs.Passed.{Passed}
+use Rattle.ring.specs.Ring.{ringCount, ringCheck, LongestClosed, Rings}
+use Rattle.ring.proofs.Passed.{Passed, passed}
 
 -- the track's first cell and the panel's far corner
 abbrev pub first : Cell
-first = record { x = 1; y = 1 }
+first = cell 1 1
 
 abbrev pub far : Panel → Cell
-far p = record { x = p .width; y = p .height }
+far p = cell (p .width) (p .height)
 
 -- mn, or mn − 1 if mn is odd: mn without its remainder by 2, and as a sum
 pub even-part : (a k : ℕ) → k + a % 2 ≡ a → k ≡ cond (odd a) (a - 1) a
@@ -41,35 +48,43 @@ even-part a k h = by-eq (a % 2) 1 (λ e. cond-yes _ _ (eq-eqb _ _ e) (omega arit
 ring-sum : (a : ℕ) → 1 ≤ a → a - 1 + (a + 1) % 2 ≡ cond (odd a) (a - 1) a
 ring-sum a h = even-part a _ (omega arith)
 
-module _ (p : Panel) {size : ℕ} (g : Passed p size) (t : Cell) (i : Inside first (far p) t) (n : Neighbours t first) where
+-- a refusal
+pub refused : {p : Panel} {old : List ℕ} {r : Refusal} → ringCheck p (length old) ≡ check.Refused r → Rings p old old (Refused r)
+refused e = record { gives = gives-cells _ _ (answer-refused _ _ e); leaves = refl }
+
+-- a track of the whole panel to a neighbour t of its first cell
+module _ (p : Panel) (old : List ℕ) (fine : ringCheck p (length old) ≡ check.Good) (t : Cell) (o : OnPanel p t) (n : Neighbours t first) where
+  g : Passed p (length old)
+  g = passed p (length old) fine
+
   side : (k : ℕ) → 2 ≤ k → dist 1 k + 1 ≡ k
   side k h = let l : 1 ≤ k = omega arith in dist-up l
 
-  all : 2 * 2 ≤ p .width * p .height
+  all : 2 * 2 ≤ area p
   all = mul-le-mul (g .wide) (g .high)
 
   one : dist 1 (t .x) + dist 1 (t .y) ≡ 1
   unfolding apart
   one = beside-sym n .one
 
-  pub count-is : trackCount first (far p) t ≡ ringCount p
+  count-is : trackCount first (far p) t ≡ ringCount p
   unfolding trackCount
   count-is =
       (λ j. cornerCount (side (p .width) (g .wide) j) (side (p .height) (g .high) j) (dist 1 (t .x)) (dist 1 (t .y)))
-      ∙ count-full (p .width) (p .height) (dist 1 (t .x)) (dist 1 (t .y)) (omega (arith, one)) (omega (arith, g .wide)) (omega (arith, g .high))
-      ∙ ap (λ (k : ℕ). p .width * p .height - 1 + (p .width * p .height + k) % 2) one
-      ∙ ring-sum (p .width * p .height) (omega (arith, all))
+      ∙ count-full _ _ (dist 1 (t .x)) (dist 1 (t .y)) (omega (arith, one)) (omega (arith, g .wide)) (omega (arith, g .high))
+      ∙ ap (λ (k : ℕ). area p - 1 + (area p + k) % 2) one
+      ∙ ring-sum (area p) (omega (arith, all))
 
-  pub ready : (buf : List ℕ) → length buf ≡ size → Ready first (far p) t buf
-  ready buf e = record {
+  pub ready : Ready first (far p) t old
+  ready = record {
     corner = record { across = omega arith; down = omega arith };
     opposite = record { across = omega (arith, g .panel .widest); down = omega (arith, g .panel .highest) };
-    inside = i;
+    inside = inside (Between.up (o .left) (o .right)) (Between.up (o .top) (o .bottom));
     room = omega (arith, count-is, g .room);
   }
 
   four : 4 ≤ ringCount p
-  four = least (p .width * p .height) all
+  four = least (area p) all
     where
       least : (a : ℕ) → 4 ≤ a → 4 ≤ cond (odd a) (a - 1) a
       least a h = let e = ring-sum a (omega arith) in omega arith
@@ -89,9 +104,9 @@ module _ (p : Panel) {size : ℕ} (g : Passed p size) (t : Cell) (i : Inside fir
       up (Between.down l h) k = (omega arith, omega arith)
 
   -- the cells written, read from the front of the buffer
-  pub drawn : {k : ℕ} {old new : List ℕ} → k ≡ ringCount p → Drawn (Inside first (far p)) first t (trackCount first (far p) t) old new
+  longest : {k : ℕ} {new : List ℕ} → k ≡ ringCount p → Drawn (Inside first (far p)) first t (trackCount first (far p) t) old new
       → LongestClosed p k (front k new) × (drop (2 * k) new ≡ drop (2 * k) old)
-  drawn {k} {old} {new} q d =
+  longest {k} {new} q d =
       let e : k ≡ trackCount first (far p) t = q ∙ sym count-is in
       let s : length (d .cells) ≡ k = d .size ∙ sym e in
       let w : new ≡ bytes (d .cells) ++ drop (2 * k) old = d .written ∙ ap (λ (i : ℕ). bytes (d .cells) ++ drop (2 * i) old) (sym e) in (
@@ -103,10 +118,14 @@ module _ (p : Panel) {size : ℕ} (g : Passed p size) (t : Cell) (i : Inside fir
             four = omega (arith, d .size, count-is, four);
           };
           size = s;
-          longest = λ c m z. omega (arith, closed-no-longer p z, most (p .width * p .height) (omega (arith, all)), e, count-is);
+          longest = λ c m z. omega (arith, closed-no-longer p z, most (area p) (omega (arith, all)), e, count-is);
         }),
         ap (drop (2 * k)) w ∙ drop-at (bytes (d .cells)) (drop (2 * k) old) (2 * k) (length-bytes (d .cells) ∙ ap (λ (i : ℕ). 2 * i) s),
       )
     where
       read : length (d .cells) ≡ k → new ≡ bytes (d .cells) ++ drop (2 * k) old → front k new ≡ d .cells
       read s w = (λ i. front (sym s i) (w i)) ∙ front-bytes (d .cells) (drop (2 * k) old)
+
+  pub drawn : {k : Cells} {new : List ℕ} → k .0 ≡ ringCount p → Drawn (Inside first (far p)) first t (trackCount first (far p) t) old new
+      → Rings p old new (Given k)
+  drawn q d = record { gives = gives-cells _ _ (answer-good _ _ fine (λ i. Given (record { 0 = q i }))); leaves = longest q d }

@@ -8,7 +8,7 @@ use Rattle.grid.specs.declared.Panel.{Panel}
 use Rattle.grid.specs.declared.Refusal.the-variants.{OneWide, ShortBuffer}
 use Rattle.grid.specs.declared.Check.the-variants.{Good}
 use Rattle.grid.specs.Check.{expect, checkPanel}
-use Rattle.grid.proofs.Facts.{and-left, and-right}
+use Rattle.grid.proofs.Facts.{and-parts}
 use Rattle.grid.proofs.Passed.{expect-passed, expect-rest, after-passed, after-rest, good-panel}
 use Rattle.ring.specs.Ring.{twoWide, ringCount, ringCheck}
 
@@ -20,13 +20,14 @@ pub record Passed (p : Panel) (size : ℕ) : Type 0 where
 
 pub passed : (p : Panel) (size : ℕ) → ringCheck p size ≡ Good → Passed p size
 passed p size e =
-    let short = expect (leb (2 * ringCount p) size) ShortBuffer Good in
+    let fits = leb (2 * ringCount p) size in
+    let short = expect fits ShortBuffer Good in
     let thin = expect (twoWide p) OneWide short in
     let rest = after-rest (checkPanel p) thin e in
-    let two = expect-passed (twoWide p) OneWide short rest in
+    let two = and-parts (leb 2 (p .width)) (leb 2 (p .height)) (expect-passed (twoWide p) OneWide short rest) in
     record {
       panel = good-panel p (after-passed (checkPanel p) thin e);
-      wide = leb-true 2 (p .width) (and-left (leb 2 (p .width)) (leb 2 (p .height)) two);
-      high = leb-true 2 (p .height) (and-right (leb 2 (p .width)) (leb 2 (p .height)) two);
-      room = leb-true (2 * ringCount p) size (expect-passed (leb (2 * ringCount p) size) ShortBuffer Good (expect-rest (twoWide p) OneWide short rest));
+      wide = leb-true 2 (p .width) (two .0);
+      high = leb-true 2 (p .height) (two .1);
+      room = leb-true (2 * ringCount p) size (expect-passed fits ShortBuffer Good (expect-rest (twoWide p) OneWide short rest));
     }

@@ -1,7 +1,8 @@
 // Answers Ring for some panels and buffers. A line gives the panel and the buffer's size and, behind the
 // colon, the refusal's number (0: none), the count, the last cell, which is a neighbour of (1, 1), and the
 // byte behind the track, 7 as before. A refused line has what stood in the buffer: 7s.
-use grid::Panel;
+use grid::cells_values;
+use grid::panel_of;
 use trial::cells::byte_at;
 use trial::print::row;
 
@@ -19,8 +20,9 @@ fn report(buf: &[u8], number: u32, count: u32) {
 // Ring in the first `size` bytes of a buffer of 7s.
 fn answer_in(width: u32, height: u32, size: usize, buf: &mut [u8]) {
     if size <= buf.len() {
-        let r = ring::ring(Panel { width, height }, &mut buf[0..size]);
-        report(buf, ring::number_of(r), ring::count_of(r).0);
+        let r = ring::ring(panel_of(width, height), &mut buf[0..size]);
+        let v = cells_values(r);
+        report(buf, v.refusal, v.cells.0);
     }
 }
 

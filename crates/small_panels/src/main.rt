@@ -1,8 +1,11 @@
 // Every ordered pair of different cells on every panel up to 5 by 5: Bound's count and Draw's track
 // against a search through all tracks from the entry, which knows nothing of the router. Prints, for
 // each class, the number of pairs and the sum of their counts; then how many pairs were wrong.
+use bound::bound_values;
 use grid::Cell;
 use grid::Panel;
+use grid::cells_values;
+use grid::panel_of;
 use trial::cells::Order;
 use trial::cells::is_track;
 use trial::cells::same;
@@ -125,17 +128,17 @@ fn right(o: Order, count: u32, best: &[u32]) -> bool {
         return false;
     }
     let mut buf = [0u8; 50];
-    let a = draw::draw(o.panel, o.entry, o.exit, &mut buf);
-    if draw::count_of(a).0 != count {
+    let a = cells_values(draw::draw(o.panel, o.entry, o.exit, &mut buf));
+    if a.cells.0 != count {
         return false;
     }
     is_track(&buf, o, nth(0), count)
 }
 
 fn add_pair(t: Totals, o: Order, best: &[u32]) -> Totals {
-    let b = bound::bound(o.panel, o.entry, o.exit);
-    let count = bound::count_of(b).0;
-    let at = (bound::class_of(b) % 6) as usize;
+    let b = bound_values(bound::bound(o.panel, o.entry, o.exit));
+    let count = b.count.0;
+    let at = (b.class % 6) as usize;
     let mut next = t;
     let pairs = next.pairs[at];
     let cells = next.cells[at];
@@ -183,11 +186,7 @@ fn all_panels() -> Totals {
     };
     for code in 0..25 {
         let far = nth(code);
-        let panel = Panel {
-            width: far.x,
-            height: far.y,
-        };
-        t = add_entries(t, panel);
+        t = add_entries(t, panel_of(far.x, far.y));
     }
     t
 }

@@ -27,10 +27,10 @@ sub-if5 : tie.Need-sub-if5
 sub-if5 c = search needs
 
 returns-5 : tie.Need-returns-5
-returns-5 c = chosen-far (c .before .before .before .before .pre) (omega arith) (let o = c .before .before .before .before .pre .wide in omega arith) (c .before .if3 .left)
+returns-5 c = let o = c .before .before .before .before .pre in let w = o .wide in chosen-far o (omega arith) (omega arith) (c .before .if3 .left)
 
 returns-6 : tie.Need-returns-6
-returns-6 c = chosen-else (c .before .before .before .before .pre) (omega arith) (let o = c .before .before .before .before .pre .wide in omega arith) (c .before .if3 .left)
+returns-6 c = let o = c .before .before .before .before .pre in let w = o .wide in chosen-else o (omega arith) (omega arith) (c .before .if3 .left)
 
 pub choose-spec : {M : Type 1} → statement M
 choose-spec =

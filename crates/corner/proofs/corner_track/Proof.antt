@@ -1,12 +1,13 @@
--- Line by line from the corner: the invariant is `Begun`, the measure the sum of the sides that remain.
+-- Line by line from the corner: the invariant is `Begun`, the measure the sum of the sides that remain. In each answer l is the loop's place.
 use Prim.Native.Nat.{_+_}
 use mathlib.Core.Path.{refl, sym, _∙_}
+use lib.Dec.{eqb}
 use borrow.Author.Needs.{needs}
 use borrow.Author.Tests.{not-true, not-false}
 use native.Mathlib.Omega.{arith}
 use Rattle.grid.specs.Panel.{dist}
-use Rattle.corner.proofs.First.{only}
-use Rattle.corner.proofs.Drawn.{drawn-long}
+use Rattle.line.proofs.Drawn.{drawn-long}
+use Rattle.corner.proofs.First.{Only, only}
 use Rattle.corner.proofs.Forward.{Begun, begun, room, ask-lines, ask-last, line-end, step, finish}
 use Rattle.corner.proofs.corner_track.Statement.{statement}
 use Rattle.corner.proofs.corner_track.Tie as tie
@@ -16,6 +17,13 @@ Inv-loop t buf₀ count corner₀ opposite₀ at₀ buf corner opposite at = Beg
 
 abbrev μ-loop : tie.MeasureT-loop
 μ-loop t buf₀ count corner₀ opposite₀ at₀ buf corner opposite at = dist (corner .x) (opposite .x) + dist (corner .y) (opposite .y)
+
+-- behind the loop one line is left
+last-line : (c : tie.Else1 Inv-loop μ-loop)
+    → let l = c .before .before in
+    let t = l .before .before .before .args .t in
+    Only (l .loop .corner) (l .loop .opposite) t (eqb (l .loop .corner .y) (t .y))
+last-line c = only _ _ _ (c .before .before .loop .inv .target) refl (sym (c .before .one-line .ensures) ∙ not-false _ (c .if1 .left))
 
 corner-count-requires : tie.Need-corner-count-requires Inv-loop μ-loop
 corner-count-requires c κs = let r = c .before .pre in (r .corner, (r .opposite, r .inside))
@@ -32,48 +40,62 @@ peel-requires c κs =
     (d .corner, (d .opposite, (d .target, sym (c .before .one-line .ensures) ∙ not-true _ (c .if1 .taken))))
 
 sub-draw-sweep : tie.Need-sub-draw-sweep Inv-loop μ-loop
-sub-draw-sweep c = omega (arith, room (c .before .before .before .before .before .before .pre) (c .before .before .before .loop .inv))
+sub-draw-sweep c = let l = c .before .before .before in omega (arith, room (l .before .before .before .pre) (l .loop .inv))
 
 part-draw-sweep-start : tie.Need-part-draw-sweep-start Inv-loop μ-loop
-part-draw-sweep-start c = omega (arith, room (c .before .before .before .before .before .before .pre) (c .before .before .before .loop .inv))
+part-draw-sweep-start c = omega (arith, sub-draw-sweep c)
 
 part-draw-sweep-end : tie.Need-part-draw-sweep-end Inv-loop μ-loop
 part-draw-sweep-end c = search needs
 
 draw-sweep-requires : tie.Need-draw-sweep-requires Inv-loop μ-loop
-draw-sweep-requires c κs = ask-lines (c .before .before .before .before .before .before .before .pre) (c .before .before .before .before .loop .inv) (c .before .peel .ensures)
+draw-sweep-requires c κs = let l = c .before .before .before .before in ask-lines (l .before .before .before .pre) (l .loop .inv) (c .before .peel .ensures)
+
+cast-at : tie.Need-cast-at Inv-loop μ-loop
+cast-at c = search needs
 
 mul-at : tie.Need-mul-at Inv-loop μ-loop
-mul-at c = omega (arith, line-end (c .before .before .before .before .before .before .before .before .before .before .before .pre) (c .before .before .before .before .before .before .before .before .loop .inv) (c .before .before .before .before .before .peel .ensures), c .before .before .before .before .before .before .before .before .before .before .before .good)
+mul-at c =
+    let p = c .before .before .before .before .before in
+    let l = p .before .before .before in
+    omega (arith, line-end (l .before .before .before .pre) (l .loop .inv) (p .peel .ensures), l .before .before .before .good)
 
 add-at : tie.Need-add-at Inv-loop μ-loop
-add-at c = omega (arith, line-end (c .before .before .before .before .before .before .before .before .before .before .before .pre) (c .before .before .before .before .before .before .before .before .loop .inv) (c .before .before .before .before .before .peel .ensures), c .before .before .before .before .before .before .before .before .before .before .before .good)
+add-at c =
+    let p = c .before .before .before .before .before in
+    let l = p .before .before .before in
+    omega (arith, line-end (l .before .before .before .pre) (l .loop .inv) (p .peel .ensures), l .before .before .before .good)
 
 loop-less : tie.Need-loop-less Inv-loop μ-loop
 loop-less c = omega (arith, c .before .before .before .before .before .before .before .peel .ensures .less)
 
 loop-again : tie.Need-loop-again Inv-loop μ-loop
-loop-again c = let p = c .before .before .before .before .before .before .before .peel .ensures in step (c .before .before .before .before .before .before .before .before .before .before .before .before .before .pre) (c .before .before .before .before .before .before .before .before .before .before .loop .inv) p (omega arith) (c .before .before .before .before .before .draw-sweep .ensures)
+loop-again c =
+    let p = c .before .before .before .before .before .before .before in
+    let l = p .before .before .before in
+    step (l .before .before .before .pre) (l .loop .inv) (p .peel .ensures) (omega arith) (c .before .before .before .before .before .draw-sweep .ensures)
 
 sub-draw-sweep-2 : tie.Need-sub-draw-sweep-2 Inv-loop μ-loop
-sub-draw-sweep-2 c = omega (arith, room (c .before .before .before .before .before .before .before .pre) (c .before .before .before .before .loop .inv))
+sub-draw-sweep-2 c = let l = c .before .before .before .before in omega (arith, room (l .before .before .before .pre) (l .loop .inv))
 
 part-draw-sweep-start-2 : tie.Need-part-draw-sweep-start-2 Inv-loop μ-loop
-part-draw-sweep-start-2 c = omega (arith, room (c .before .before .before .before .before .before .before .pre) (c .before .before .before .before .loop .inv))
+part-draw-sweep-start-2 c = omega (arith, sub-draw-sweep-2 c)
 
 part-draw-sweep-end-2 : tie.Need-part-draw-sweep-end-2 Inv-loop μ-loop
 part-draw-sweep-end-2 c = search needs
 
 draw-sweep-requires-2 : tie.Need-draw-sweep-requires-2 Inv-loop μ-loop
 draw-sweep-requires-2 c κs =
-    let d = c .before .before .before .before .before .loop .inv in
-    ask-last (c .before .before .before .before .before .before .before .before .pre) d (only _ _ _ (d .target) refl (sym (c .before .before .before .before .one-line .ensures) ∙ not-false _ (c .before .before .before .if1 .left)))
+    let l = c .before .before .before .before .before in
+    ask-last (l .before .before .before .pre) (l .loop .inv) (last-line (c .before .before .before))
 
 returns : tie.Need-returns Inv-loop μ-loop
 returns c =
-    let d = c .before .before .before .before .before .before .before .before .loop .inv in
-    let o = only _ _ _ (d .target) refl (sym (c .before .before .before .before .before .before .before .one-line .ensures) ∙ not-false _ (c .before .before .before .before .before .before .if1 .left)) in
-    (c .before .before .before .before .before .before .before .before .before .corner-count .ensures, finish (c .before .before .before .before .before .before .before .before .before .before .before .pre) d o (c .before .before .draw-sweep2 .ensures))
+    let s = c .before .before .before .before .before .before in
+    let l = s .before .before in (
+      l .before .corner-count .ensures,
+      finish (l .before .before .before .pre) (l .loop .inv) (last-line s) (c .before .before .draw-sweep2 .ensures),
+    )
 
 same-length : tie.Need-same-length Inv-loop μ-loop
 same-length c = drawn-long (returns c .1) (c .before .before .before .before .before .before .before .before .before .before .before .pre .room)
@@ -92,6 +114,7 @@ corner-track-spec =
     part-draw-sweep-start
     part-draw-sweep-end
     draw-sweep-requires
+    cast-at
     mul-at
     add-at
     loop-less

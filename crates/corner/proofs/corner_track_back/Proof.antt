@@ -1,12 +1,14 @@
--- Line by line from the end of the buffer's part: the invariant is `Ended`, the measure the sum of the sides that remain.
+-- Line by line from the end of the buffer's part: the invariant is `Ended`, the measure the sum of the sides that remain. In each answer l is the
+-- loop's place.
 use Prim.Native.Nat.{_+_}
 use mathlib.Core.Path.{refl, sym, _∙_}
+use lib.Dec.{eqb}
 use borrow.Author.Needs.{needs}
 use borrow.Author.Tests.{not-true, not-false}
 use native.Mathlib.Omega.{arith}
 use Rattle.grid.specs.Panel.{dist}
-use Rattle.corner.proofs.First.{only}
-use Rattle.corner.proofs.Drawn.{drawn-long}
+use Rattle.line.proofs.Drawn.{drawn-long}
+use Rattle.corner.proofs.First.{Only, only}
 use Rattle.corner.proofs.Backward.{Ended, ended, long, fits, ask-lines, ask-last, line-start, put-back, step, finish}
 use Rattle.corner.proofs.corner_track_back.Statement.{statement}
 use Rattle.corner.proofs.corner_track_back.Tie as tie
@@ -17,11 +19,18 @@ Inv-loop t buf₀ count corner₀ opposite₀ at₀ buf corner opposite at = End
 abbrev μ-loop : tie.MeasureT-loop
 μ-loop t buf₀ count corner₀ opposite₀ at₀ buf corner opposite at = dist (corner .x) (opposite .x) + dist (corner .y) (opposite .y)
 
+-- behind the loop one line is left
+last-line : (c : tie.Else1 Inv-loop μ-loop)
+    → let l = c .before .before in
+    let t = l .before .before .before .before .args .t in
+    Only (l .loop .corner) (l .loop .opposite) t (eqb (l .loop .corner .y) (t .y))
+last-line c = only _ _ _ (c .before .before .loop .inv .target) refl (sym (c .before .one-line .ensures) ∙ not-false _ (c .if1 .left))
+
 corner-count-requires : tie.Need-corner-count-requires Inv-loop μ-loop
 corner-count-requires c κs = let r = c .before .pre in (r .corner, (r .opposite, r .inside))
 
 cast-at : tie.Need-cast-at Inv-loop μ-loop
-cast-at c = omega (arith, c .before .corner-count .ensures, c .before .before .before .pre .room, c .before .before .before .good)
+cast-at c = search needs
 
 mul-at : tie.Need-mul-at Inv-loop μ-loop
 mul-at c = omega (arith, c .before .corner-count .ensures, c .before .before .before .pre .room, c .before .before .before .good)
@@ -37,51 +46,61 @@ peel-requires c κs =
     let d = c .before .before .loop .inv in
     (d .corner, (d .opposite, (d .target, sym (c .before .one-line .ensures) ∙ not-true _ (c .if1 .taken))))
 
+cast-at-2 : tie.Need-cast-at-2 Inv-loop μ-loop
+cast-at-2 c = search needs
+
 mul-at-2 : tie.Need-mul-at-2 Inv-loop μ-loop
 mul-at-2 c =
-    let d = c .before .before .before .before .loop .inv in
-    omega (arith, line-start (c .before .before .before .before .before .before .before .before .pre) d (c .before .peel .ensures), fits (c .before .before .before .before .before .before .before .before .pre) d, long (c .before .before .before .before .before .before .before .before .pre) d, c .before .before .before .before .before .before .before .before .good)
+    let l = c .before .before .before .before in
+    let p = l .before .before .before .before .pre in
+    let d = l .loop .inv in
+    omega (arith, line-start p d (c .before .peel .ensures), fits p d, long p d, l .before .before .before .before .good)
 
 sub-at : tie.Need-sub-at Inv-loop μ-loop
-sub-at c = line-start (c .before .before .before .before .before .before .before .before .pre) (c .before .before .before .before .loop .inv) (c .before .peel .ensures)
+sub-at c = let l = c .before .before .before .before in line-start (l .before .before .before .before .pre) (l .loop .inv) (c .before .peel .ensures)
 
 sub-draw-sweep : tie.Need-sub-draw-sweep Inv-loop μ-loop
-sub-draw-sweep c = omega (arith, fits (c .before .before .before .before .before .before .before .before .pre) (c .before .before .before .before .loop .inv))
+sub-draw-sweep c = let l = c .before .before .before .before in omega (arith, fits (l .before .before .before .before .pre) (l .loop .inv))
 
 part-draw-sweep-start : tie.Need-part-draw-sweep-start Inv-loop μ-loop
-part-draw-sweep-start c = omega (arith, fits (c .before .before .before .before .before .before .before .before .pre) (c .before .before .before .before .loop .inv))
+part-draw-sweep-start c = omega (arith, sub-draw-sweep c)
 
 part-draw-sweep-end : tie.Need-part-draw-sweep-end Inv-loop μ-loop
 part-draw-sweep-end c = search needs
 
 draw-sweep-requires : tie.Need-draw-sweep-requires Inv-loop μ-loop
 draw-sweep-requires c κs =
-    let p = c .before .before .peel .ensures in
-    let d = c .before .before .before .before .before .loop .inv in
-    ask-lines (c .before .before .before .before .before .before .before .before .before .pre) d _ p (put-back _ _ (line-start (c .before .before .before .before .before .before .before .before .before .pre) d p))
+    let l = c .before .before .before .before .before in
+    let p = l .before .before .before .before .pre in
+    let e = c .before .before .peel .ensures in
+    ask-lines p (l .loop .inv) _ e (put-back _ _ (line-start p (l .loop .inv) e))
 
 loop-less : tie.Need-loop-less Inv-loop μ-loop
 loop-less c = omega (arith, c .before .before .before .before .before .before .before .peel .ensures .less)
 
 loop-again : tie.Need-loop-again Inv-loop μ-loop
 loop-again c =
-    let p = c .before .before .before .before .before .before .before .peel .ensures in
-    let d = c .before .before .before .before .before .before .before .before .before .before .loop .inv in
-    step (c .before .before .before .before .before .before .before .before .before .before .before .before .before .before .pre) d p (put-back _ _ (line-start (c .before .before .before .before .before .before .before .before .before .before .before .before .before .before .pre) d p)) (c .before .before .before .before .draw-sweep .ensures)
+    let l = c .before .before .before .before .before .before .before .before .before .before in
+    let p = l .before .before .before .before .pre in
+    let e = c .before .before .before .before .before .before .before .peel .ensures in
+    step p (l .loop .inv) e (put-back _ _ (line-start p (l .loop .inv) e)) (c .before .before .before .before .draw-sweep .ensures)
 
 draw-sweep-requires-2 : tie.Need-draw-sweep-requires-2 Inv-loop μ-loop
 draw-sweep-requires-2 c κs =
-    let d = c .before .before .before .before .before .loop .inv in
-    ask-last (c .before .before .before .before .before .before .before .before .before .pre) d (only _ _ _ (d .target) refl (sym (c .before .before .before .before .one-line .ensures) ∙ not-false _ (c .before .before .before .if1 .left)))
+    let l = c .before .before .before .before .before in
+    ask-last (l .before .before .before .before .pre) (l .loop .inv) (last-line (c .before .before .before))
 
 returns : tie.Need-returns Inv-loop μ-loop
 returns c =
-    let d = c .before .before .before .before .before .before .before .before .loop .inv in
-    let o = only _ _ _ (d .target) refl (sym (c .before .before .before .before .before .before .before .one-line .ensures) ∙ not-false _ (c .before .before .before .before .before .before .if1 .left)) in
-    (c .before .before .before .before .before .before .before .before .before .before .corner-count .ensures, finish (c .before .before .before .before .before .before .before .before .before .before .before .before .pre) d o (c .before .before .draw-sweep2 .ensures))
+    let s = c .before .before .before .before .before .before in
+    let l = s .before .before in (
+      l .before .before .corner-count .ensures,
+      finish (l .before .before .before .before .pre) (l .loop .inv) (last-line s) (c .before .before .draw-sweep2 .ensures),
+    )
 
 same-length : tie.Need-same-length Inv-loop μ-loop
-same-length c = drawn-long (returns c .1) (c .before .before .before .before .before .before .before .before .before .before .before .before .pre .room)
+same-length c =
+    drawn-long (returns c .1) (c .before .before .before .before .before .before .before .before .before .before .before .before .pre .room)
 
 pub corner-track-back-spec : {M : Type 1} → statement M
 corner-track-back-spec =
@@ -95,6 +114,7 @@ corner-track-back-spec =
     loop-holds
     one-line-requires
     peel-requires
+    cast-at-2
     mul-at-2
     sub-at
     sub-draw-sweep

@@ -3,8 +3,8 @@ use native.Mathlib.Omega.{arith}
 use borrow.Author.Tests.{le-leb, lt-leb}
 use mathlib.Core.Path.{refl}
 use Rattle.grid.proofs.Tests.{cond-yes, cond-no}
-use Rattle.corner.specs.Corner.{ahead}
-use Rattle.corner.proofs.Between.{dist-up, dist-down, lt-le}
+use Rattle.line.specs.Rectangle.{ahead}
+use Rattle.line.proofs.Between.{dist-up, dist-down, lt-le}
 use Rattle.corner.proofs.move_ahead.Statement.{statement}
 use Rattle.corner.proofs.move_ahead.Tie as tie
 

@@ -1,83 +1,54 @@
--- The choice along the longer side, by the distances that the code computes.
+-- The choice along the longer side, by the sizes that the code measures.
 use borrow.Author.Needs.{needs}
-use native.Mathlib.Omega.{arith}
-use Rattle.corner.proofs.First.{dist-small, open-numbers, open-turned, first-numbers, chosen-row, chosen-column}
+use mathlib.Core.Path.{sym, subst}
+use mathlib.Core.Bool.{not}
+use Rattle.corner.specs.Peel.{Peel}
+use Rattle.corner.proofs.First.{MayGo, open-measured, open-turned, measured, measured-turned, lines-sides, lines-peeled}
 use Rattle.corner.proofs.peel.Statement.{statement}
 use Rattle.corner.proofs.peel.Tie as tie
 
-distance-requires : tie.Need-distance-requires
-distance-requires c κs = search needs
+-- the lines chosen may go first
+wide : (c : tie.After-choose)
+    → let g = c .before .before .before .before .args in MayGo (c .choose .result .row) (c .choose .result .count) (g .a) (g .b) (g .t)
+wide c = measured (c .before .before .before .measure .ensures) (c .choose .result .row) (c .choose .result .count) (c .choose .ensures)
 
-add-w : tie.Need-add-w
-add-w c = let s = c .before .pre in omega (arith, c .distance .ensures, dist-small _ _ (s .0 .across) (s .1 .0 .across))
+tall : (c : tie.After-choose2)
+    → let g = c .before .before .before .before .args in MayGo (not (c .choose2 .result .row)) (c .choose2 .result .count) (g .a) (g .b) (g .t)
+tall c = measured-turned (c .before .before .before .measure .ensures) (c .choose2 .result .row) (c .choose2 .result .count) (c .choose2 .ensures)
 
-distance-requires-2 : tie.Need-distance-requires-2
-distance-requires-2 c κs = search needs
-
-add-h : tie.Need-add-h
-add-h c = let s = c .before .before .pre in omega (arith, c .distance2 .ensures, dist-small _ _ (s .0 .down) (s .1 .0 .down))
-
-distance-requires-3 : tie.Need-distance-requires-3
-distance-requires-3 c κs = search needs
-
-distance-requires-4 : tie.Need-distance-requires-4
-distance-requires-4 c κs = search needs
+measure-requires : tie.Need-measure-requires
+measure-requires c κs = search needs
 
 choose-requires : tie.Need-choose-requires
-choose-requires c κs = let s = c .before .before .before .before .before .pre in open-numbers _ _ _ (s .1 .1 .0) (s .1 .1 .1) (c .before .before .before .before .distance .ensures) (c .before .before .before .distance2 .ensures) (c .before .before .distance3 .ensures) (c .before .distance4 .ensures)
+choose-requires c κs = let s = c .before .before in open-measured (s .measure .ensures) (s .before .pre .1 .1 .0) (s .before .pre .1 .1 .1)
 
-rows-requires : tie.Need-rows-requires
-rows-requires c κs =
-    let s = c .before .before .before .before .before .before .before .pre in
-    (s .0, (s .1 .0, (s .1 .1 .0, first-numbers (c .before .before .before .before .before .before .distance .ensures) (c .before .before .before .before .before .distance2 .ensures) (c .before .before .before .before .distance3 .ensures) (c .before .before .before .distance4 .ensures) (chosen-row (c .if2 .taken) (c .before .choose .ensures)))))
+first-lines-requires : tie.Need-first-lines-requires
+first-lines-requires c κs = let s = c .before .before .before .before .pre in lines-sides _ _ _ (s .1 .1 .0) _ (s .0) (s .1 .0) (wide c)
 
 returns : tie.Need-returns
-returns c = search needs
-
-columns-requires : tie.Need-columns-requires
-columns-requires c κs =
-    let s = c .before .before .before .before .before .before .before .pre in
-    (s .0, (s .1 .0, (s .1 .1 .0, first-numbers (c .before .before .before .before .before .distance2 .ensures) (c .before .before .before .before .before .before .distance .ensures) (c .before .before .before .distance4 .ensures) (c .before .before .before .before .distance3 .ensures) (chosen-column (c .if2 .left) (c .before .choose .ensures)))))
-
-returns-2 : tie.Need-returns-2
-returns-2 c = search needs
+returns c =
+    let s = c .before .before .before .before .before in
+    subst (Peel (s .args .a) (s .args .b) (s .args .t)) (sym (c .first-lines .ensures)) (lines-peeled _ _ _ (s .pre .1 .1 .0) _ (wide (c .before)))
 
 choose-requires-2 : tie.Need-choose-requires-2
-choose-requires-2 c κs = let s = c .before .before .before .before .before .pre in open-turned (open-numbers _ _ _ (s .1 .1 .0) (s .1 .1 .1) (c .before .before .before .before .distance .ensures) (c .before .before .before .distance2 .ensures) (c .before .before .distance3 .ensures) (c .before .distance4 .ensures))
+choose-requires-2 c κs = let s = c .before .before in open-turned (open-measured (s .measure .ensures) (s .before .pre .1 .1 .0) (s .before .pre .1 .1 .1))
 
-columns-requires-2 : tie.Need-columns-requires-2
-columns-requires-2 c κs =
-    let s = c .before .before .before .before .before .before .before .pre in
-    (s .0, (s .1 .0, (s .1 .1 .0, first-numbers (c .before .before .before .before .before .distance2 .ensures) (c .before .before .before .before .before .before .distance .ensures) (c .before .before .before .distance4 .ensures) (c .before .before .before .before .distance3 .ensures) (chosen-row (c .if3 .taken) (c .before .choose2 .ensures)))))
+first-lines-requires-2 : tie.Need-first-lines-requires-2
+first-lines-requires-2 c κs = let s = c .before .before .before .before .before .pre in lines-sides _ _ _ (s .1 .1 .0) _ (s .0) (s .1 .0) (tall (c .before))
 
-returns-3 : tie.Need-returns-3
-returns-3 c = search needs
-
-rows-requires-2 : tie.Need-rows-requires-2
-rows-requires-2 c κs =
-    let s = c .before .before .before .before .before .before .before .pre in
-    (s .0, (s .1 .0, (s .1 .1 .0, first-numbers (c .before .before .before .before .before .before .distance .ensures) (c .before .before .before .before .before .distance2 .ensures) (c .before .before .before .before .distance3 .ensures) (c .before .before .before .distance4 .ensures) (chosen-column (c .if3 .left) (c .before .choose2 .ensures)))))
-
-returns-4 : tie.Need-returns-4
-returns-4 c = search needs
+returns-2 : tie.Need-returns-2
+returns-2 c =
+    let s = c .before .before .before .before .before .before in
+    subst (Peel (s .args .a) (s .args .b) (s .args .t)) (sym (c .first-lines2 .ensures)) (lines-peeled _ _ _ (s .pre .1 .1 .0) _ (tall (c .before .before)))
 
 pub peel-spec : {M : Type 1} → statement M
 peel-spec =
     tie.close
     (tie.spec
-    distance-requires
-    add-w
-    distance-requires-2
-    add-h
-    distance-requires-3
-    distance-requires-4
+    measure-requires
     choose-requires
-    rows-requires
+    first-lines-requires
     returns
-    columns-requires
-    returns-2
     choose-requires-2
-    columns-requires-2
-    returns-3
-    rows-requires-2
-    returns-4)
+    first-lines-requires-2
+    returns-2)

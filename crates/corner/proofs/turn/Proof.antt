@@ -2,7 +2,7 @@
 use borrow.Author.Tests.{eq-eqb, ne-eqb}
 use mathlib.Core.Path.{refl}
 use Rattle.grid.proofs.Tests.{cond-yes, cond-no}
-use Rattle.corner.specs.Corner.{turning}
+use Rattle.line.specs.Rectangle.{turning}
 use Rattle.corner.proofs.turn.Statement.{statement}
 use Rattle.corner.proofs.turn.Tie as tie
 

@@ -17,10 +17,11 @@ passed : (c : tie.After-enum-told) → let args = c .before .before .before .bef
 passed c = sym (c .before .before .check-order .ensures) ∙ c .enum-told .given .1
 
 good : (c : tie.After-enum-told) → let args = c .before .before .before .before .args in GoodOrder (args .p) (args .entry) (args .exit)
-good c = let args = c .before .before .before .before .args in good-order (args .p) (args .entry) (args .exit) (passed c)
+good c = good-order _ _ _ (passed c)
 
 -- the count that was found
-counted : (c : tie.After-class-count) → let args = c .before .before .before .before .before .args in c .class-count .result .count .0 ≡ count (args .p) (args .entry) (args .exit)
+counted : (c : tie.After-class-count) → let args = c .before .before .before .before .before .args in
+    c .class-count .result .count .0 ≡ count (args .p) (args .entry) (args .exit)
 counted c = ap (λ (k : ClassCount). k .count .0) (c .class-count .ensures)
 
 check-order-requires : tie.Need-check-order-requires
@@ -31,8 +32,10 @@ enum-known-c c = search needs
 
 returns : tie.Need-returns
 returns c =
-    let args = c .before .before .before .before .before .args in
-    record { answers = refused (args .p) (args .entry) (args .exit) (length (args .buf .now)) (sym (c .before .before .before .check-order .ensures) ∙ c .before .c .given .1); leaves = refl }
+    let check = c .before .before .before in
+    let args = check .before .before .args in
+    let e = sym (check .check-order .ensures) ∙ c .before .c .given .1 in
+    record { gives = refused (args .p) (args .entry) (args .exit) (length (args .buf .now)) e; leaves = refl }
 
 enum-told : tie.Need-enum-told
 enum-told c = search needs
@@ -50,7 +53,11 @@ returns-2 : tie.Need-returns-2
 returns-2 c =
     let found = c .before .before .before in
     let args = found .before .before .before .before .before .args in
-    record { answers = short (args .p) (args .entry) (args .exit) (length (args .buf .now)) (passed (found .before)) (counted found) (let h = c .if1 .taken in omega arith); leaves = refl }
+    let h = c .if1 .taken in
+    record {
+      gives = short (args .p) (args .entry) (args .exit) (length (args .buf .now)) (passed (found .before)) (counted found) (omega arith);
+      leaves = refl;
+    }
 
 draw-longest-requires : tie.Need-draw-longest-requires
 draw-longest-requires c κs =
@@ -58,18 +65,20 @@ draw-longest-requires c κs =
     let g = good (found .before) in
     let e = counted found in
     let h = c .before .if1 .left in
-    (g .panel, (g .entry, (g .exit, (g .differ, omega arith))))
+    record { panel = g .panel; entry = g .entry; exit = g .exit; differ = g .differ; room = omega arith }
 
 same-length : tie.Need-same-length
 same-length c = search needs
 
 returns-3 : tie.Need-returns-3
 returns-3 c =
-    let found = c .before .before .before .before .before .before .before in
+    let written = c .before .before in
+    let room = written .before .before in
+    let found = room .before .before .before in
     let args = found .before .before .before .before .before .args in
     record {
-      answers = drawn (args .p) (args .entry) (args .exit) (length (args .buf .now)) (passed (found .before)) (counted found) (c .before .before .before .before .if1 .left);
-      leaves = at-front (good (found .before) .differ) (counted found) (c .before .before .draw-longest .ensures);
+      gives = drawn (args .p) (args .entry) (args .exit) (length (args .buf .now)) (passed (found .before)) (counted found) (room .if1 .left);
+      leaves = at-front (good (found .before) .differ) (counted found) (written .draw-longest .ensures);
     }
 
 pub draw-spec : {M : Type 1} → statement M

@@ -1,29 +1,35 @@
--- A panel of 3 by 3 is drawn from the table, any other by its plan.
+-- A panel of 3 by 3 is drawn from the table. For any other the chosen plan is good, so its legs can be drawn, and their tracks make one track of the
+-- count's cells.
 use borrow.Author.Needs.{needs}
-use Rattle.draw.proofs.ThreeByThree.{is-three, asked-of-three, drawn-on}
+use Rattle.draw.proofs.Drawing.{plan-room, plan-drawn}
 use Rattle.draw.proofs.draw_longest.Statement.{statement}
 use Rattle.draw.proofs.draw_longest.Tie as tie
 
 draw-small-requires : tie.Need-draw-small-requires
-draw-small-requires c κs =
-    let pre = c .before .before .before .before .before .before .pre in
-    asked-of-three _ _ _ (is-three (c .before .before .before .if1 .taken) (c .before .if2 .taken)) (pre .1 .0) (pre .1 .1 .0) (pre .1 .1 .1 .0) (pre .1 .1 .1 .1)
+draw-small-requires c κs = search needs
 
 same-length : tie.Need-same-length
 same-length c = search needs
 
 returns : tie.Need-returns
-returns c =
-    drawn-on (is-three (c .before .before .before .before .before .before .if1 .taken) (c .before .before .before .before .if2 .taken)) (c .before .before .draw-small .ensures)
+returns c = search needs
 
-draw-planned-requires : tie.Need-draw-planned-requires
-draw-planned-requires c κs = search needs
+plan-of-requires : tie.Need-plan-of-requires
+plan-of-requires c κs = search needs
+
+draw-plan-requires : tie.Need-draw-plan-requires
+draw-plan-requires c κs =
+    let plan = c .before in
+    plan-room (plan .before .before .before .before .pre) (plan .plan-of .ensures)
 
 same-length-2 : tie.Need-same-length-2
 same-length-2 c = search needs
 
 returns-2 : tie.Need-returns-2
-returns-2 c = search needs
+returns-2 c =
+    let drawn = c .before .before in
+    let plan = drawn .before .before in
+    plan-drawn (plan .before .before .before .before .pre) (plan .plan-of .ensures) (drawn .draw-plan .ensures)
 
 pub draw-longest-spec : {M : Type 1} → statement M
 draw-longest-spec =
@@ -32,6 +38,7 @@ draw-longest-spec =
     draw-small-requires
     same-length
     returns
-    draw-planned-requires
+    plan-of-requires
+    draw-plan-requires
     same-length-2
     returns-2)

@@ -1,8 +1,11 @@
 -- `exit::find_exit` meets its contract: the check's refusal, else the first cell that fits, else 12.
 use borrow.Author.Needs.{needs}
-use mathlib.Core.Path.{refl, sym, _∙_}
+use mathlib.Core.Path.{_≡_, refl, sym, _∙_}
+use Rattle.grid.specs.declared.Check.the-variants.{Good}
+use Rattle.grid.specs.Check.{checkEntry}
 use Rattle.grid.proofs.Tests.{expect-yes, expect-no, after-good, after-refused}
 use Rattle.grid.proofs.Passed.{good-entry}
+use Rattle.exit.proofs.Answers.{exits}
 use Rattle.exit.proofs.Reading.{told}
 use Rattle.exit.proofs.Fitting.{fit-exit}
 use Rattle.exit.proofs.find_exit.Statement.{statement}
@@ -15,31 +18,33 @@ enum-known-checked : tie.Need-enum-known-checked
 enum-known-checked c = search needs
 
 returns : tie.Need-returns
-returns c = sym (after-refused _ (sym (c .before .before .before .check-entry .ensures) ∙ c .before .checked .given .1))
+returns c = exits _ _ _ _ (sym (after-refused _ (sym (c .before .before .before .check-entry .ensures) ∙ c .before .checked .given .1)))
 
 enum-told : tie.Need-enum-told
 enum-told c = search needs
 
+passed : (c : tie.After-enum-told) → let a = c .before .before .before .args in checkEntry (a .p) (a .entry) ≡ Good
+passed c = sym (c .before .before .check-entry .ensures) ∙ c .enum-told .given .1
+
 in-panel-requires : tie.Need-in-panel-requires
-in-panel-requires c κs = good-entry _ _ (sym (c .before .before .check-entry .ensures) ∙ c .enum-told .given .1)
+in-panel-requires c κs = good-entry _ _ (passed c)
 
 enum-known-found : tie.Need-enum-known-found
 enum-known-found c = search needs
 
 returns-2 : tie.Need-returns-2
 returns-2 c =
-    let g = sym (c .before .before .before .before .before .before .check-entry .ensures) ∙ c .before .before .before .before .enum-told .given .1 in
+    let g = passed (c .before .before .before .before) in
     let f = told _ _ _ _ (c .before .found .given .1) (c .before .before .before .in-panel .ensures) in
-    (sym (after-good _ g (expect-yes _ _ (f .0) refl)), fit-exit _ _ _ _ (good-entry _ _ g .1) (f .1 .1) (f .1 .0))
+    exits _ _ _ _ (sym (after-good _ g (expect-yes _ _ (f .0) refl)), fit-exit _ _ _ _ (good-entry _ _ g .1) (f .1 .1) (f .1 .0))
 
 enum-told-2 : tie.Need-enum-told-2
 enum-told-2 c = search needs
 
 returns-3 : tie.Need-returns-3
 returns-3 c =
-    sym
-    (after-good _ (sym (c .before .before .before .before .before .check-entry .ensures) ∙ c .before .before .before .enum-told .given .1)
-    (expect-no _ _ (told _ _ _ _ (c .enum-told2 .given .1) (c .before .before .in-panel .ensures))))
+    let f = told _ _ _ _ (c .enum-told2 .given .1) (c .before .before .in-panel .ensures) in
+    exits _ _ _ _ (sym (after-good _ (passed (c .before .before .before)) (expect-no _ _ f)))
 
 pub find-exit-spec : {M : Type 1} → statement M
 find-exit-spec =

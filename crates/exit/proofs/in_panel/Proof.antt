@@ -42,7 +42,9 @@ loop-less c = let t = c .before .before .before .loop-test .taken in omega arith
 loop-again : tie.Need-loop-again Inv-loop μ-loop
 loop-again c =
     let i = c .before .before .before .before .loop .inv in
-    (omega arith, (let t = c .before .before .before .loop-test .taken in omega arith, miss _ _ _ (i .0) (i .1 .1) (told _ _ _ _ (c .enum-told .given .1) (c .before .before .in-row .ensures))))
+    let t = c .before .before .before .loop-test .taken in
+    let n = told _ _ _ _ (c .enum-told .given .1) (c .before .before .in-row .ensures) in
+    (omega arith, (omega arith, miss _ _ _ (i .0) (i .1 .1) n))
 
 returns-2 : tie.Need-returns-2 Inv-loop μ-loop
 returns-2 c =

@@ -41,7 +41,9 @@ loop-less c = let t = c .before .before .loop-test .taken in omega arith
 loop-again : tie.Need-loop-again Inv-loop μ-loop
 loop-again c =
     let i = c .before .before .before .loop .inv in
-    (omega arith, (let t = c .before .before .loop-test .taken in omega arith, miss _ _ _ (i .0) (i .1 .1) (ap (λ (b : Bool). b || false) (sym (c .before .is-fit .ensures) ∙ c .if1 .left))))
+    let t = c .before .before .loop-test .taken in
+    let n = sym (c .before .is-fit .ensures) ∙ c .if1 .left in
+    (omega arith, (omega arith, miss _ _ _ (i .0) (i .1 .1) (ap (λ (b : Bool). b || false) n)))
 
 returns-2 : tie.Need-returns-2 Inv-loop μ-loop
 returns-2 c =

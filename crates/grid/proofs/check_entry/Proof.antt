@@ -1,31 +1,31 @@
--- Test by test, in the definition's order: the panel's, then whether the entry is on it.
+-- Test by test, each is the definition's.
 use borrow.Author.Needs.{needs}
-use borrow.Author.Tests.{not-true, not-false}
-use mathlib.Core.Path.{refl, sym, _∙_}
-use Rattle.grid.proofs.Tests.{expect-yes, expect-no, after-good, after-refused}
+use mathlib.Core.Path.{ap, _∙_}
+use mathlib.Core.Bool.{Bool}
+use Rattle.grid.specs.declared.Refusal.the-variants.{EntryOff}
+use Rattle.grid.specs.declared.Check.the-variants.{Good}
+use Rattle.grid.specs.Check.{expect, after}
 use Rattle.grid.proofs.check_entry.Statement.{statement}
 use Rattle.grid.proofs.check_entry.Tie as tie
 
 check-panel-requires : tie.Need-check-panel-requires
 check-panel-requires c κs = search needs
 
-enum-known-c : tie.Need-enum-known-c
-enum-known-c c = search needs
-
-returns : tie.Need-returns
-returns c = after-refused _ (sym (c .before .before .before .check-panel .ensures) ∙ c .before .c .given .1)
-
-enum-told : tie.Need-enum-told
-enum-told c = search needs
-
 on-panel-requires : tie.Need-on-panel-requires
 on-panel-requires c κs = search needs
 
-returns-2 : tie.Need-returns-2
-returns-2 c = after-good _ (sym (c .before .before .before .before .check-panel .ensures) ∙ c .before .before .enum-told .given .1) (expect-no _ _ (sym (c .before .on-panel .ensures) ∙ not-true _ (c .if1 .taken)))
+expect-requires : tie.Need-expect-requires
+expect-requires c κs = search needs
 
-returns-3 : tie.Need-returns-3
-returns-3 c = after-good _ (sym (c .before .before .before .before .check-panel .ensures) ∙ c .before .before .enum-told .given .1) (expect-yes _ _ (sym (c .before .on-panel .ensures) ∙ not-false _ (c .if1 .left)) refl)
+after-requires : tie.Need-after-requires
+after-requires c κs = search needs
+
+returns : tie.Need-returns
+returns c =
+    let on = c .before .expect .ensures ∙ ap (λ (b : Bool). expect b EntryOff Good) (c .before .before .on-panel .ensures) in
+    c .after .ensures ∙ (λ i. after (c .before .before .before .check-panel .ensures i) (on i))
 
 pub check-entry-spec : {M : Type 1} → statement M
-check-entry-spec = tie.close (tie.spec check-panel-requires enum-known-c returns enum-told on-panel-requires returns-2 returns-3)
+check-entry-spec =
+    tie.close
+    (tie.spec check-panel-requires on-panel-requires expect-requires after-requires returns)

@@ -1,11 +1,22 @@
 -- The three parts are those of Bound's answer, and fit.
-use mathlib.Core.Path.{_∙_}
-use Rattle.bound.specs.Bound.{boundOf}
-use Rattle.host.specs.Host.{panel, cell}
-use Rattle.host.proofs.Answers.{bound-fits, bound-packed}
 use borrow.Author.Needs.{needs}
+use native.Mathlib.Omega.{arith}
+use mathlib.Core.Path.{ap, subst, _∙_}
+use Rattle.grid.specs.Panel.{panel, cell}
+use Rattle.grid.specs.Check.{checkOrder}
+use Rattle.count.specs.Count.{count}
+use Rattle.bound.specs.declared.BoundValues.{BoundValues}
+use Rattle.bound.specs.Bound.{Bounds}
+use Rattle.host.specs.declared.Order.{Order}
+use Rattle.host.specs.Host.{packed}
+use Rattle.host.proofs.Answers.{class-fits, count-fits, order-small}
 use Rattle.host.proofs.foil_bound.Statement.{statement}
 use Rattle.host.proofs.foil_bound.Tie as tie
+
+-- Bound's promise of the order's six numbers
+bounded : (c : tie.After-bound) → let a = c .before .before .args in
+    Bounds (panel (a .m) (a .n)) (cell (a .sx) (a .sy)) (cell (a .tx) (a .ty)) (c .bound .result)
+bounded c = subst (λ (o : Order). Bounds (o .panel) (o .entry) (o .exit) (c .bound .result)) (c .before .order-of .ensures) (c .bound .ensures)
 
 order-of-requires : tie.Need-order-of-requires
 order-of-requires c κs = search needs
@@ -13,34 +24,31 @@ order-of-requires c κs = search needs
 bound-requires : tie.Need-bound-requires
 bound-requires c κs = search needs
 
-number-of-requires : tie.Need-number-of-requires
-number-of-requires c κs = search needs
-
-class-of-requires : tie.Need-class-of-requires
-class-of-requires c κs = search needs
-
-count-of-requires : tie.Need-count-of-requires
-count-of-requires c κs = search needs
+bound-values-requires : tie.Need-bound-values-requires
+bound-values-requires c κs = search needs
 
 pack-requires : tie.Need-pack-requires
 pack-requires c κs =
-    let o = c .before .before .before .before .order-of .result in
-    bound-fits (o .panel) (o .entry) (o .exit) (c .before .before .before .bound .ensures) (c .before .before .number-of .ensures) (c .before .class-of .ensures) (c .count-of .ensures)
+    let a = c .before .before .before .args in
+    let p = panel (a .m) (a .n) in
+    let s = cell (a .sx) (a .sy) in
+    let t = cell (a .tx) (a .ty) in
+    let b = bounded (c .before) in
+    let v = c .bound-values .ensures in (
+      omega (arith, ap (λ (w : BoundValues). w .class) v, b .class, class-fits p s t),
+      omega (arith, ap (λ (w : BoundValues). w .count .0) v, b .count, count-fits (checkOrder p s t) (count p s t) (order-small p s t)),
+    )
 
 returns : tie.Need-returns
 returns c =
-    let a = c .before .before .before .before .before .before .args in
-    let o = c .before .before .before .before .before .order-of .ensures in
-    bound-packed (panel (a .m) (a .n)) (cell (a .sx) (a .sy)) (cell (a .tx) (a .ty)) (c .before .before .before .before .bound .ensures ∙ (λ i. boundOf (o i .panel) (o i .entry) (o i .exit))) (c .before .before .before .number-of .ensures) (c .before .before .class-of .ensures) (c .before .count-of .ensures) (c .pack .ensures)
+    let b = bounded (c .before .before) in
+    let v = c .before .bound-values .ensures in
+    let number = ap (λ (w : BoundValues). w .refusal) v ∙ b .number in
+    let class = ap (λ (w : BoundValues). w .class) v ∙ b .class in
+    let count = ap (λ (w : BoundValues). w .count .0) v ∙ b .count in
+    record { packs = c .pack .ensures ∙ (λ i. packed (number i) (class i) (count i)) }
 
 pub foil-bound-spec : {M : Type 1} → statement M
 foil-bound-spec =
     tie.close
-    (tie.spec
-    order-of-requires
-    bound-requires
-    number-of-requires
-    class-of-requires
-    count-of-requires
-    pack-requires
-    returns)
+    (tie.spec order-of-requires bound-requires bound-values-requires pack-requires returns)

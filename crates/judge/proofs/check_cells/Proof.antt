@@ -1,131 +1,89 @@
--- The tests in document 01's order: each answer is read off the branches on the way to it. Scratch is as the first clearing left it.
-use native.Mathlib.Omega.{arith}
-use mathlib.Core.Path.{refl, sym, _∙_}
-use borrow.Author.Tests.{not-true, not-false, le-leb, lt-leb}
-use lib.ListN.{length}
-use Rattle.grid.specs.Bytes.{cellsIn}
-use Rattle.grid.proofs.Tests.{expect-yes, expect-no}
-use Rattle.grid.specs.Panel.{area}
-use Rattle.list.proofs.Cells.{length-cells}
-use Rattle.list.proofs.Whole.{whole}
-use Rattle.judge.proofs.Scratch.{cleared-at, clean-front}
+-- The tests in document 01's order. Scratch is as clearing left it: the search for repeats brings it back to that.
 use borrow.Author.Needs.{needs}
+use borrow.Author.Tests.{not-true, not-false}
+use mathlib.Core.Path.{_≡_, sym, _∙_}
+use Rattle.grid.specs.declared.Check.the-variants.{Good}
+use Rattle.grid.specs.Bytes.{cellsIn}
+use Rattle.grid.proofs.Tests.{expect-yes, expect-no, after-good, after-refused}
+use Rattle.list.specs.Check.{checkWalk}
+use Rattle.list.proofs.Checks.{walk-good}
+use Rattle.scratch.proofs.Clean.{clean}
 use Rattle.judge.proofs.check_cells.Statement.{statement}
 use Rattle.judge.proofs.check_cells.Tie as tie
 
-area-of-requires : tie.Need-area-of-requires
-area-of-requires c κs = search needs
+abbrev cleared-at : tie.After-check-walk → tie.After-clear
+cleared-at c = c .before .before .before
+
+abbrev begin : tie.After-check-walk → tie.Start
+begin c = cleared-at c .before .before .before .before
+
+walks : (c : tie.After-enum-told)
+    → checkWalk (begin (c .before .before) .args .p) (cellsIn (begin (c .before .before) .args .list .now)) ≡ Good
+walks c = sym (c .before .before .check-walk .ensures) ∙ c .enum-told .given .1
 
 clear-requires : tie.Need-clear-requires
 clear-requires c κs = search needs
 
-all-on-panel-requires : tie.Need-all-on-panel-requires
-all-on-panel-requires c κs = search needs
+check-walk-requires : tie.Need-check-walk-requires
+check-walk-requires c κs = search needs
+
+enum-known-walk : tie.Need-enum-known-walk
+enum-known-walk c = search needs
 
 same-length : tie.Need-same-length
 same-length c = search needs
 
 returns : tie.Need-returns
-returns c = (
-  expect-no _ _ (sym (c .before .all-on-panel .ensures) ∙ not-true _ (c .if1 .taken)),
-  cleared-at (c .before .before .before .before .before .before .area-of .ensures) (c .before .before .before .before .before .before .before .before .before .args .scratch .now) (c .before .before .before .before .clear .ensures),
-)
+returns c =
+    let w = c .before .before .before in
+    (after-refused _ (sym (w .check-walk .ensures) ∙ c .before .walk .given .1), cleared-at w .clear .ensures)
 
-all-adjacent-requires : tie.Need-all-adjacent-requires
-all-adjacent-requires c κs = search needs
+enum-told : tie.Need-enum-told
+enum-told c = search needs
+
+all-once-requires : tie.Need-all-once-requires
+all-once-requires c κs =
+    let w = c .before .before .before in
+    let s = begin w in
+    let (on, next) = walk-good (s .args .p) (cellsIn (s .args .list .now)) (walks (c .before)) in
+    record { panel = s .pre .0; on = on; clean = clean _ _ (s .pre .1 .1) (cleared-at w .clear .ensures) }
 
 same-length-2 : tie.Need-same-length-2
 same-length-2 c = search needs
 
 returns-2 : tie.Need-returns-2
-returns-2 c = (
-  expect-yes _ _ (sym (c .before .before .before .all-on-panel .ensures) ∙ not-false _ (c .before .before .if1 .left))
-      (expect-no _ _ (sym (c .before .all-adjacent .ensures) ∙ not-true _ (c .if2 .taken))),
-  cleared-at (c .before .before .before .before .before .before .before .before .area-of .ensures) (c .before .before .before .before .before .before .before .before .before .before .before .args .scratch .now) (c .before .before .before .before .before .before .clear .ensures),
-)
+returns-2 c =
+    let o = c .before .before .before in
+    let w = o .before .before in
+    let t = expect-no _ _ (sym (o .all-once .ensures .0) ∙ not-true _ (c .if1 .taken)) in
+    (after-good _ (walks w) t, o .all-once .ensures .1 ∙ cleared-at (w .before .before) .clear .ensures)
 
-all-once-requires : tie.Need-all-once-requires
-all-once-requires c κs =
-    let s = c .before .before .before .before .before .before .before .before .before .before .before .before in
-    let e = cleared-at (c .before .before .before .before .before .before .before .before .before .area-of .ensures) (s .args .scratch .now) (c .before .before .before .before .before .before .before .clear .ensures) in (
-      s .pre .0,
-      (
-        sym (c .before .before .before .before .all-on-panel .ensures) ∙ not-false _ (c .before .before .before .if1 .left),
-        (omega (arith, c .before .before .before .before .before .before .before .clear .kept .0), clean-front (area (s .args .p)) (s .args .scratch .now) e),
-      ),
-    )
+check-ends-requires : tie.Need-check-ends-requires
+check-ends-requires c κs = search needs
 
 same-length-3 : tie.Need-same-length-3
 same-length-3 c = search needs
 
 returns-3 : tie.Need-returns-3
-returns-3 c = (
-  expect-yes _ _ (sym (c .before .before .before .before .before .before .before .before .all-on-panel .ensures) ∙ not-false _ (c .before .before .before .before .before .before .before .if1 .left))
-      (expect-yes _ _ (sym (c .before .before .before .before .before .before .all-adjacent .ensures) ∙ not-false _ (c .before .before .before .before .before .if2 .left))
-      (expect-no _ _ (sym (c .before .before .before .all-once .ensures .0) ∙ not-true _ (c .if3 .taken)))),
-  c .before .before .before .all-once .ensures .1 ∙ cleared-at (c .before .before .before .before .before .before .before .before .before .before .before .before .before .area-of .ensures) (c .before .before .before .before .before .before .before .before .before .before .before .before .before .before .before .before .args .scratch .now) (c .before .before .before .before .before .before .before .before .before .before .before .clear .ensures),
-)
-
-same-length-4 : tie.Need-same-length-4
-same-length-4 c = search needs
-
-returns-4 : tie.Need-returns-4
-returns-4 c = (
-  expect-yes _ _ (sym (c .before .before .before .before .before .before .before .before .before .all-on-panel .ensures) ∙ not-false _ (c .before .before .before .before .before .before .before .before .if1 .left))
-      (expect-yes _ _ (sym (c .before .before .before .before .before .before .before .all-adjacent .ensures) ∙ not-false _ (c .before .before .before .before .before .before .if2 .left))
-      (expect-yes _ _ (sym (c .before .before .before .before .all-once .ensures .0) ∙ not-false _ (c .before .if3 .left))
-      (expect-no _ _ (lt-leb (length (cellsIn (c .before .before .before .before .before .before .before .before .before .before .before .before .before .before .before .before .before .args .list .now))) (area (c .before .before .before .before .before .before .before .before .before .before .before .before .before .before .before .before .before .args .p)) (omega (arith, length-cells (c .before .before .before .before .before .before .before .before .before .before .before .before .before .before .before .before .before .args .list .now))))))),
-  c .before .before .before .before .all-once .ensures .1 ∙ cleared-at (c .before .before .before .before .before .before .before .before .before .before .before .before .before .before .area-of .ensures) (c .before .before .before .before .before .before .before .before .before .before .before .before .before .before .before .before .before .args .scratch .now) (c .before .before .before .before .before .before .before .before .before .before .before .before .clear .ensures),
-)
-
-ends-at-requires : tie.Need-ends-at-requires
-ends-at-requires c κs = whole (length (c .before .before .before .before .before .before .before .before .before .before .before .before .before .before .before .before .before .args .list .now)) (c .before .before .before .before .before .before .before .before .before .before .before .before .before .before .before .before .before .pre .1 .0)
-
-same-length-5 : tie.Need-same-length-5
-same-length-5 c = search needs
-
-returns-5 : tie.Need-returns-5
-returns-5 c = (
-  expect-yes _ _ (sym (c .before .before .before .before .before .before .before .before .before .before .before .all-on-panel .ensures) ∙ not-false _ (c .before .before .before .before .before .before .before .before .before .before .if1 .left))
-      (expect-yes _ _ (sym (c .before .before .before .before .before .before .before .before .before .all-adjacent .ensures) ∙ not-false _ (c .before .before .before .before .before .before .before .before .if2 .left))
-      (expect-yes _ _ (sym (c .before .before .before .before .before .before .all-once .ensures .0) ∙ not-false _ (c .before .before .before .if3 .left))
-      (expect-yes _ _ (le-leb (length (cellsIn (c .before .before .before .before .before .before .before .before .before .before .before .before .before .before .before .before .before .before .before .args .list .now))) (area (c .before .before .before .before .before .before .before .before .before .before .before .before .before .before .before .before .before .before .before .args .p)) (omega (arith, length-cells (c .before .before .before .before .before .before .before .before .before .before .before .before .before .before .before .before .before .before .before .args .list .now))))
-      (expect-no _ _ (sym (c .before .ends-at .ensures) ∙ not-true _ (c .if5 .taken)))))),
-  c .before .before .before .before .before .before .all-once .ensures .1 ∙ cleared-at (c .before .before .before .before .before .before .before .before .before .before .before .before .before .before .before .before .area-of .ensures) (c .before .before .before .before .before .before .before .before .before .before .before .before .before .before .before .before .before .before .before .args .scratch .now) (c .before .before .before .before .before .before .before .before .before .before .before .before .before .before .clear .ensures),
-)
-
-same-length-6 : tie.Need-same-length-6
-same-length-6 c = search needs
-
-returns-6 : tie.Need-returns-6
-returns-6 c = (
-  expect-yes _ _ (sym (c .before .before .before .before .before .before .before .before .before .before .before .all-on-panel .ensures) ∙ not-false _ (c .before .before .before .before .before .before .before .before .before .before .if1 .left))
-      (expect-yes _ _ (sym (c .before .before .before .before .before .before .before .before .before .all-adjacent .ensures) ∙ not-false _ (c .before .before .before .before .before .before .before .before .if2 .left))
-      (expect-yes _ _ (sym (c .before .before .before .before .before .before .all-once .ensures .0) ∙ not-false _ (c .before .before .before .if3 .left))
-      (expect-yes _ _ (le-leb (length (cellsIn (c .before .before .before .before .before .before .before .before .before .before .before .before .before .before .before .before .before .before .before .args .list .now))) (area (c .before .before .before .before .before .before .before .before .before .before .before .before .before .before .before .before .before .before .before .args .p)) (omega (arith, length-cells (c .before .before .before .before .before .before .before .before .before .before .before .before .before .before .before .before .before .before .before .args .list .now))))
-      (expect-yes _ _ (sym (c .before .ends-at .ensures) ∙ not-false _ (c .if5 .left)) refl)))),
-  c .before .before .before .before .before .before .all-once .ensures .1 ∙ cleared-at (c .before .before .before .before .before .before .before .before .before .before .before .before .before .before .before .before .area-of .ensures) (c .before .before .before .before .before .before .before .before .before .before .before .before .before .before .before .before .before .before .before .args .scratch .now) (c .before .before .before .before .before .before .before .before .before .before .before .before .before .before .clear .ensures),
-)
+returns-3 c =
+    let o = c .before .before .before .before in
+    let w = o .before .before in
+    let t = expect-yes _ _ (sym (o .all-once .ensures .0) ∙ not-false _ (c .before .if1 .left)) (c .check-ends .ensures) in
+    (after-good _ (walks w) t, o .all-once .ensures .1 ∙ cleared-at (w .before .before) .clear .ensures)
 
 pub check-cells-spec : {M : Type 1} → statement M
 check-cells-spec =
     tie.close
     (tie.spec
-    area-of-requires
     clear-requires
-    all-on-panel-requires
+    check-walk-requires
+    enum-known-walk
     same-length
     returns
-    all-adjacent-requires
+    enum-told
+    all-once-requires
     same-length-2
     returns-2
-    all-once-requires
+    check-ends-requires
     same-length-3
-    returns-3
-    same-length-4
-    returns-4
-    ends-at-requires
-    same-length-5
-    returns-5
-    same-length-6
-    returns-6)
+    returns-3)

@@ -1,57 +1,60 @@
--- The first cell stands in the first two bytes and the last in the last two (`runs-is`).
+-- The first cell stands in the first two bytes and the last in the last two.
+use Prim.Native.Nat.{_≤_}
 use native.Mathlib.Omega.{arith}
-use mathlib.Core.Path.{sym, _∙_}
-use Rattle.grid.proofs.Tests.{and-yes, and-no}
-use Rattle.judge.proofs.Ends.{runs-is}
 use borrow.Author.Needs.{needs}
+use borrow.Author.Tests.{not-true, not-false}
+use mathlib.Core.Path.{sym, _∙_}
+use lib.ListN.{length}
+use Rattle.list.proofs.Whole.{whole}
+use Rattle.judge.proofs.Ends.{starts-elsewhere, starts-here}
 use Rattle.judge.proofs.ends_at.Statement.{statement}
 use Rattle.judge.proofs.ends_at.Tie as tie
 
-shared-slice-read-same : tie.Need-shared-slice-read-same
-shared-slice-read-same c = omega arith
+abbrev begin : tie.After-same-cell → tie.Start
+begin c = c .before .before .before
 
-shared-slice-read-same-2 : tie.Need-shared-slice-read-same-2
-shared-slice-read-same-2 c = omega arith
+long : (c : tie.Start) → 2 ≤ length (c .args .list .now)
+long c = whole _ (c .pre) .0
 
-same-requires : tie.Need-same-requires
-same-requires c κs = search needs
+cell-at-requires : tie.Need-cell-at-requires
+cell-at-requires c κs = omega (arith, long (c .before))
 
-sub-same : tie.Need-sub-same
-sub-same c = omega arith
-
-shared-slice-read-same-3 : tie.Need-shared-slice-read-same-3
-shared-slice-read-same-3 c = omega arith
-
-sub-same-2 : tie.Need-sub-same-2
-sub-same-2 c = omega arith
-
-shared-slice-read-same-4 : tie.Need-shared-slice-read-same-4
-shared-slice-read-same-4 c = omega arith
-
-same-requires-2 : tie.Need-same-requires-2
-same-requires-2 c κs = search needs
+same-cell-requires : tie.Need-same-cell-requires
+same-cell-requires c κs = search needs
 
 returns : tie.Need-returns
 returns c =
-    and-yes _ (sym (c .before .before .before .before .same .ensures) ∙ c .before .before .before .if1 .taken) (c .same2 .ensures)
-    ∙ sym (runs-is (c .before .before .before .before .before .before .before .before .args .entry) (c .before .before .before .before .before .before .before .before .args .exit) (c .before .before .before .before .before .before .before .before .args .list .now) (c .before .before .before .before .before .before .before .before .pre))
+    let f = c .before in
+    let e = sym (f .same-cell .ensures) ∙ not-true _ (c .if1 .taken) in
+    let s = begin f in
+    starts-elsewhere (s .args .entry) (s .args .exit) (s .args .list .now) (s .pre) (f .before .cell-at .ensures) e
+
+sub-cell-at : tie.Need-sub-cell-at
+sub-cell-at c = omega (arith, long (begin (c .before)))
+
+cell-at-requires-2 : tie.Need-cell-at-requires-2
+cell-at-requires-2 c κs = omega (arith, long (begin (c .before)))
+
+same-cell-requires-2 : tie.Need-same-cell-requires-2
+same-cell-requires-2 c κs = search needs
 
 returns-2 : tie.Need-returns-2
 returns-2 c =
-    and-no _ (sym (c .before .same .ensures) ∙ c .if1 .left)
-    ∙ sym (runs-is (c .before .before .before .before .before .args .entry) (c .before .before .before .before .before .args .exit) (c .before .before .before .before .before .args .list .now) (c .before .before .before .before .before .pre))
+    let l = c .before in
+    let f = l .before .before in
+    let e = sym (f .same-cell .ensures) ∙ not-false _ (l .before .if1 .left) in
+    let s = begin f in
+    starts-here (s .args .entry) (s .args .exit) (s .args .list .now) (s .pre) (f .before .cell-at .ensures) e (l .cell-at2 .ensures)
+    (c .same-cell2 .ensures)
 
 pub ends-at-spec : {M : Type 1} → statement M
 ends-at-spec =
     tie.close
     (tie.spec
-    shared-slice-read-same
-    shared-slice-read-same-2
-    same-requires
-    sub-same
-    shared-slice-read-same-3
-    sub-same-2
-    shared-slice-read-same-4
-    same-requires-2
+    cell-at-requires
+    same-cell-requires
     returns
+    sub-cell-at
+    cell-at-requires-2
+    same-cell-requires-2
     returns-2)

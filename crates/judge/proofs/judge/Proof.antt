@@ -1,12 +1,40 @@
 -- The tests of the sizes, then those of the cells; a count that is given is at most mn, so that it fits.
 use native.Mathlib.Omega.{arith}
-use mathlib.Core.Path.{sym}
-use Rattle.grid.proofs.Facts.{is-good, area-small}
-use Rattle.judge.proofs.Checks.{sizes-good, cells-good, sizes-refused, cells-refused, all-good}
-use Rattle.list.proofs.Cells.{length-cells}
 use borrow.Author.Needs.{needs}
+use mathlib.Core.Path.{_≡_, sym, _∙_}
+use lib.ListN.{length}
+use Rattle.grid.specs.declared.Check.{Check}
+use Rattle.grid.specs.declared.Check.the-variants.{Good}
+use Rattle.grid.specs.Bytes.{cellsIn}
+use Rattle.grid.proofs.Facts.{is-good, area-small}
+use Rattle.list.proofs.Cells.{length-cells}
+use Rattle.judge.specs.Judge.{sizesCheck, cellsCheck}
+use Rattle.judge.proofs.Checks.{Sized, sized, few, sizes-refused, cells-refused, all-good}
 use Rattle.judge.proofs.judge.Statement.{statement}
 use Rattle.judge.proofs.judge.Tie as tie
+
+abbrev sizes-of : tie.Start → Check
+sizes-of c = sizesCheck (c .args .p) (c .args .entry) (c .args .exit) (length (c .args .list .now)) (length (c .args .scratch .now))
+
+abbrev cells-of : tie.Start → Check
+cells-of c = cellsCheck (c .args .p) (c .args .entry) (c .args .exit) (cellsIn (c .args .list .now))
+
+sized-at : (c : tie.Start) → sizes-of c ≡ Good
+    → Sized (c .args .p) (c .args .entry) (c .args .exit) (length (c .args .list .now)) (length (c .args .scratch .now))
+sized-at c = sized (c .args .p) (c .args .entry) (c .args .exit) (length (c .args .list .now)) (length (c .args .scratch .now))
+
+-- what the two checks gave
+sizes-told : (c : tie.After-check-sizes) {z : Check} → c .check-sizes .result ≡ z → sizes-of (c .before .before .before) ≡ z
+sizes-told c e = sym (c .check-sizes .ensures) ∙ e
+
+abbrev begin : tie.After-enum-told → tie.Start
+begin c = c .before .before .before .before .before
+
+sizes-good : (c : tie.After-enum-told) → sizes-of (begin c) ≡ Good
+sizes-good c = sizes-told (c .before .before) (c .enum-told .given .1)
+
+cells-told : (c : tie.After-check-cells) {z : Check} → c .check-cells .result ≡ z → cells-of (begin (c .before .before)) ≡ z
+cells-told c e = sym (c .check-cells .ensures .0) ∙ e
 
 check-sizes-requires : tie.Need-check-sizes-requires
 check-sizes-requires c κs = search needs
@@ -15,17 +43,14 @@ enum-known-sizes : tie.Need-enum-known-sizes
 enum-known-sizes c = search needs
 
 returns : tie.Need-returns
-returns c =
-    let a = c .before .before .before .before .before .before .args in
-    sizes-refused (a .p) (a .entry) (a .exit) (a .list .now) (a .scratch .now) (c .before .before .before .check-sizes .ensures) (c .before .sizes .given .1)
+returns c = sizes-refused _ _ _ _ _ (sizes-told (c .before .before .before) (c .before .sizes .given .1))
 
 enum-told : tie.Need-enum-told
 enum-told c = search needs
 
 check-cells-requires : tie.Need-check-cells-requires
 check-cells-requires c κs =
-    let a = c .before .before .before .before .before .before .args in
-    let z = sizes-good (a .p) (a .entry) (a .exit) (a .list .now) (a .scratch .now) (c .before .before .before .check-sizes .ensures) (c .before .enum-told .given .1) in
+    let z = sized-at (begin (c .before)) (sizes-good (c .before)) in
     (is-good (z .ordered .panel), (z .whole, z .enough))
 
 enum-known-cells : tie.Need-enum-known-cells
@@ -36,28 +61,27 @@ same-length c = search needs
 
 returns-2 : tie.Need-returns-2
 returns-2 c =
-    let a = c .before .before .before .before .before .before .before .before .before .before .before .before .args in
-    let d = c .before .before .before .before .before .check-cells in
-    cells-refused (a .p) (a .entry) (a .exit) (a .list .now) (a .scratch .now) (c .before .before .before .before .before .before .before .before .before .check-sizes .ensures) (c .before .before .before .before .before .before .before .enum-told .given .1) (d .ensures .0) (d .ensures .1) (c .before .cells .given .1)
+    let d = c .before .before .before .before .before in
+    cells-refused _ _ _ _ _ (sizes-good (d .before .before)) (d .check-cells .ensures .1) (cells-told d (c .before .cells .given .1))
 
 enum-told-2 : tie.Need-enum-told-2
 enum-told-2 c = search needs
 
-cast-t14 : tie.Need-cast-t14
-cast-t14 c =
-    let a = c .before .before .before .before .before .before .before .before .before .before .before .args in
-    let z = sizes-good (a .p) (a .entry) (a .exit) (a .list .now) (a .scratch .now) (c .before .before .before .before .before .before .before .before .check-sizes .ensures) (c .before .before .before .before .before .before .enum-told .given .1) in
-    let j = cells-good (a .p) (a .entry) (a .exit) (a .list .now) (a .scratch .now) (c .before .before .before .before .before .before .before .before .check-sizes .ensures) (c .before .before .before .before .before .before .enum-told .given .1) (c .before .before .before .before .check-cells .ensures .0) (c .enum-told2 .given .1) in
-    record { fits = omega (arith, j .few, area-small (z .ordered .panel), length-cells (a .list .now)) }
+cast-k : tie.Need-cast-k
+cast-k c =
+    let d = c .before .before .before .before in
+    let s = begin (d .before .before) in
+    let z = sized-at s (sizes-good (d .before .before)) in
+    let k = few (s .args .p) (s .args .entry) (s .args .exit) (cellsIn (s .args .list .now)) (cells-told d (c .enum-told2 .given .1)) in
+    record { fits = omega (arith, k, area-small (z .ordered .panel), length-cells (s .args .list .now)) }
 
 same-length-2 : tie.Need-same-length-2
 same-length-2 c = search needs
 
 returns-3 : tie.Need-returns-3
 returns-3 c =
-    let a = c .before .before .before .before .before .before .before .before .before .before .before .args in
-    let d = c .before .before .before .before .check-cells in
-    all-good (a .p) (a .entry) (a .exit) (a .list .now) (a .scratch .now) (c .before .before .before .before .before .before .before .before .check-sizes .ensures) (c .before .before .before .before .before .before .enum-told .given .1) (d .ensures .0) (d .ensures .1) (c .enum-told2 .given .1) (sym (length-cells (a .list .now)))
+    let d = c .before .before .before .before in
+    all-good _ _ _ _ _ (sizes-good (d .before .before)) (d .check-cells .ensures .1) (cells-told d (c .enum-told2 .given .1))
 
 pub judge-spec : {M : Type 1} → statement M
 judge-spec =
@@ -72,6 +96,6 @@ judge-spec =
     same-length
     returns-2
     enum-told-2
-    cast-t14
+    cast-k
     same-length-2
     returns-3)

@@ -5,6 +5,9 @@ use borrow.Author.Needs.{needs}
 use Rattle.judge_run.proofs.try_snake.Statement.{statement}
 use Rattle.judge_run.proofs.try_snake.Tie as tie
 
+panel-of-requires : tie.Need-panel-of-requires
+panel-of-requires c κs = search needs
+
 snake-requires : tie.Need-snake-requires
 snake-requires c κs = search needs
 
@@ -63,6 +66,7 @@ pub try-snake-spec : {M : Type 1} → statement M
 try-snake-spec =
     tie.close
     (tie.spec
+    panel-of-requires
     snake-requires
     slice-write-list
     sub-list

@@ -1,4 +1,4 @@
--- The tests of the steps from the cell at byte i on amount to those of the whole list.
+-- The tests of the steps from byte i on amount to those of the whole list.
 use Prim.Native.Nat.{_-_, _≤_}
 use native.Mathlib.Omega.{arith}
 use borrow.Author.Needs.{needs}
@@ -23,35 +23,13 @@ loop-holds c = (omega arith, refl)
 add-loop : tie.Need-add-loop Inv-loop μ-loop
 add-loop c = omega arith
 
-shared-slice-read-adjacent : tie.Need-shared-slice-read-adjacent Inv-loop μ-loop
-shared-slice-read-adjacent c = omega arith
-
-add-adjacent : tie.Need-add-adjacent Inv-loop μ-loop
-add-adjacent c = omega arith
-
-shared-slice-read-adjacent-2 : tie.Need-shared-slice-read-adjacent-2 Inv-loop μ-loop
-shared-slice-read-adjacent-2 c = omega arith
-
-add-adjacent-2 : tie.Need-add-adjacent-2 Inv-loop μ-loop
-add-adjacent-2 c = omega arith
-
-shared-slice-read-adjacent-3 : tie.Need-shared-slice-read-adjacent-3 Inv-loop μ-loop
-shared-slice-read-adjacent-3 c = omega arith
-
-add-adjacent-3 : tie.Need-add-adjacent-3 Inv-loop μ-loop
-add-adjacent-3 c = omega arith
-
-shared-slice-read-adjacent-4 : tie.Need-shared-slice-read-adjacent-4 Inv-loop μ-loop
-shared-slice-read-adjacent-4 c = omega arith
-
-adjacent-requires : tie.Need-adjacent-requires Inv-loop μ-loop
-adjacent-requires c κs = search needs
+step-at-requires : tie.Need-step-at-requires Inv-loop μ-loop
+step-at-requires c κs = search needs
 
 returns : tie.Need-returns Inv-loop μ-loop
 returns c =
-    let l = c .before .before .before .before .before .before .before in
-    turn-failed _ _ (step-turn _ (l .loop .i) (c .before .before .before .before .before .before .loop-test .taken)) (l .loop .inv .1)
-    (sym (c .before .adjacent .ensures) ∙ not-true _ (c .if1 .taken))
+    let l = c .before .before .before .loop in
+    turn-failed _ _ (step-turn _ (l .i) (c .before .before .loop-test .taken)) (l .inv .1) (sym (c .before .step-at .ensures) ∙ not-true _ (c .if1 .taken))
 
 add-i : tie.Need-add-i Inv-loop μ-loop
 add-i c = omega arith
@@ -61,11 +39,9 @@ loop-less c = omega arith
 
 loop-again : tie.Need-loop-again Inv-loop μ-loop
 loop-again c =
-    let l = c .before .before .before .before .before .before .before in (
-      omega arith,
-      turn-passed _ _ (step-turn _ (l .loop .i) (c .before .before .before .before .before .before .loop-test .taken)) (l .loop .inv .1)
-          (sym (c .before .adjacent .ensures) ∙ not-false _ (c .if1 .left)),
-    )
+    let l = c .before .before .before .loop in
+    let h = c .before .before .loop-test .taken in
+    (omega arith, turn-passed _ _ (step-turn _ (l .i) h) (l .inv .1) (sym (c .before .step-at .ensures) ∙ not-false _ (c .if1 .left)))
 
 returns-2 : tie.Need-returns-2 Inv-loop μ-loop
 returns-2 c = sym (step-end _ (c .before .loop .i) (c .loop-test .left)) ∙ c .before .loop .inv .1
@@ -78,14 +54,7 @@ all-adjacent-spec =
     μ-loop
     loop-holds
     add-loop
-    shared-slice-read-adjacent
-    add-adjacent
-    shared-slice-read-adjacent-2
-    add-adjacent-2
-    shared-slice-read-adjacent-3
-    add-adjacent-3
-    shared-slice-read-adjacent-4
-    adjacent-requires
+    step-at-requires
     returns
     add-i
     loop-less

@@ -3,10 +3,11 @@ use Prim.Native.Nat.{_-_, _≤_}
 use native.Mathlib.Omega.{arith}
 use borrow.Author.Needs.{needs}
 use borrow.Author.Tests.{not-true, not-false}
-use mathlib.Core.Path.{_≡_, refl, sym, _∙_}
+use mathlib.Core.Path.{_≡_, refl, sym, ap, _∙_}
 use lib.ListN.{length, drop}
 use Rattle.grid.specs.Bytes.{cellsIn}
-use Rattle.list.specs.List.{allOn}
+use Rattle.grid.specs.Panel.{onPanel}
+use Rattle.list.specs.List.{allOn, cellAt}
 use Rattle.list.proofs.Turns.{turn-failed, turn-passed, on-turn, on-end}
 use Rattle.list.proofs.all_on_panel.Statement.{statement}
 use Rattle.list.proofs.all_on_panel.Tie as tie
@@ -23,23 +24,25 @@ loop-holds c = (omega arith, refl)
 add-loop : tie.Need-add-loop Inv-loop μ-loop
 add-loop c = omega arith
 
-shared-slice-read-on-panel : tie.Need-shared-slice-read-on-panel Inv-loop μ-loop
-shared-slice-read-on-panel c = omega arith
-
-add-on-panel : tie.Need-add-on-panel Inv-loop μ-loop
-add-on-panel c = omega arith
-
-shared-slice-read-on-panel-2 : tie.Need-shared-slice-read-on-panel-2 Inv-loop μ-loop
-shared-slice-read-on-panel-2 c = omega arith
+cell-at-requires : tie.Need-cell-at-requires Inv-loop μ-loop
+cell-at-requires c κs = search needs
 
 on-panel-requires : tie.Need-on-panel-requires Inv-loop μ-loop
 on-panel-requires c κs = search needs
 
+abbrev start : tie.After-on-panel Inv-loop μ-loop → tie.Start Inv-loop μ-loop
+start c = c .before .before .before .before .before
+
+-- the test of the turn is that of the cell at byte i
+tested : (c : tie.After-on-panel Inv-loop μ-loop)
+    → c .on-panel .result ≡ onPanel (start c .args .p) (cellAt (start c .args .list .now) (c .before .before .before .loop .i))
+tested c = c .on-panel .ensures ∙ ap (onPanel (start c .args .p)) (c .before .cell-at .ensures)
+
 returns : tie.Need-returns Inv-loop μ-loop
 returns c =
-    let l = c .before .before .before .before .before in
-    turn-failed _ _ (on-turn _ (l .loop .i) _ (c .before .before .before .before .loop-test .taken)) (l .loop .inv .1)
-    (sym (c .before .on-panel .ensures) ∙ not-true _ (c .if1 .taken))
+    let l = c .before .before .before .before .loop in
+    let turn = on-turn _ (l .i) _ (c .before .before .before .loop-test .taken) in
+    turn-failed _ _ turn (l .inv .1) (sym (tested (c .before)) ∙ not-true _ (c .if1 .taken))
 
 add-i : tie.Need-add-i Inv-loop μ-loop
 add-i c = omega arith
@@ -49,11 +52,9 @@ loop-less c = omega arith
 
 loop-again : tie.Need-loop-again Inv-loop μ-loop
 loop-again c =
-    let l = c .before .before .before .before .before in (
-      omega arith,
-      turn-passed _ _ (on-turn _ (l .loop .i) _ (c .before .before .before .before .loop-test .taken)) (l .loop .inv .1)
-          (sym (c .before .on-panel .ensures) ∙ not-false _ (c .if1 .left)),
-    )
+    let l = c .before .before .before .before .loop in
+    let turn = on-turn _ (l .i) _ (c .before .before .before .loop-test .taken) in
+    (omega arith, turn-passed _ _ turn (l .inv .1) (sym (tested (c .before)) ∙ not-false _ (c .if1 .left)))
 
 returns-2 : tie.Need-returns-2 Inv-loop μ-loop
 returns-2 c = sym (on-end _ (c .before .loop .i) _ (c .loop-test .left)) ∙ c .before .loop .inv .1
@@ -66,9 +67,7 @@ all-on-panel-spec =
     μ-loop
     loop-holds
     add-loop
-    shared-slice-read-on-panel
-    add-on-panel
-    shared-slice-read-on-panel-2
+    cell-at-requires
     on-panel-requires
     returns
     add-i

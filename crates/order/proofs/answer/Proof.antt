@@ -1,14 +1,11 @@
 -- By the line of the input: refusal 16, or the answer for the order in it.
 use mathlib.Core.Path.{sym, ap, _∙_}
 use mathlib.Core.List.{[]}
-use native.Mathlib.Omega.{arith}
-use denote.Ref.{now}
-use lib.ListN.{length}
+use Rattle.printout.specs.Text.{refusedText}
+use Rattle.text.proofs.Puts.{puts-is}
 use Rattle.order.specs.declared.Line.the-variants.{Other}
-use Rattle.order.specs.Text.{refusedText}
 use Rattle.order.specs.Order.{textOf}
-use Rattle.order.proofs.Puts.{puts-is}
-use Rattle.order.proofs.Answers.{refused-room, printed, line-is}
+use Rattle.order.proofs.Answers.{printed, line-is}
 use borrow.Author.Needs.{needs}
 use Rattle.order.proofs.answer.Statement.{statement}
 use Rattle.order.proofs.answer.Tie as tie
@@ -23,7 +20,7 @@ number-of-requires : tie.Need-number-of-requires
 number-of-requires c κs = search needs
 
 put-refused-requires : tie.Need-put-refused-requires
-put-refused-requires c κs = let s = c .before .before .before .before .before .before in refused-room (c .before .number-of .result) (length (now (s .args .out))) (omega (arith, c .before .number-of .ok)) (omega arith)
+put-refused-requires c κs = search needs
 
 enum-known-line : tie.Need-enum-known-line
 enum-known-line c = search needs
@@ -33,12 +30,15 @@ answer-order-requires c κs = search needs
 
 returns : tie.Need-returns
 returns c =
-    let s = c .before .before .before .before .before .before .before in
-    line-is (sym (c .before .before .before .enum-told .given .1) ∙ c .before .before .before .before .before .read-line .ensures)
-    (printed (textOf Other) [] tt (puts-is (now (s .args .out)) 0 (ap refusedText (c .before .before .number-of .ensures)) (c .put-refused .ensures)))
+    let k = c .before .before in
+    let r = k .before .before .before in
+    let text = puts-is (ap refusedText (k .number-of .ensures)) (c .put-refused .ensures) in
+    line-is (sym (k .before .enum-told .given .1) ∙ r .read-line .ensures) (printed (textOf Other) [] tt text)
 
 returns-2 : tie.Need-returns-2
-returns-2 c = line-is (sym (c .before .before .before .line .given .1) ∙ c .before .before .before .before .before .read-line .ensures) (c .answer-order .ensures)
+returns-2 c =
+    let l = c .before .before .before in
+    line-is (sym (l .line .given .1) ∙ l .before .before .read-line .ensures) (c .answer-order .ensures)
 
 pub answer-spec : {M : Type 1} → statement M
 answer-spec =

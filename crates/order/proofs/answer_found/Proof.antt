@@ -1,52 +1,48 @@
--- The cells drawn are a longest track; a record can be made of them, and its letters are theirs.
+-- The cells drawn are a longest track, and the answer for it is put.
 use Prim.Native.Nat.{ℕ, _*_, _≤_}
-use mathlib.Core.Path.{_≡_, sym, ap, subst⁻¹, _∙_}
-use native.Mathlib.Omega.{arith}
+use mathlib.Core.Path.{_≡_, sym, ap, _∙_}
 use mathlib.Core.List.{List}
+use native.Mathlib.Omega.{arith}
 use lib.ListN.{length, take}
 use lib.Seq.{length-take-le}
-use Rattle.grid.specs.declared.Check.the-variants.{Good as Passed}
 use Rattle.grid.specs.Bytes.{front}
 use Rattle.count.specs.declared.ClassCount.{ClassCount}
-use Rattle.count.specs.Count.{count as countOf}
-use Rattle.bound.specs.declared.Bounded.the-variants.{Found}
-use Rattle.record.specs.Write.{checkList}
+use Rattle.count.specs.Count.{count}
+use Rattle.bound.specs.declared.BoundAnswer.the-variants.{Given}
 use Rattle.order.specs.Order.{Longest, boundText}
-use Rattle.order.proofs.Answers.{class-small, cells-fit, cells, longest, passes, printed}
+use Rattle.order.proofs.Answers.{count-bounds, longest, printed}
 use borrow.Author.Needs.{needs}
 use Rattle.order.proofs.answer_found.Statement.{statement}
 use Rattle.order.proofs.answer_found.Tie as tie
 
-is-count : (s : tie.Start) → s .args .found .count .0 ≡ countOf (s .args .p) (s .args .s) (s .args .t)
+-- the count that was found
+abbrev n : tie.Start → ℕ
+n s = s .args .found .count .0
+
+is-count : (s : tie.Start) → n s ≡ count (s .args .p) (s .args .s) (s .args .t)
 is-count s = ap (λ (f : ClassCount). f .count .0) (s .pre .1 .0)
 
-small : (s : tie.Start) → s .args .found .class ≤ 5
-small s = subst⁻¹ (λ (f : ClassCount). f .class ≤ 5) (s .pre .1 .0) (class-small (s .args .p) (s .args .s) (s .args .t))
+bounded : (s : tie.Start) → (2 ≤ n s) × (n s ≤ 16384)
+bounded s = count-bounds (s .args .p) (s .args .s) (s .args .t) (s .pre .0) (n s) (is-count s)
 
-fit : (s : tie.Start) → 2 * s .args .found .count .0 ≤ 32768
-fit s = cells-fit (s .args .p) (s .args .s) (s .args .t) (s .pre .0) (s .args .found .count .0) (is-count s)
-
-size : (c : tie.After-draw) → length (c .draw .last .1 .1 .1 .0) ≡ 32768
-size c = c .draw .kept .1 .1 .1 .0 ∙ sym (c .before .before .cell-buffer .ensures)
-
+-- the buffer that was drawn into
 module _ (c : tie.After-draw) where
-  abbrev s : tie.Start
-  s = c .before .before .before .before
-
-  abbrev n : ℕ
-  n = s .args .found .count .0
+  abbrev start : tie.Start
+  start = c .before .before .before .before
 
   abbrev new : List ℕ
   new = c .draw .last .1 .1 .1 .0
 
-  count : length (front n new) ≡ n
-  count = cells (s .args .p) (s .args .s) (s .args .t) (s .pre .0) n (is-count s) (c .before .before .cell-buffer .result) new (c .before .before .cell-buffer .ensures) (c .draw .result) (c .draw .ensures)
+  size : length new ≡ 32768
+  size = c .draw .kept .1 .1 .1 .0 ∙ sym (c .before .before .cell-buffer .ensures)
 
-  chosen : Longest (s .args .p) (s .args .s) (s .args .t) (front n new)
-  chosen = longest (s .args .p) (s .args .s) (s .args .t) (s .pre .0) n (is-count s) (c .before .before .cell-buffer .result) new (c .before .before .cell-buffer .ensures) (c .draw .result) (c .draw .ensures)
+  lent : length (take (2 * n start) new) ≡ 2 * n start
+  lent = length-take-le (2 * n start) new (omega (arith, size, bounded start))
 
-  passed : checkList (s .args .p) (take (2 * n) new) ≡ Passed
-  passed = passes (s .args .p) (s .args .s) (s .args .t) (s .pre .0) n (is-count s) (c .before .before .cell-buffer .result) new (c .before .before .cell-buffer .ensures) (c .draw .result) (c .draw .ensures) (sym (size c))
+  drawn : let a = start .args in Longest (a .p) (a .s) (a .t) (n start) (front (n start) new)
+  drawn =
+      let a = start .args in
+      longest (a .p) (a .s) (a .t) (start .pre .0) (n start) (is-count start) (c .before .before .cell-buffer .ensures) (c .draw .ensures)
 
 cell-buffer-requires : tie.Need-cell-buffer-requires
 cell-buffer-requires c κs = search needs
@@ -64,16 +60,21 @@ mul-end : tie.Need-mul-end
 mul-end c = search needs
 
 array-share-prefix-cells : tie.Need-array-share-prefix-cells
-array-share-prefix-cells c = omega (arith, size (c .before .before), fit (c .before .before .before .before .before .before))
+array-share-prefix-cells c =
+    let d = c .before .before in
+    omega (arith, size d, bounded (start d))
 
-slice-aggregate-put-track : tie.Need-slice-aggregate-put-track
-slice-aggregate-put-track c = sym (length-take-le _ _ (omega (arith, size (c .before .before .before), fit (c .before .before .before .before .before .before .before))))
+slice-aggregate-put-answer : tie.Need-slice-aggregate-put-answer
+slice-aggregate-put-answer c = sym (lent (c .before .before .before))
 
-put-track-requires : tie.Need-put-track-requires
-put-track-requires c κs =
+put-answer-requires : tie.Need-put-answer-requires
+put-answer-requires c κs =
     let d = c .before .before .before .before in
-    let s = d .before .before .before .before in
-    (passed d, (count d, (small s, s .pre .1 .1)))
+    let s = start d in
+    let few = bounded s in
+    let one : 1 ≤ n s = omega arith in
+    let list : length (take (2 * n s) (new d)) ≤ 32768 = omega (arith, lent d) in
+    ((one, few .1), (list, (sym (drawn d .size), s .pre .1 .1)))
 
 same-length : tie.Need-same-length
 same-length c = search needs
@@ -81,7 +82,8 @@ same-length c = search needs
 returns : tie.Need-returns
 returns c =
     let d = c .before .before .before .before .before .before .before in
-    printed (boundText (Found (s d .args .found))) (front (n d) (new d)) (chosen d) (c .before .before .put-track .ensures)
+    let s = start d in
+    printed (boundText (Given (s .args .found))) (front (n s) (new d)) (drawn d) (c .before .before .put-answer .ensures)
 
 pub answer-found-spec : {M : Type 1} → statement M
 answer-found-spec =
@@ -93,7 +95,7 @@ answer-found-spec =
     cast-end
     mul-end
     array-share-prefix-cells
-    slice-aggregate-put-track
-    put-track-requires
+    slice-aggregate-put-answer
+    put-answer-requires
     same-length
     returns)

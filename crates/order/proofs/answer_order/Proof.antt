@@ -1,16 +1,11 @@
 -- By the answer of Bound: its refusal's line, or the answer for the track drawn.
 use mathlib.Core.Path.{sym, ap, _∙_}
 use mathlib.Core.List.{[]}
-use native.Mathlib.Omega.{arith}
-use denote.Ref.{now}
-use lib.ListN.{length}
-use Rattle.grid.specs.Check.{checkOrder}
-use Rattle.count.specs.Count.{classCount}
-use Rattle.bound.specs.declared.Bounded.the-variants.{Refused}
-use Rattle.order.specs.Text.{refusedText}
+use Rattle.bound.specs.declared.BoundAnswer.the-variants.{Refused}
+use Rattle.printout.specs.Text.{refusedText}
+use Rattle.text.proofs.Puts.{puts-is}
 use Rattle.order.specs.Order.{boundText}
-use Rattle.order.proofs.Puts.{puts-is}
-use Rattle.order.proofs.Answers.{refused-room, found-good, printed, bound-is}
+use Rattle.order.proofs.Answers.{given-good, printed, bound-is}
 use borrow.Author.Needs.{needs}
 use Rattle.order.proofs.answer_order.Statement.{statement}
 use Rattle.order.proofs.answer_order.Tie as tie
@@ -25,33 +20,40 @@ number-of-requires : tie.Need-number-of-requires
 number-of-requires c κs = search needs
 
 put-refused-requires : tie.Need-put-refused-requires
-put-refused-requires c κs = let s = c .before .before .before .before .before .before .before in refused-room (c .before .number-of .result) (length (now (s .args .out))) (omega (arith, c .before .number-of .ok)) (s .pre)
+put-refused-requires c κs = search needs
 
 enum-known-b-2 : tie.Need-enum-known-b-2
 enum-known-b-2 c = search needs
 
 answer-found-requires : tie.Need-answer-found-requires
 answer-found-requires c κs =
-    let s = c .before .before .before .before .before .before in
-    let g = found-good (checkOrder (s .args .p) (s .args .s) (s .args .t)) (classCount (s .args .p) (s .args .s) (s .args .t)) (c .before .before .b2 .given .0 .0) (sym (c .before .before .before .before .bound .ensures) ∙ c .before .before .b2 .given .1) in
-    (g .0, (g .1, s .pre))
+    let g = c .before .before .b2 .given in
+    let b = c .before .before .before .before in
+    let s = b .before .before in
+    let (good, found) = given-good (s .args .p) (s .args .s) (s .args .t) (g .0 .0) (sym (b .bound .ensures .answers) ∙ g .1) in
+    (good, (found, s .pre))
 
 same-length : tie.Need-same-length
 same-length c = search needs
 
 returns : tie.Need-returns
 returns c =
-    let s = c .before .before .before .before .before .before .before .before .before .before in
-    bound-is (s .args .p) (s .args .s) (s .args .t) (sym (c .before .before .before .before .before .before .b .given .1) ∙ c .before .before .before .before .before .before .before .before .bound .ensures)
-    (printed (boundText (Refused (c .before .before .before .before .before .before .b .given .0 .0))) [] tt (puts-is (now (s .args .out)) 0 (ap refusedText (c .before .before .before .before .number-of .ensures)) (c .before .before .put-refused .ensures)))
+    let k = c .before .before .before .before in
+    let g = k .before .before .b .given in
+    let b = k .before .before .before .before in
+    let a = b .before .before .args in
+    let text = puts-is (ap refusedText (k .number-of .ensures)) (c .before .before .put-refused .ensures) in
+    bound-is (a .p) (a .s) (a .t) (sym (g .1) ∙ b .bound .ensures .answers) (printed (boundText (Refused (g .0 .0))) [] tt text)
 
 same-length-2 : tie.Need-same-length-2
 same-length-2 c = search needs
 
 returns-2 : tie.Need-returns-2
 returns-2 c =
-    let s = c .before .before .before .before .before .before .before .before .before in
-    bound-is (s .args .p) (s .args .s) (s .args .t) (sym (c .before .before .before .before .before .b2 .given .1) ∙ c .before .before .before .before .before .before .before .bound .ensures) (c .before .before .answer-found .ensures)
+    let g = c .before .before .before .before .before .b2 .given in
+    let b = c .before .before .before .before .before .before .before in
+    let a = b .before .before .args in
+    bound-is (a .p) (a .s) (a .t) (sym (g .1) ∙ b .bound .ensures .answers) (c .before .before .answer-found .ensures)
 
 pub answer-order-spec : {M : Type 1} → statement M
 answer-order-spec =

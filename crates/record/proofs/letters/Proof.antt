@@ -1,16 +1,19 @@
 -- What was found says whether the record is refused.
 use mathlib.Core.Path.{_≡_, sym, _∙_}
+use mathlib.Core.List.{[]}
+use lib.ListN.{length}
 use denote.Ref.{now}
+use Rattle.grid.proofs.Answers.{cells-good}
 use Rattle.grid.proofs.Tests.{answer-good, answer-refused}
 use Rattle.grid.specs.declared.Check.the-variants.{Good}
-use Rattle.record.specs.Read.{checkRecord}
-use Rattle.record.proofs.Checks.{found-refused, found-record, record-good}
+use Rattle.record.specs.Read.{cellsRead, checkRecord}
+use Rattle.record.proofs.Answers.{cells-refused, record-good}
 use borrow.Author.Needs.{needs}
 use Rattle.record.proofs.letters.Statement.{statement}
 use Rattle.record.proofs.letters.Tie as tie
 
 good : (c : tie.After-enum-told2) → checkRecord (now (c .before .before .before .before .args .file)) ≡ Good
-good c = found-record _ (sym (c .before .before .find-record .ensures) ∙ c .enum-told2 .given .1) .0
+good c = cells-good _ _ _ (sym (c .before .before .find-record .ensures) ∙ c .enum-told2 .given .1) .0
 
 find-record-requires : tie.Need-find-record-requires
 find-record-requires c κs = search needs
@@ -24,7 +27,10 @@ slice-aggregate-result c = search needs
 returns : tie.Need-returns
 returns c =
     let told = c .before in
-    answer-refused _ _ (found-refused _ (sym (told .before .before .find-record .ensures) ∙ told .enum-told .given .1))
+    let call = told .before .before in
+    let f = now (call .before .before .args .file) in
+    let e = cells-refused (checkRecord f) (length (cellsRead f)) (sym (call .find-record .ensures) ∙ told .enum-told .given .1) in
+    record { bytes = answer-refused (λ r. []) _ e }
 
 enum-told-2 : tie.Need-enum-told-2
 enum-told-2 c = search needs
@@ -33,7 +39,7 @@ letters-in-requires : tie.Need-letters-in-requires
 letters-in-requires c κs = record-good _ (good c) .head .whole
 
 returns-2 : tie.Need-returns-2
-returns-2 c = answer-good _ _ (good (c .before)) (c .letters-in .ensures)
+returns-2 c = record { bytes = answer-good _ _ (good (c .before)) (c .letters-in .ensures) }
 
 pub letters-spec : {M : Type 1} → statement M
 letters-spec =

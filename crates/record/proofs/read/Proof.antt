@@ -3,24 +3,26 @@ use borrow.Author.Needs.{needs}
 use borrow.Author.Tests.{le-leb, lt-leb}
 use Prim.Native.Nat.{ℕ, _+_, _*_}
 use mathlib.Core.Path.{_≡_, refl, sym, ap, ap₂, _∙_}
-use mathlib.Core.List.{List, _++_}
+use mathlib.Core.List.{List}
 use native.Mathlib.Omega.{arith}
-use lib.ListN.{length, drop}
+use lib.ListN.{length}
 use lib.Dec.{leb}
 use denote.Ref.{now}
 use Rattle.grid.proofs.Tests.{expect-yes, expect-no, after-good, after-refused, answer-good, answer-refused}
 use Rattle.grid.specs.declared.Cell.{Cell}
-use Rattle.grid.specs.declared.Cells.{Cells}
 use Rattle.grid.specs.declared.Check.the-variants.{Good, Refused}
+use Rattle.grid.specs.declared.Refusal.{Refusal}
 use Rattle.grid.specs.declared.Refusal.the-variants.{ShortBuffer}
-use Rattle.grid.specs.Bytes.{bytes}
-use Rattle.record.specs.declared.Head.{Head}
-use Rattle.record.specs.declared.ReadBack.{ReadBack}
-use Rattle.record.specs.Format.{headLength, largest, walkFrom}
+use Rattle.grid.proofs.Answers.{cells-good}
 use Rattle.list.specs.List.{allOn}
-use Rattle.record.specs.Read.{panelIn, cellsRead, checkRecord, checkRead}
-use Rattle.record.proofs.Laws.{all-on-largest}
-use Rattle.record.proofs.Checks.{GoodRecord, record-good, found-refused, found-record, steps-bound}
+use Rattle.step_letters.specs.Letters.{largestPanel, walkFrom}
+use Rattle.record_head.specs.declared.Head.{Head}
+use Rattle.record_head.specs.Head.{headLength, panelIn}
+use Rattle.record_head.proofs.Heads.{steps-bound}
+use Rattle.record.specs.declared.ReadAnswer.{ReadAnswer}
+use Rattle.record.specs.Read.{withCells, cellsRead, checkRecord, checkRead, Reads}
+use Rattle.record.proofs.Answers.{GoodRecord, record-good, cells-refused, reads}
+use Rattle.record.proofs.Walks.{all-on-largest}
 use Rattle.record.proofs.read.Statement.{statement}
 use Rattle.record.proofs.read.Tie as tie
 
@@ -33,8 +35,12 @@ F c = now (start c .args .file)
 abbrev L : tie.After-known-told2 → List ℕ
 L c = now (start c .args .list)
 
-found : (c : tie.After-known-told2) → (checkRecord (F c) ≡ Good) × (c .before .f2 .given .0 .0 ≡ record { 0 = length (cellsRead (F c)) })
-found c = found-record (F c) (sym (c .before .before .before .find-record .ensures) ∙ c .before .f2 .given .1)
+-- the number of cells that was found
+abbrev N : tie.After-known-told2 → ℕ
+N c = c .before .f2 .given .0 .0 .0
+
+found : (c : tie.After-known-told2) → (checkRecord (F c) ≡ Good) × (length (cellsRead (F c)) ≡ N c)
+found c = cells-good _ _ _ (sym (c .before .before .before .find-record .ensures) ∙ c .before .f2 .given .1)
 
 good : (c : tie.After-known-told2) → GoodRecord (F c)
 good c = record-good (F c) (found c .0)
@@ -43,12 +49,20 @@ abbrev told : tie.After-struct-known → tie.After-known-told2
 told c = c .before .before .before .before
 
 -- the length that the buffer is compared with
-asked : (c : tie.After-struct-known) → leb (2 * length (cellsRead (F (told c)))) (length (L (told c))) ≡ leb (2 * told c .before .f2 .given .0 .0 .0) (length (L (told c)))
-asked c = ap (λ (n : Cells). leb (2 * n .0) (length (L (told c)))) (sym (found (told c) .1))
+asked : (c : tie.After-struct-known) → let at = told c in leb (2 * length (cellsRead (F at))) (length (L at)) ≡ leb (2 * N at) (length (L at))
+asked c = ap (λ (n : ℕ). leb (2 * n) (length (L (told c)))) (found (told c) .1)
+
+-- the head read before the letters
+abbrev head : tie.After-letters-in → tie.After-head-in
+head c = c .before .before .before .before .before
 
 -- the cells written are those of the record
-same : (c : tie.After-letters-in) → walkFrom (c .before .before .before .before .before .head-in .result .entry) (now (c .letters-in .result)) ≡ cellsRead (F (told (c .before .before)))
-same c = ap₂ (λ (h : Head) (l : List ℕ). walkFrom (h .entry) l) (c .before .before .before .before .before .head-in .ensures) (c .letters-in .ensures)
+same : (c : tie.After-letters-in) → walkFrom (head c .head-in .result .entry) (now (c .letters-in .result)) ≡ cellsRead (F (head c .before))
+same c = ap₂ (λ (h : Head) (l : List ℕ). walkFrom (h .entry) l) (head c .head-in .ensures) (c .letters-in .ensures)
+
+-- a refusal leaves the buffer as it was
+refuses : (f list : List ℕ) {r : Refusal} → checkRead f list ≡ Refused r → Reads f list list (ReadAnswer.Refused r)
+refuses f list e = reads f list (answer-refused ReadAnswer.Refused _ e) (answer-refused (λ r. list) _ e)
 
 find-record-requires : tie.Need-find-record-requires
 find-record-requires c κs = search needs
@@ -71,8 +85,7 @@ mul-if1 c = search needs
 returns : tie.Need-returns
 returns c =
     let at = told (c .before) in
-    let e : checkRead (F at) (L at) ≡ Refused ShortBuffer = sym (after-good _ (found at .0) (expect-no _ _ (asked (c .before) ∙ lt-leb _ _ (c .if1 .taken)))) in
-    (answer-refused ReadBack.Refused _ e, answer-refused (λ r. L at) _ e)
+    refuses (F at) (L at) (sym (after-good _ (found at .0) (expect-no _ _ (asked (c .before) ∙ lt-leb _ _ (c .if1 .taken)))))
 
 letters-in-requires : tie.Need-letters-in-requires
 letters-in-requires c κs = good (told (c .before)) .head .whole
@@ -82,8 +95,8 @@ write-cells-requires c κs =
     let at = c .before in
     let f = told (at .before .before) in
     let g = good f in (
-      ap (allOn largest) (same at) ∙ all-on-largest (panelIn (F f)) (cellsRead (F f)) (g .head .panel) (g .cells),
-      omega (arith, ap (λ (n : Cells). n .0) (found f .1), ap length (same at), at .before .if1 .left),
+      ap (allOn largestPanel) (same at) ∙ all-on-largest (panelIn (F f)) (cellsRead (F f)) (g .head .panel) (g .cells),
+      omega (arith, found f .1, ap length (same at), at .before .if1 .left),
     )
 
 cast-t19 : tie.Need-cast-t19
@@ -99,8 +112,9 @@ returns-2 : tie.Need-returns-2
 returns-2 c =
     let call = c .before .before .before in
     let a = call .before .before .before .args in
-    let e = sym (after-refused _ (found-refused (now (a .file)) (sym (call .find-record .ensures) ∙ c .before .f .given .1))) in
-    (answer-refused ReadBack.Refused _ e, answer-refused (λ r. now (a .list)) _ e)
+    let f = now (a .file) in
+    let e = cells-refused (checkRecord f) (length (cellsRead f)) (sym (call .find-record .ensures) ∙ c .before .f .given .1) in
+    refuses f (now (a .list)) (sym (after-refused _ e))
 
 same-length : tie.Need-same-length
 same-length c = search needs
@@ -110,11 +124,12 @@ returns-3 c =
     let call = c .before .before .before in
     let at = call .before .before in
     let f = told (at .before .before) in
-    let h = at .before .before .before .before .before .head-in .ensures in
-    let e : checkRead (F f) (L f) ≡ Good = sym (after-good _ (found f .0) (expect-yes _ _ (asked (at .before .before) ∙ le-leb _ _ (at .before .if1 .left)) refl)) in (
-      answer-good _ _ e (λ i. ReadBack.Found (h i .panel) (found f .1 i) (headLength + h i .steps .0)),
-      answer-good _ _ e (call .write-cells .ensures ∙ ap (λ (w : List Cell). bytes w ++ drop (2 * length w) (L f)) (same at)),
-    )
+    let h = head at .head-in .ensures in
+    let room = expect-yes ShortBuffer _ (asked (at .before .before) ∙ le-leb _ _ (at .before .if1 .left)) refl in
+    let e : checkRead (F f) (L f) ≡ Good = sym (after-good _ (found f .0) room) in
+    reads (F f) (L f)
+    (answer-good _ _ e (λ i. ReadAnswer.Given (h i .panel) (record { 0 = sym (found f .1) i }) (headLength + h i .steps .0)))
+    (answer-good _ _ e (call .write-cells .ensures ∙ ap (λ (w : List Cell). withCells w (L f)) (same at)))
 
 pub read-spec : {M : Type 1} → statement M
 read-spec =

@@ -1,30 +1,29 @@
 -- A list that is not refused has its head and its letters written one after the other, which is the record.
 use borrow.Author.Needs.{needs}
 use borrow.Author.Tests.{le-leb, lt-leb}
-use Prim.Native.Nat.{ℕ, _+_, _≤_}
+use Prim.Native.Nat.{ℕ, _+_, _≤_, _<_}
 use mathlib.Core.Path.{_≡_, refl, sym, ap, _∙_}
 use mathlib.Core.Bool.{true}
-use mathlib.Core.List.{List, _++_, _∷_}
+use mathlib.Core.List.{List, _∷_}
 use native.Mathlib.Omega.{arith}
-use lib.ListN.{length, take, drop}
+use lib.ListN.{length, drop}
 use lib.Dec.{leb}
 use denote.Ref.{now}
-use Rattle.grid.proofs.Facts.{good as is-good-panel, area-small}
-use Rattle.grid.proofs.Tests.{expect-yes, expect-no, after-good, after-refused, answer-good, answer-refused}
-use Rattle.grid.specs.declared.Cell.{Cell}
+use Rattle.grid.proofs.Facts.{good as is-good-panel, area-small, and-parts}
+use Rattle.grid.proofs.Tests.{expect-yes, expect-no, after-good, after-refused}
 use Rattle.grid.specs.declared.Panel.{Panel}
-use Rattle.grid.specs.declared.Check.the-variants.{Good, Refused}
-use Rattle.grid.specs.declared.Refusal.the-variants.{ShortBuffer}
+use Rattle.grid.specs.declared.Check.the-variants.{Good}
 use Rattle.grid.specs.Panel.{onPanel}
 use Rattle.grid.specs.Bytes.{cellsIn}
 use Rattle.list.specs.List.{allOn, cellAt}
 use Rattle.list.proofs.Cells.{length-cells, cells-next}
-use Rattle.record.specs.declared.Written.{Written}
-use Rattle.record.specs.Format.{headLength, headOf, lettersOf, stepsOf}
-use Rattle.record.specs.Write.{checkList, checkWrite, recordLength}
-use Rattle.grid.proofs.Facts.{and-parts}
-use Rattle.record.proofs.Lists.{steps-and-one, record-made}
-use Rattle.record.proofs.Checks.{GoodList, list-good}
+use Rattle.list.specs.Check.{checkList}
+use Rattle.list.proofs.Checks.{GoodList, list-good}
+use Rattle.step_letters.specs.Letters.{stepsOf}
+use Rattle.step_letters.proofs.Lists.{steps-and-one}
+use Rattle.record_head.specs.Head.{headLength}
+use Rattle.record.specs.Write.{recordLength}
+use Rattle.record.proofs.Made.{made, refused}
 use Rattle.record.proofs.write.Statement.{statement}
 use Rattle.record.proofs.write.Tie as tie
 
@@ -65,7 +64,8 @@ first-on c =
     and-parts (onPanel (P c) (cellAt (L c) 0)) (allOn (P c) (cellsIn (drop 2 (L c)))) (sym (ap (allOn (P c)) (split c)) ∙ good c .on) .0
 
 -- the length that the buffer is compared with
-asked : (c : tie.After-steps-of) → leb (recordLength (cellsIn (L (c .before)))) (length (O (c .before))) ≡ leb (headLength + c .steps-of .result .0) (length (O (c .before)))
+asked : (c : tie.After-steps-of) → let at = c .before in
+    leb (recordLength (cellsIn (L at))) (length (O at)) ≡ leb (headLength + c .steps-of .result .0) (length (O at))
 asked c = ap (λ (k : ℕ). leb (headLength + k) (length (O (c .before)))) (sym (counted c))
 
 check-list-requires : tie.Need-check-list-requires
@@ -79,7 +79,7 @@ returns c =
     let call = c .before .before .before in
     let a = call .before .before .before .args in
     let e = sym (after-refused _ (sym (call .check-list .ensures) ∙ c .before .c .given .1)) in
-    (answer-refused Written.Refused _ e, answer-refused (λ r. now (a .out)) _ e)
+    refused (a .p) (now (a .list)) (now (a .out)) e
 
 enum-told : tie.Need-enum-told
 enum-told c = search needs
@@ -100,8 +100,7 @@ returns-2 : tie.Need-returns-2
 returns-2 c =
     let call = c .before .before in
     let at = call .before in
-    let e : checkWrite (P at) (L at) (O at) ≡ Refused ShortBuffer = sym (after-good _ (passed at) (expect-no _ _ (asked call ∙ lt-leb _ _ (c .if1 .taken)))) in
-    (answer-refused Written.Refused _ e, answer-refused (λ r. O at) _ e)
+    refused (P at) (L at) (O at) (sym (after-good _ (passed at) (expect-no _ _ (asked call ∙ lt-leb _ _ (c .if1 .taken)))))
 
 cell-at-requires : tie.Need-cell-at-requires
 cell-at-requires c κs = search needs
@@ -111,7 +110,8 @@ write-head-requires c κs =
     let room = c .before .before in
     let call = room .before .before in
     let at = call .before in
-    (good at .panel, ap (onPanel (P at)) (c .before .cell-at .ensures) ∙ first-on at, omega (arith, few at, call .steps-of .ensures, length-cells (L at)), omega (arith, room .if1 .left))
+    let small : call .steps-of .result .0 < 65536 = omega (arith, few at, call .steps-of .ensures, length-cells (L at)) in
+    (good at .panel, ap (onPanel (P at)) (c .before .cell-at .ensures) ∙ first-on at, small, omega (arith, room .if1 .left))
 
 write-letters-requires : tie.Need-write-letters-requires
 write-letters-requires c κs =
@@ -135,16 +135,8 @@ returns-3 c =
     let room = cell .before in
     let call = room .before .before in
     let at = call .before in
-    let k = call .steps-of .result .0 in
-    let cs = cellsIn (L at) in
-    let e : checkWrite (P at) (L at) (O at) ≡ Good = sym (after-good _ (passed at) (expect-yes _ _ (asked call ∙ le-leb _ _ (room .if1 .left)) refl)) in (
-      answer-good _ _ e (ap (λ (n : ℕ). Written.Bytes (headLength + n)) (counted call)),
-      answer-good _ _ e
-          (letters .write-letters .ensures
-          ∙ ap (λ (o : List ℕ). take headLength o ++ (lettersOf cs ++ drop (recordLength cs) o))
-          (head .write-head .ensures ∙ ap (λ (s : Cell). headOf (P at) s k ++ drop headLength (O at)) (cell .cell-at .ensures))
-          ∙ record-made (P at) cs (cellAt (L at) 0) (cellsIn (drop 2 (L at))) k (O at) (split at) (counted call)),
-    )
+    let e = sym (after-good _ (passed at) (expect-yes _ _ (asked call ∙ le-leb _ _ (room .if1 .left)) refl)) in
+    made e (split at) (counted call) (cell .cell-at .ensures) (head .write-head .ensures) (letters .write-letters .ensures)
 
 pub write-spec : {M : Type 1} → statement M
 write-spec =

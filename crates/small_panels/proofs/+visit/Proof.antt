@@ -27,7 +27,20 @@ visit-below t = and 1 visit-kinds.ps (falls 1 visit-kinds.ps _<_ μ-visit t) vis
 
 -- what the callees ask and ensure
 abbrev claims : ℕ → visit-lts.Claims
-claims t = (free-reads.Asked, free-reads.Learnt, note-reads.Asked, note-reads.Learnt, neighbour-reads.Asked, neighbour-reads.Learnt, with-reads.Asked, with-reads.Learnt, add-reads.Asked, add-reads.Learnt, visit-below t, visit.Post)
+claims t = (
+  free-reads.Asked,
+  free-reads.Learnt,
+  note-reads.Asked,
+  note-reads.Learnt,
+  neighbour-reads.Asked,
+  neighbour-reads.Learnt,
+  with-reads.Asked,
+  with-reads.Learnt,
+  add-reads.Asked,
+  add-reads.Learnt,
+  visit-below t,
+  visit.Post,
+)
 
 abbrev visit-Inv-loop : visit-lts.InvT-loop
 visit-Inv-loop p c set cells left best₀ i₀ best i = (i ≤ 4) × (length best ≡ length best₀)

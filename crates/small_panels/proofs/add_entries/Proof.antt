@@ -1,4 +1,4 @@
--- The measure is what is left of the cells or panels.
+-- The measure is what is left of the cells.
 use Prim.Native.Nat.{_-_, _≤_}
 use borrow.Author.Needs.{needs}
 use Rattle.small_panels.proofs.add_entries.Statement.{statement}

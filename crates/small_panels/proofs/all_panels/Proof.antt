@@ -1,4 +1,4 @@
--- The measure is what is left of the cells or panels.
+-- The measure is what is left of the panels.
 use Prim.Native.Nat.{_-_, _≤_}
 use borrow.Author.Needs.{needs}
 use Rattle.small_panels.proofs.all_panels.Statement.{statement}
@@ -15,6 +15,9 @@ loop-holds c = search needs
 
 nth-requires : tie.Need-nth-requires Inv-loop μ-loop
 nth-requires c κs = search needs
+
+panel-of-requires : tie.Need-panel-of-requires Inv-loop μ-loop
+panel-of-requires c κs = search needs
 
 add-entries-requires : tie.Need-add-entries-requires Inv-loop μ-loop
 add-entries-requires c κs = search needs
@@ -39,6 +42,7 @@ all-panels-spec =
     μ-loop
     loop-holds
     nth-requires
+    panel-of-requires
     add-entries-requires
     add-code
     loop-less

@@ -1,29 +1,34 @@
 -- The invariant: what the numbers from here on make of the line, with those read before, is the line.
 use Prim.Native.Nat.{ℕ, _-_, _≤_}
 use mathlib.Core.Path.{_≡_, refl, ap, _∙_}
+use mathlib.Core.List.{List}
 use native.Mathlib.Omega.{arith}
 use denote.Ref.{now}
 use lib.ListN.{length, drop, length-set}
-use Rattle.order.specs.Line.{lineFeed, lineIn}
-use Rattle.order.proofs.Lines.{lineFrom, reads-none, reads-on, first-none, first-on}
+use Rattle.text.specs.Field.{lineFeed}
+use Rattle.order.specs.Line.{lineIn}
+use Rattle.order.proofs.Lines.{order-made, lineFrom, reads-none, reads-on, first-none, first-on}
 use borrow.Author.Needs.{needs}
 use Rattle.order.proofs.read.read_line.Statement.{statement}
 use Rattle.order.proofs.read.read_line.Tie as tie
 
 abbrev Inv-loop : tie.InvT-loop
-Inv-loop input first₀ from₀ i₀ first from i = (i ≤ 5) × ((length first ≡ 5) × (lineFrom (5 - i) first (drop from input) ≡ lineIn input))
+Inv-loop input first₀ from₀ i₀ first from i = (i ≤ 5) × (length first ≡ 5) × (lineFrom (5 - i) first (drop from input) ≡ lineIn input)
 
 abbrev μ-loop : tie.MeasureT-loop
 μ-loop input first₀ from₀ i₀ first from i = 5 - i
 
+abbrev bytes : tie.At-loop Inv-loop μ-loop → List ℕ
+bytes c = now (c .before .before .args .input)
+
 -- behind the loop
-whole : (c : tie.At-loop Inv-loop μ-loop) → 5 ≤ c .loop .i → lineFrom 0 (c .loop .first) (drop (c .loop .from) (now (c .before .before .args .input))) ≡ lineIn (now (c .before .before .args .input))
+whole : (c : tie.At-loop Inv-loop μ-loop) → 5 ≤ c .loop .i → lineFrom 0 (c .loop .first) (drop (c .loop .from) (bytes c)) ≡ lineIn (bytes c)
 whole c h =
     let e : 0 ≡ 5 - c .loop .i = omega (arith, h) in
-    ap (λ (k : ℕ). lineFrom k (c .loop .first) (drop (c .loop .from) (now (c .before .before .args .input)))) e ∙ c .loop .inv .1 .1
+    ap (λ (k : ℕ). lineFrom k (c .loop .first) (drop (c .loop .from) (bytes c))) e ∙ c .loop .inv .2
 
 loop-holds : tie.Need-loop-holds Inv-loop μ-loop
-loop-holds c = (omega arith, (refl, refl))
+loop-holds c = (omega arith, refl, refl)
 
 read-field-requires : tie.Need-read-field-requires Inv-loop μ-loop
 read-field-requires c κs = search needs
@@ -36,9 +41,10 @@ enum-told c = search needs
 
 returns : tie.Need-returns Inv-loop μ-loop
 returns c =
-    let at-loop = c .before .before .before .before in
-    first-none (now (at-loop .before .before .args .input)) (at-loop .loop .first) (at-loop .loop .from) (at-loop .loop .i) (c .before .before .before .loop-test .taken) (c .before .before .read-field .ensures) (c .enum-told .given .1)
-    ∙ at-loop .loop .inv .1 .1
+    let f = c .before .before in
+    let d = f .before .before in
+    let l = d .loop in
+    first-none (bytes d) (l .first) (l .from) (l .i) (f .before .loop-test .taken) (f .read-field .ensures) (c .enum-told .given .1) ∙ l .inv .2
 
 mul-first : tie.Need-mul-first Inv-loop μ-loop
 mul-first c = search needs
@@ -54,14 +60,11 @@ loop-less c = search needs
 
 loop-again : tie.Need-loop-again Inv-loop μ-loop
 loop-again c =
-    let at-loop = c .before .before .before .before .before in (
-      omega (arith, c .before .before .before .before .loop-test .taken),
-      (
-        length-set (at-loop .loop .first) (at-loop .loop .i) _ ∙ at-loop .loop .inv .1 .0,
-        first-on (now (at-loop .before .before .args .input)) (at-loop .loop .first) (at-loop .loop .from) (at-loop .loop .i) (c .before .before .before .before .loop-test .taken) (c .before .before .before .read-field .ensures) _ _ (c .before .a .given .1)
-            ∙ at-loop .loop .inv .1 .1,
-      ),
-    )
+    let f = c .before .before .before in
+    let d = f .before .before in
+    let l = d .loop in
+    let on = first-on (bytes d) (l .first) (l .from) (l .i) (f .before .loop-test .taken) (f .read-field .ensures) in
+    (omega (arith, f .before .loop-test .taken), length-set (l .first) (l .i) _ ∙ l .inv .1, on _ _ (c .before .a .given .1) ∙ l .inv .2)
 
 read-field-requires-2 : tie.Need-read-field-requires-2 Inv-loop μ-loop
 read-field-requires-2 c κs = search needs
@@ -74,15 +77,18 @@ enum-told-2 c = search needs
 
 returns-2 : tie.Need-returns-2 Inv-loop μ-loop
 returns-2 c =
-    let at-loop = c .before .before .before .before in
-    reads-none (now (at-loop .before .before .args .input)) lineFeed (at-loop .loop .from) _ (c .before .before .read-field2 .ensures) (c .enum-told2 .given .1)
-    ∙ whole at-loop (c .before .before .before .loop-test .left)
+    let f = c .before .before in
+    let d = f .before .before in
+    reads-none (bytes d) lineFeed (d .loop .from) _ (f .read-field2 .ensures) (c .enum-told2 .given .1) ∙ whole d (f .before .loop-test .left)
 
-array-read-t16 : tie.Need-array-read-t16 Inv-loop μ-loop
-array-read-t16 c = search needs
+array-read-panel-of : tie.Need-array-read-panel-of Inv-loop μ-loop
+array-read-panel-of c = search needs
 
-array-read-t19 : tie.Need-array-read-t19 Inv-loop μ-loop
-array-read-t19 c = search needs
+array-read-panel-of-2 : tie.Need-array-read-panel-of-2 Inv-loop μ-loop
+array-read-panel-of-2 c = search needs
+
+panel-of-requires : tie.Need-panel-of-requires Inv-loop μ-loop
+panel-of-requires c κs = search needs
 
 array-read-t23 : tie.Need-array-read-t23 Inv-loop μ-loop
 array-read-t23 c = search needs
@@ -95,9 +101,11 @@ array-read-t30 c = search needs
 
 returns-3 : tie.Need-returns-3 Inv-loop μ-loop
 returns-3 c =
-    let at-loop = c .before .before .before .before .before in
-    reads-on (now (at-loop .before .before .args .input)) lineFeed (at-loop .loop .from) _ (c .before .before .before .read-field2 .ensures) (c .before .b .given .1)
-    ∙ whole at-loop (c .before .before .before .before .loop-test .left)
+    let f = c .before .before .before .before in
+    let d = f .before .before in
+    order-made (d .loop .first) _ (c .panel-of .ensures)
+    ∙ reads-on (bytes d) lineFeed (d .loop .from) _ (f .read-field2 .ensures) (c .before .before .b .given .1)
+    ∙ whole d (f .before .loop-test .left)
 
 pub read-line-spec : {M : Type 1} → statement M
 read-line-spec =
@@ -119,8 +127,9 @@ read-line-spec =
     enum-known-b
     enum-told-2
     returns-2
-    array-read-t16
-    array-read-t19
+    array-read-panel-of
+    array-read-panel-of-2
+    panel-of-requires
     array-read-t23
     array-read-t26
     array-read-t30

@@ -1,0 +1,45 @@
+-- Answers behind a check: what is read off an answer is read off each of its cases; the promises of one value; and that an answer which is no
+-- refusal comes of a good check.
+use Prim.Native.Nat.{ℕ}
+use mathlib.Core.Path.{_≡_, refl, ap, _∙_}
+use mathlib.Core.Logic.{_≢_}
+use Rattle.grid.specs.declared.Refusal.{Refusal}
+use Rattle.grid.specs.declared.Cells.{Cells}
+use Rattle.grid.specs.declared.Check.{Check}
+use Rattle.grid.specs.declared.Check.the-variants.{Good, Refused}
+use Rattle.grid.specs.declared.CellsAnswer.{CellsAnswer}
+use Rattle.grid.specs.declared.CellsAnswer.the-variants as cells
+use Rattle.grid.specs.declared.BytesAnswer.{BytesAnswer}
+use Rattle.grid.specs.Check.{answer}
+use Rattle.grid.specs.Answer.{cellsAnswer, cellsValues, GivesCells, bytesAnswer, bytesValues, GivesBytes}
+use Rattle.grid.proofs.Facts.{clash}
+
+pub through {ℓ κ} : {A : Type ℓ} {B : Type κ} (f : A → B) (c : Check) (g : Refusal → A) (a : A)
+    → f (answer c g a) ≡ answer c (λ r. f (g r)) (f a)
+through f Good g a = refl
+through f (Refused r) g a = refl
+
+pub gives-cells : (c : Check) (k : ℕ) {r : CellsAnswer} → r ≡ cellsAnswer c k → GivesCells c k r
+gives-cells c k e = record {
+  answers = e;
+  number = ap (λ (a : CellsAnswer). (cellsValues a) .refusal) e ∙ through (λ (a : CellsAnswer). (cellsValues a) .refusal) c _ _;
+  count = ap (λ (a : CellsAnswer). (cellsValues a) .cells .0) e ∙ through (λ (a : CellsAnswer). (cellsValues a) .cells .0) c _ _;
+}
+
+pub gives-bytes : (c : Check) (k : ℕ) {r : BytesAnswer} → r ≡ bytesAnswer c k → GivesBytes c k r
+gives-bytes c k e = record {
+  answers = e;
+  number = ap (λ (a : BytesAnswer). (bytesValues a) .refusal) e ∙ through (λ (a : BytesAnswer). (bytesValues a) .refusal) c _ _;
+  bytes = ap (λ (a : BytesAnswer). (bytesValues a) .bytes) e ∙ through (λ (a : BytesAnswer). (bytesValues a) .bytes) c _ _;
+}
+
+-- an answer that is none of the refusals is the one behind a good check
+pub behind-good {ℓ} : {A : Type ℓ} (c : Check) (f : Refusal → A) (a z : A) → ((r : Refusal) → f r ≢ z)
+    → answer c f a ≡ z → (c ≡ Good) × (a ≡ z)
+behind-good Good f a z n e = (refl, e)
+behind-good (Refused r) f a z n e = absurd (n r e)
+
+pub cells-good : (c : Check) (n : ℕ) (k : Cells) → cellsAnswer c n ≡ cells.Given k → (c ≡ Good) × (n ≡ k .0)
+cells-good c n k e =
+    let (g, h) = behind-good c cells.Refused (cells.Given (record { 0 = n })) (cells.Given k) (λ r q. clash (cc)) e in
+    (g, ap (λ (a : CellsAnswer). (cellsValues a) .cells .0) h)

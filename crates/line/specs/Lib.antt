@@ -1,0 +1,3 @@
+pub mod Rectangle
+pub mod Line
+pub mod Drawn

@@ -1,0 +1,88 @@
+-- Document 01, "Record": the head of a record, byte by byte, and "Read": what is refused of it, in order.
+use Prim.Native.Nat.{ℕ, _+_, _-_, _*_, _/_, _%_}
+use mathlib.Core.Bool.{Bool, _&&_}
+use mathlib.Core.List.{List, [], _∷_}
+use lib.ListN.{length, take, drop, getD}
+use lib.Dec.{leb, eqb}
+use Rattle.grid.specs.declared.Panel.{Panel}
+use Rattle.grid.specs.declared.Cell.{Cell}
+use Rattle.grid.specs.declared.Check.{Check}
+use Rattle.grid.specs.declared.Check.the-variants.{Good}
+use Rattle.grid.specs.declared.Refusal.the-variants.{Mark, CutShort, StepCount}
+use Rattle.grid.specs.Panel.{panel, upTo, area}
+use Rattle.grid.specs.Check.{checkEntry, expect, after}
+use Rattle.list.specs.List.{cellAt}
+use Rattle.record_head.specs.declared.Head.{Head}
+
+-- the mark (a magic number), 46 54: its first byte
+abbrev pub markHigh : ℕ
+markHigh = 0x46
+
+-- its second byte
+abbrev pub markLow : ℕ
+markLow = 0x54
+
+-- the head: mark, m, n, entry x, entry y, the step count in two bytes, high first
+abbrev pub headOf : Panel → Cell → ℕ → List ℕ
+headOf p s k = markHigh ∷ markLow ∷ p .width ∷ p .height ∷ s .x ∷ s .y ∷ (k / 256) ∷ (k % 256) ∷ []
+
+-- where its fields stand, each behind the one before: m
+abbrev pub widthAt : ℕ
+widthAt = 2
+
+-- n
+abbrev pub heightAt : ℕ
+heightAt = widthAt + 1
+
+-- entry x, and entry y behind it
+abbrev pub entryAt : ℕ
+entryAt = heightAt + 1
+
+-- the high byte of the step count, and the low one behind it
+abbrev pub stepsAt : ℕ
+stepsAt = entryAt + 2
+
+-- the letters: as many bytes as the head has
+abbrev pub headLength : ℕ
+headLength = stepsAt + 2
+
+-- the file begins with the mark
+unfoldable pub hasMark : List ℕ → Bool
+hasMark f = leb 2 (length f) && (eqb (getD f 0 0) markHigh && eqb (getD f 1 0) markLow)
+
+-- the number in two bytes from i on, high first
+abbrev pub pairAt : List ℕ → ℕ → ℕ
+pairAt f i = 256 * getD f i 0 + getD f (i + 1) 0
+
+-- the panel in the head
+abbrev pub panelIn : List ℕ → Panel
+panelIn f = panel (getD f widthAt 0) (getD f heightAt 0)
+
+-- the entry in the head
+abbrev pub entryIn : List ℕ → Cell
+entryIn f = cellAt f entryAt
+
+-- the step count in the head
+abbrev pub stepsIn : List ℕ → ℕ
+stepsIn f = pairAt f stepsAt
+
+-- the three together
+abbrev pub headIn : List ℕ → Head
+headIn f = record { panel = panelIn f; entry = entryIn f; steps = record { 0 = stepsIn f } }
+
+-- the letters, from the head's end for the step count
+abbrev pub lettersIn : List ℕ → List ℕ
+lettersIn f = take (stepsIn f) (drop headLength f)
+
+-- a step count of 1 to mn − 1
+unfoldable pub goodSteps : Panel → ℕ → Bool
+goodSteps p k = upTo (area p - 1) k
+
+-- 14, the mark is missing or other; 17, fewer than 8 bytes; 1; 2; 15, step count 0 or above mn − 1; 17, letters cut short
+abbrev pub checkHead : List ℕ → Check
+checkHead f =
+    expect (hasMark f) Mark
+    (expect (leb headLength (length f)) CutShort
+    (after (checkEntry (panelIn f) (entryIn f))
+    (expect (goodSteps (panelIn f) (stepsIn f)) StepCount
+    (expect (leb (headLength + stepsIn f) (length f)) CutShort Good))))

@@ -1,0 +1,4 @@
+pub mod Places
+pub mod Marks
+pub mod Marking
+pub mod Clean

@@ -1,0 +1,30 @@
+-- Document 01, "Judge": the scratch of a panel, a byte for each of its cells in front and bytes behind that no call touches.
+use Prim.Native.Nat.{ℕ, _+_, _-_, _*_, _≤_}
+use mathlib.Core.Path.{_≡_}
+use mathlib.Core.Bool.{true}
+use mathlib.Core.List.{List, _++_}
+use lib.ListN.{length, take, drop, replicate}
+use Rattle.grid.specs.declared.Panel.{Panel}
+use Rattle.grid.specs.declared.Cell.{Cell}
+use Rattle.grid.specs.Panel.{area, goodPanel}
+use Rattle.grid.specs.Bytes.{cellsIn}
+use Rattle.list.specs.List.{allOn}
+
+-- the place of a cell, row by row
+abbrev pub place : Panel → Cell → ℕ
+place p c = (c .y - 1) * p .width + (c .x - 1)
+
+-- scratch with its first mn bytes 0 and the rest untouched
+abbrev pub cleared : Panel → List ℕ → List ℕ
+cleared p s = replicate (area p) 0 ++ drop (area p) s
+
+-- scratch enough for the panel, and its first mn bytes are 0
+pub record Clean (p : Panel) (s : List ℕ) : Type 0 where
+  pub room : area p ≤ length s
+  pub zeros : take (area p) s ≡ replicate (area p) 0
+
+-- what marking wants: a good panel, a list of cells that are all on it, and clean scratch
+pub record Markable (p : Panel) (list s : List ℕ) : Type 0 where
+  pub panel : goodPanel p ≡ true
+  pub on : allOn p (cellsIn list) ≡ true
+  pub clean : Clean p s

@@ -1,0 +1,4 @@
+pub mod Below
+pub mod Sides
+pub mod Rows
+pub mod Placed

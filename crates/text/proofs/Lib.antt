@@ -1,0 +1,4 @@
+pub mod Decimals
+pub mod Reading
+pub mod Numbers
+pub mod Puts
