@@ -170,7 +170,7 @@ pub fn read(file: &[u8], list: &mut [u8]) -> ReadAnswer
 }
 
 pub fn letters<'a>(file: &'a [u8]) -> &'a [u8]
-    ensures { λ r. ⌜ Lettered (now (file .entry)) (now r) ⌝ }
+    ensures { λ r. ⌜ Lettered (file .entry) r ⌝ }
 {
     let f = find_record(file);
     if let CellsAnswer::Refused(_) = f {

@@ -1,12 +1,14 @@
 -- What was found says whether the record is refused.
-use mathlib.Core.Path.{_≡_, sym, _∙_}
+use mathlib.Core.Path.{_≡_, refl, sym, _∙_}
 use mathlib.Core.List.{[]}
+use native.Mathlib.Omega.{arith}
 use lib.ListN.{length}
 use denote.Ref.{now}
 use Rattle.grid.proofs.Answers.{cells-good}
 use Rattle.grid.proofs.Tests.{answer-good, answer-refused}
 use Rattle.grid.specs.declared.Check.the-variants.{Good}
-use Rattle.record.specs.Read.{cellsRead, checkRecord}
+use Rattle.record_head.specs.Head.{headLength}
+use Rattle.record.specs.Read.{cellsRead, checkRecord, lettersPlace}
 use Rattle.record.proofs.Answers.{cells-refused, record-good}
 use borrow.Author.Needs.{needs}
 use Rattle.record.proofs.letters.Statement.{statement}
@@ -30,7 +32,8 @@ returns c =
     let call = told .before .before in
     let f = now (call .before .before .args .file) in
     let e = cells-refused (checkRecord f) (length (cellsRead f)) (sym (call .find-record .ensures) ∙ told .enum-told .given .1) in
-    record { bytes = answer-refused (λ r. []) _ e }
+    let front : 0 ≡ lettersPlace f = answer-refused (λ r. 0) _ e in
+    record { part = record { bytes = answer-refused (λ r. []) _ e; block = refl; place = omega arith } }
 
 enum-told-2 : tie.Need-enum-told-2
 enum-told-2 c = search needs
@@ -39,7 +42,11 @@ letters-in-requires : tie.Need-letters-in-requires
 letters-in-requires c κs = record-good _ (good c) .head .whole
 
 returns-2 : tie.Need-returns-2
-returns-2 c = record { bytes = answer-good _ _ (good (c .before)) (c .letters-in .ensures) }
+returns-2 c =
+    let h = good (c .before) in
+    let found = c .letters-in .ensures in
+    let behind : headLength ≡ lettersPlace (now (c .before .before .before .before .before .args .file)) = answer-good _ _ h refl in
+    record { part = record { bytes = answer-good _ _ h (found .bytes); block = found .block; place = omega (arith, found .place) } }
 
 pub letters-spec : {M : Type 1} → statement M
 letters-spec =

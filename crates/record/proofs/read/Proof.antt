@@ -58,7 +58,7 @@ head c = c .before .before .before .before .before
 
 -- the cells written are those of the record
 same : (c : tie.After-letters-in) → walkFrom (head c .head-in .result .entry) (now (c .letters-in .result)) ≡ cellsRead (F (head c .before))
-same c = ap₂ (λ (h : Head) (l : List ℕ). walkFrom (h .entry) l) (head c .head-in .ensures) (c .letters-in .ensures)
+same c = ap₂ (λ (h : Head) (l : List ℕ). walkFrom (h .entry) l) (head c .head-in .ensures) (c .letters-in .ensures .bytes)
 
 -- a refusal leaves the buffer as it was
 refuses : (f list : List ℕ) {r : Refusal} → checkRead f list ≡ Refused r → Reads f list list (ReadAnswer.Refused r)
