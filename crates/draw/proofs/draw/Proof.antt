@@ -31,11 +31,7 @@ enum-known-c : tie.Need-enum-known-c
 enum-known-c c = search needs
 
 returns : tie.Need-returns
-returns c =
-    let check = c .before .before .before in
-    let args = check .before .before .args in
-    let e = sym (check .check-order .ensures) ∙ c .before .c .given .1 in
-    record { gives = refused (args .p) (args .entry) (args .exit) (length (args .buf .now)) e; leaves = refl }
+returns c = record { gives = refused _ _ _ _ (cc); leaves = refl }
 
 enum-told : tie.Need-enum-told
 enum-told c = search needs

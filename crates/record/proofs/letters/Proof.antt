@@ -9,7 +9,7 @@ use Rattle.grid.proofs.Tests.{answer-good, answer-refused}
 use Rattle.grid.specs.declared.Check.the-variants.{Good}
 use Rattle.record_head.specs.Head.{headLength}
 use Rattle.record.specs.Read.{cellsRead, checkRecord, lettersPlace}
-use Rattle.record.proofs.Answers.{cells-refused, record-good}
+use Rattle.record.proofs.Answers.{record-refused, record-good}
 use borrow.Author.Needs.{needs}
 use Rattle.record.proofs.letters.Statement.{statement}
 use Rattle.record.proofs.letters.Tie as tie
@@ -23,17 +23,23 @@ find-record-requires c κs = search needs
 enum-told : tie.Need-enum-told
 enum-told c = search needs
 
-slice-aggregate-result : tie.Need-slice-aggregate-result
-slice-aggregate-result c = search needs
+sub-result : tie.Need-sub-result
+sub-result c = search needs
+
+part-result-start : tie.Need-part-result-start
+part-result-start c = search needs
+
+part-result-end : tie.Need-part-result-end
+part-result-end c = search needs
 
 returns : tie.Need-returns
 returns c =
     let told = c .before in
     let call = told .before .before in
     let f = now (call .before .before .args .file) in
-    let e = cells-refused (checkRecord f) (length (cellsRead f)) (sym (call .find-record .ensures) ∙ told .enum-told .given .1) in
+    let e = record-refused f (sym (call .find-record .ensures) ∙ told .enum-told .given .1) in
     let front : 0 ≡ lettersPlace f = answer-refused (λ r. 0) _ e in
-    record { part = record { bytes = answer-refused (λ r. []) _ e; block = refl; place = omega arith } }
+    record { part = record { place = omega arith; block = refl; bytes = answer-refused (λ r. []) _ e } }
 
 enum-told-2 : tie.Need-enum-told-2
 enum-told-2 c = search needs
@@ -54,7 +60,9 @@ letters-spec =
     (tie.spec
     find-record-requires
     enum-told
-    slice-aggregate-result
+    sub-result
+    part-result-start
+    part-result-end
     returns
     enum-told-2
     letters-in-requires
