@@ -1,6 +1,7 @@
 -- What was found says whether the record is refused.
+use Prim.Native.Nat.{ℕ}
 use mathlib.Core.Path.{_≡_, refl, sym, _∙_}
-use mathlib.Core.List.{[]}
+use mathlib.Core.List.{List, [], _∷_}
 use native.Mathlib.Omega.{arith}
 use lib.ListN.{length}
 use denote.Ref.{now}
@@ -32,6 +33,10 @@ part-result-start c = search needs
 part-result-end : tie.Need-part-result-end
 part-result-end c = search needs
 
+none-left : (l : List ℕ) → length l ≡ 0 → l ≡ []
+none-left [] e = refl
+none-left (x ∷ l) e = absurd (omega arith)
+
 returns : tie.Need-returns
 returns c =
     let told = c .before in
@@ -39,7 +44,7 @@ returns c =
     let f = now (call .before .before .args .file) in
     let e = record-refused f (sym (call .find-record .ensures) ∙ told .enum-told .given .1) in
     let front : 0 ≡ lettersPlace f = answer-refused (λ r. 0) _ e in
-    record { part = record { place = omega arith; block = refl; bytes = answer-refused (λ r. []) _ e } }
+    record { part = record { bytes = none-left _ (omega arith) ∙ answer-refused (λ r. []) _ e; block = refl; place = omega arith } }
 
 enum-told-2 : tie.Need-enum-told-2
 enum-told-2 c = search needs
