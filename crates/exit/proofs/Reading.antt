@@ -1,10 +1,11 @@
 -- The first cell in reading order that passes a test. A row goes by its cells and the panel by its rows: one law serves both.
-use Prim.Native.Nat.{ℕ, zero, suc, _+_, _-_, _≤_, _<_}
+use Prim.Native.Nat.{ℕ, zero, suc, _+_, _≤_, _<_}
 use mathlib.Core.Path.{_≡_, refl, sym, ap, _∙_, subst}
+use mathlib.Core.Logic.{_≢_}
 use mathlib.Core.Bool.{Bool, true, false, cond, _||_, or-false}
-use mathlib.Core.List.{List, [], _∷_, _++_, append-nil, append-assoc}
+use mathlib.Core.List.{List, [], _∷_, _++_}
 use native.Mathlib.Omega.{arith}
-use native.Mathlib.Nat.{add-suc, suc-add, add-zero, zero-add}
+use native.Mathlib.Decide.{ℕ-discrete}
 use Rattle.grid.specs.declared.Panel.{Panel}
 use Rattle.grid.specs.declared.Cell.{Cell}
 use Rattle.grid.specs.Panel.{OnPanel, cell}
@@ -26,34 +27,27 @@ abbrev orElse : Search → Search → Search
 orElse (At c) q = At c
 orElse Nothing q = q
 
--- nothing of two: nothing of each
-neither : (r q : Search) → Nothing ≡ orElse r q → (Nothing ≡ r) × (Nothing ≡ q)
-neither (At c) q e = clash (cc)
-neither Nothing q e = (refl, e)
+-- k is x, or another
+at-other : (Q : ℕ → Type 0) (x k : ℕ) → Q x → (x ≢ k → Q k) → Q k
+at-other Q x k a b = elim (ℕ-discrete x k) [ yes q ↦ subst Q q a | no q ↦ b q ]
 
-not-found : (r : Search) → found r ≡ false → Nothing ≡ r
-not-found (At c) e = clash (cc)
-not-found Nothing e = refl
-
--- a property of the cells of each list is one of the cells of all
-all-run : {P : Cell → Type 0} (g : ℕ → List Cell) (x k : ℕ) → ((z : ℕ) → x ≤ z → z < x + k → All P (g z)) → All P (run g x k)
-all-run g x zero h = All.none
-all-run g x (suc k) h = all-append (h x (omega arith) (omega arith)) (all-run g (suc x) k (λ z l u. h z (omega arith) (omega arith)))
+-- what holds of no cell, of two lists joined and of each list of a run holds of the run
+each : (Q : List Cell → Type 0) → Q [] → ((l k : List Cell) → Q l → Q k → Q (l ++ k))
+    → (g : ℕ → List Cell) (s n : ℕ) → ((k : ℕ) → s ≤ k → k < s + n → Q (g k)) → Q (run g s n)
+each Q o j g s zero h = o
+each Q o j g s (suc n) h = j (g s) _ (h s (omega arith) (omega arith)) (each Q o j g (suc s) n (λ k l u. h k (omega arith) (omega arith)))
 
 pub all-on : (p : Panel) → All (OnPanel p) (reading p)
-all-on p = all-run (row p) 1 (p .height) (λ y t b. all-run _ 1 (p .width) (λ x l r.
-    All.more (record { left = l; right = omega arith; top = t; bottom = omega arith }) All.none))
+all-on p =
+    let all = each (All (OnPanel p)) All.none (λ l k. all-append) in
+    all (row p) 1 (p .height) (λ y t b. all (λ x. cell x y ∷ []) 1 (p .width) (λ x l r.
+      All.more (record { left = l; right = omega arith; top = t; bottom = omega arith }) All.none))
 
 module _ (f : Cell → Bool) where
   pub any-first : (l : List Cell) {r : Search} → r ≡ first f l → any f l ≡ found r
   any-first [] e = ap found (sym e)
   any-first (c ∷ l) {r} e =
       (elim (f c) as (λ b. r ≡ cond b (At c) (first f l) → (b || any f l) ≡ found r) [ true ↦ λ q. ap found (sym q) | false ↦ λ q. any-first l q ]) e
-
-  first-append : (l k : List Cell) → first f (l ++ k) ≡ orElse (first f l) (first f k)
-  first-append [] k = refl
-  first-append (c ∷ l) k =
-      elim (f c) as (λ b. cond b (At c) (first f (l ++ k)) ≡ orElse (cond b (At c) (first f l)) (first f k)) [ true ↦ refl | false ↦ first-append l k ]
 
   -- the cell found passes the test, and has what every cell of the list has
   pub first-at : {P : Cell → Type 0} {l : List Cell} (c : Cell) → All P l → At c ≡ first f l → (f c ≡ true) × P c
@@ -64,55 +58,51 @@ module _ (f : Cell → Bool) where
       (λ n q. first-at c a q)
       e
 
-  -- the lists of the numbers from 1
-  module _ (g : ℕ → List Cell) where
-    run-parts : (x k j : ℕ) → run g x (k + j) ≡ run g x k ++ run g (x + k) j
-    run-parts x zero j = ap (run g x) (zero-add j) ∙ ap (λ (z : ℕ). run g z j) (sym (add-zero x))
-    run-parts x (suc k) j =
-        ap (run g x) (suc-add k j)
-        ∙ ap (λ (l : List Cell). g x ++ l) (run-parts (suc x) k j ∙ ap (λ (z : ℕ). run g (suc x) k ++ run g z j) (suc-add x k ∙ sym (add-suc x k)))
-        ∙ sym (append-assoc (g x) (run g (suc x) k) (run g (x + suc k) j))
+  joined : (l k : List Cell) → orElse (first f l) (first f k) ≡ first f (l ++ k)
+  joined [] k = refl
+  joined (c ∷ l) k = elim (f c) as (λ b. orElse (cond b (At c) (first f l)) (first f k) ≡ cond b (At c) (first f (l ++ k))) [ true ↦ refl | false ↦ joined l k ]
 
-    -- those up to k, or else those behind
-    split : (k m : ℕ) → k ≤ m → first f (run g 1 m) ≡ orElse (first f (run g 1 k)) (first f (run g (1 + k) (m - k)))
-    split k m h =
-        let parts : m ≡ k + (m - k) = omega arith in
-        ap (λ (n : ℕ). first f (run g 1 n)) parts ∙ ap (first f) (run-parts 1 k (m - k)) ∙ first-append (run g 1 k) _
+  parted : (l k : List Cell) → any f (l ++ k) ≡ false → (any f l ≡ false) × (any f k ≡ false)
+  parted [] k e = (refl, e)
+  parted (c ∷ l) k e =
+      (elim (f c) as (λ b. (b || any f (l ++ k)) ≡ false → ((b || any f l) ≡ false) × (any f k ≡ false)) [ true ↦ λ q. clash (cc) | false ↦ λ q. parted l k q ]) e
 
-    -- those before x, or else that of x
-    last : (x : ℕ) → 1 ≤ x → first f (run g 1 x) ≡ orElse (first f (run g 1 (x - 1))) (first f (g x))
-    last x low =
-        let here : 1 + (x - 1) ≡ x = omega arith in
-        let one : x - (x - 1) ≡ 1 = omega arith in
-        split (x - 1) x (omega arith) ∙ ap (orElse (first f (run g 1 (x - 1)))) ((λ i. first f (run g (here i) (one i))) ∙ ap (first f) (append-nil (g x)))
+  module _ (g : ℕ → List Cell) (x : ℕ) where
+    none-at : (s n : ℕ) → s ≤ x → x < s + n → any f (run g s n) ≡ false → any f (g x) ≡ false
+    none-at s zero l u e = absurd (omega arith)
+    none-at s (suc n) l u e =
+        let (here, behind) = parted (g s) (run g (suc s) n) e in
+        at-other (λ (k : ℕ). any f (g k) ≡ false) s x here (λ q. none-at (suc s) n (omega arith) (omega arith) behind)
 
-    -- nothing of all: nothing of the first k
-    less : (k m : ℕ) → k ≤ m → Nothing ≡ first f (run g 1 m) → Nothing ≡ first f (run g 1 k)
-    less k m h e = neither _ _ (e ∙ split k m h) .0
-
-    none-at : (x m : ℕ) → 1 ≤ x → x ≤ m → any f (run g 1 m) ≡ false → any f (g x) ≡ false
-    none-at x m low h e =
-        let none = less x m h (not-found _ (sym (any-first (run g 1 m) refl) ∙ e)) in
-        any-first (g x) (neither (first f (run g 1 (x - 1))) _ (none ∙ last x low) .1)
+    -- nothing before x: what is found there is the first
+    first-of : (c : Cell) → At c ≡ first f (g x) → (s n : ℕ) → s ≤ x → x < s + n
+        → ((k : ℕ) → s ≤ k → k < x → Nothing ≡ first f (g k)) → At c ≡ first f (run g s n)
+    first-of c e s zero l u h = absurd (omega arith)
+    first-of c e s (suc n) l u h =
+        let behind = first f (run g (suc s) n) in
+        at-other (λ (k : ℕ). At c ≡ orElse (first f (g k)) behind) x s (ap (λ (r : Search). orElse r behind) e) (λ q.
+          let none = h s (omega arith) (omega arith) in
+          let later = first-of c e (suc s) n (omega arith) (omega arith) (λ k m v. h k (omega arith) v) in
+          λ i. orElse (none i) (later i))
+        ∙ joined (g s) (run g (suc s) n)
 
   -- a test that no cell passes fails at each cell of the panel
   pub any-none : (p : Panel) (c : Cell) → OnPanel p c → any f (reading p) ≡ false → f c ≡ false
-  any-none p c o e = sym (or-false (f c)) ∙ none-at _ (c .x) (p .width) (o .left) (o .right) (none-at (row p) (c .y) (p .height) (o .top) (o .bottom) e)
+  any-none p c o e =
+      let none = none-at (row p) (c .y) 1 (p .height) (o .top) (omega arith) e in
+      sym (or-false (f c)) ∙ none-at (λ x. cell x (c .y) ∷ []) (c .x) 1 (p .width) (o .left) (omega arith) none
 
 -- no cell of the lists before x passes the test
 pub record NoneBefore (f : Cell → Bool) (g : ℕ → List Cell) (x : ℕ) : Type 0 where
   pub low : 1 ≤ x
-  pub none : Nothing ≡ first f (run g 1 (x - 1))
+  pub none : (k : ℕ) → 1 ≤ k → k < x → Nothing ≡ first f (g k)
 
 module _ {f : Cell → Bool} {g : ℕ → List Cell} {x : ℕ} (b : NoneBefore f g x) where
-  up-to : {r : Search} → r ≡ first f (g x) → r ≡ first f (run g 1 x)
-  up-to e = (λ i. orElse (b .none i) (e i)) ∙ sym (last f g x (b .low))
-
   pub hit : (m : ℕ) {c : Cell} → x ≤ m → At c ≡ first f (g x) → At c ≡ first f (run g 1 m)
-  hit m h e = ap (λ (r : Search). orElse r (first f (run g (1 + x) (m - x)))) (up-to e) ∙ sym (split f g x m h)
+  hit m h e = first-of f g x _ e 1 m (b .low) (omega arith) (b .none)
 
   pub miss : {z : ℕ} → Nothing ≡ first f (g x) → 1 ≤ z → z ≤ x + 1 → NoneBefore f g z
-  miss {z} e l h = record { low = l; none = less f g (z - 1) x (omega arith) (up-to e) }
+  miss e l h = record { low = l; none = λ k m u. at-other (λ (k : ℕ). Nothing ≡ first f (g k)) x k e (λ q. b .none k m (omega arith)) }
 
   pub all-passed : (m : ℕ) → m < x → Nothing ≡ first f (run g 1 m)
-  all-passed m h = less f g m (x - 1) (omega arith) (b .none)
+  all-passed m h = each (λ l. Nothing ≡ first f l) refl (λ l k p q. (λ i. orElse (p i) (q i)) ∙ joined f l k) g 1 m (λ k l u. b .none k l (omega arith))

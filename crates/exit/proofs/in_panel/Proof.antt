@@ -15,7 +15,7 @@ abbrev μ-loop : tie.MeasureT-loop
 μ-loop p entry wanted height y₀ y = height + 1 - y
 
 loop-holds : tie.Need-loop-holds Inv-loop μ-loop
-loop-holds c = record { low = omega arith; none = refl }
+loop-holds c = record { low = omega arith; none = λ k l u. absurd (omega arith) }
 
 in-row-requires : tie.Need-in-row-requires Inv-loop μ-loop
 in-row-requires c κs = let a = c .before .before .pre in (a .0, (a .1, (c .before .loop .inv .low, omega arith)))
