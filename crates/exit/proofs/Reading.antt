@@ -98,8 +98,8 @@ pub record NoneBefore (f : Cell → Bool) (g : ℕ → List Cell) (x : ℕ) : Ty
   pub none : (k : ℕ) → 1 ≤ k → k < x → Nothing ≡ first f (g k)
 
 module _ {f : Cell → Bool} {g : ℕ → List Cell} {x : ℕ} (b : NoneBefore f g x) where
-  pub hit : (m : ℕ) {c : Cell} → x ≤ m → At c ≡ first f (g x) → At c ≡ first f (run g 1 m)
-  hit m h e = first-of f g x _ e 1 m (b .low) (omega arith) (b .none)
+  pub hit : (m : ℕ) {k : ℕ} {c : Cell} → At c ≡ first f (g k) → 1 ≤ k → k ≤ m → k ≤ x → At c ≡ first f (run g 1 m)
+  hit m {k} e l h u = first-of f g k _ e 1 m l (omega arith) (λ j a v. b .none j a (omega arith))
 
   pub miss : {z : ℕ} → Nothing ≡ first f (g x) → 1 ≤ z → z ≤ x + 1 → NoneBefore f g z
   miss e l h = record { low = l; none = λ k m u. at-other (λ (k : ℕ). Nothing ≡ first f (g k)) x k e (λ q. b .none k m (omega arith)) }

@@ -18,7 +18,7 @@ loop-holds : tie.Need-loop-holds Inv-loop μ-loop
 loop-holds c = record { low = omega arith; none = λ k l u. absurd (omega arith) }
 
 in-row-requires : tie.Need-in-row-requires Inv-loop μ-loop
-in-row-requires c κs = let a = c .before .before .pre in (a .0, (a .1, (c .before .loop .inv .low, omega arith)))
+in-row-requires c κs = let a = c .before .before .pre in (a .0, (a .1, (omega arith, omega arith)))
 
 enum-known-row : tie.Need-enum-known-row Inv-loop μ-loop
 enum-known-row c = search needs
@@ -26,7 +26,8 @@ enum-known-row c = search needs
 returns : tie.Need-returns Inv-loop μ-loop
 returns c =
     let a = c .before .before .before .before .before in
-    hit (a .loop .inv) (a .before .args .p .height) (omega arith) (sym (c .before .row .given .1) ∙ c .before .before .before .in-row .ensures)
+    let e = sym (c .before .row .given .1) ∙ c .before .before .before .in-row .ensures in
+    hit (a .loop .inv) (a .before .args .p .height) e (omega arith) (omega arith) (omega arith)
 
 enum-told : tie.Need-enum-told Inv-loop μ-loop
 enum-told c = search needs

@@ -27,7 +27,7 @@ is-fit-requires c κs =
 returns : tie.Need-returns Inv-loop μ-loop
 returns c =
     let f = sym (c .before .is-fit .ensures) ∙ c .if1 .taken in
-    hit (c .before .before .before .loop .inv) _ (c .before .before .loop-test .taken) (cond-yes _ _ f refl)
+    hit (c .before .before .before .loop .inv) (c .before .before .before .before .args .p .width) (cond-yes _ _ f refl) (omega arith) (omega arith) (omega arith)
 
 add-x : tie.Need-add-x Inv-loop μ-loop
 add-x c = let g = c .before .before .before .before .pre .0 .widest in omega arith
