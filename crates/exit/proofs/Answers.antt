@@ -7,9 +7,8 @@ use Rattle.grid.specs.declared.Refusal.the-variants.{NoExit}
 use Rattle.grid.specs.declared.Check.{Check}
 use Rattle.grid.specs.declared.Check.the-variants.{Good}
 use Rattle.grid.specs.Panel.{cell}
-use Rattle.grid.specs.Check.{answer, checkEntry}
+use Rattle.grid.specs.Check.{expect, after, checkEntry, answer}
 use Rattle.grid.specs.Answer.{refusalNumber}
-use Rattle.grid.proofs.Tests.{expect-yes, expect-no, after-good}
 use Rattle.grid.proofs.Passed.{good-entry}
 use Rattle.exit.specs.declared.ExitAnswer.{ExitAnswer}
 use Rattle.exit.specs.declared.ExitAnswer.the-variants.{Refused, Given}
@@ -38,6 +37,6 @@ answerOf Nothing = Refused NoExit
 
 pub searched : (p : Panel) (s : Cell) (w : Cells) (r : Search) → checkEntry p s ≡ Good → r ≡ first (fits p s w) (reading p) → Exits p s w (answerOf r)
 searched p s w (At c) g e =
-    let f = first-at (fits p s w) c (all-on p) e in
-    exits p s w (Given c) (sym (after-good _ g (expect-yes _ _ (any-first (fits p s w) (reading p) e) refl)), fit-exit p s w c (good-entry p s g .1) (f .1) (f .0))
-searched p s w Nothing g e = exits p s w (Refused NoExit) (sym (after-good _ g (expect-no _ _ (any-first (fits p s w) (reading p) e))))
+    let (fit, on) = first-at (fits p s w) c (all-on p) e in
+    exits p s w (Given c) ((λ i. after (g i) (expect (any-first (fits p s w) (reading p) e i) NoExit Good)), fit-exit p s w c (good-entry p s g .1) on fit)
+searched p s w Nothing g e = exits p s w (Refused NoExit) (λ i. after (g i) (expect (any-first (fits p s w) (reading p) e i) NoExit Good))

@@ -1,7 +1,6 @@
 -- The first cell in reading order that passes a test. A row goes by its cells and the panel by its rows: one law serves both.
 use Prim.Native.Nat.{ℕ, zero, suc, _+_, _≤_, _<_}
 use mathlib.Core.Path.{_≡_, refl, sym, ap, _∙_, subst}
-use mathlib.Core.Logic.{_≢_}
 use mathlib.Core.Bool.{Bool, true, false, cond, _||_, or-false}
 use mathlib.Core.List.{List, [], _∷_, _++_}
 use native.Mathlib.Omega.{arith}
@@ -28,7 +27,7 @@ orElse (At c) q = At c
 orElse Nothing q = q
 
 -- k is x, or another
-at-other : (Q : ℕ → Type 0) (x k : ℕ) → Q x → (x ≢ k → Q k) → Q k
+at-other : (Q : ℕ → Type 0) (x k : ℕ) → Q x → (¬ (x ≡ k) → Q k) → Q k
 at-other Q x k a b = elim (ℕ-discrete x k) [ yes q ↦ subst Q q a | no q ↦ b q ]
 
 -- what holds of no cell, of two lists joined and of each list of a run holds of the run
@@ -37,11 +36,17 @@ each : (Q : List Cell → Type 0) → Q [] → ((l k : List Cell) → Q l → Q 
 each Q o j g s zero h = o
 each Q o j g s (suc n) h = j (g s) _ (h s (omega arith) (omega arith)) (each Q o j g (suc s) n (λ k l u. h k (omega arith) (omega arith)))
 
+-- what holds with the list of x in front, and stays with the lists before x in front, holds of a run over x
+over : (Q : List Cell → Type 0) (g : ℕ → List Cell) (x : ℕ) → ((l : List Cell) → Q (g x ++ l)) → ((k : ℕ) (l : List Cell) → 1 ≤ k → k < x → Q l → Q (g k ++ l))
+    → (s n : ℕ) → 1 ≤ s → s ≤ x → x < s + n → Q (run g s n)
+over Q g x o j s zero a l u = absurd (omega arith)
+over Q g x o j s (suc n) a l u =
+    at-other (λ (k : ℕ). Q (g k ++ run g (suc s) n)) x s (o _) (λ q. j s _ a (omega arith) (over Q g x o j (suc s) n (omega arith) (omega arith) (omega arith)))
+
 pub all-on : (p : Panel) → All (OnPanel p) (reading p)
 all-on p =
     let all = each (All (OnPanel p)) All.none (λ l k. all-append) in
-    all (row p) 1 (p .height) (λ y t b. all (λ x. cell x y ∷ []) 1 (p .width) (λ x l r.
-      All.more (record { left = l; right = omega arith; top = t; bottom = omega arith }) All.none))
+    all (row p) 1 (p .height) (λ y t b. all _ 1 (p .width) (λ x l r. All.more (record { left = l; right = omega arith; top = t; bottom = omega arith }) All.none))
 
 module _ (f : Cell → Bool) where
   pub any-first : (l : List Cell) {r : Search} → r ≡ first f l → any f l ≡ found r
@@ -58,6 +63,7 @@ module _ (f : Cell → Bool) where
       (λ n q. first-at c a q)
       e
 
+  -- two lists joined: the second decides where nothing of the first passes
   joined : (l k : List Cell) → orElse (first f l) (first f k) ≡ first f (l ++ k)
   joined [] k = refl
   joined (c ∷ l) k = elim (f c) as (λ b. orElse (cond b (At c) (first f l)) (first f k) ≡ cond b (At c) (first f (l ++ k))) [ true ↦ refl | false ↦ joined l k ]
@@ -67,30 +73,16 @@ module _ (f : Cell → Bool) where
   parted (c ∷ l) k e =
       (elim (f c) as (λ b. (b || any f (l ++ k)) ≡ false → ((b || any f l) ≡ false) × (any f k ≡ false)) [ true ↦ λ q. clash (cc) | false ↦ λ q. parted l k q ]) e
 
-  module _ (g : ℕ → List Cell) (x : ℕ) where
-    none-at : (s n : ℕ) → s ≤ x → x < s + n → any f (run g s n) ≡ false → any f (g x) ≡ false
-    none-at s zero l u e = absurd (omega arith)
-    none-at s (suc n) l u e =
-        let (here, behind) = parted (g s) (run g (suc s) n) e in
-        at-other (λ (k : ℕ). any f (g k) ≡ false) s x here (λ q. none-at (suc s) n (omega arith) (omega arith) behind)
-
-    -- nothing before x: what is found there is the first
-    first-of : (c : Cell) → At c ≡ first f (g x) → (s n : ℕ) → s ≤ x → x < s + n
-        → ((k : ℕ) → s ≤ k → k < x → Nothing ≡ first f (g k)) → At c ≡ first f (run g s n)
-    first-of c e s zero l u h = absurd (omega arith)
-    first-of c e s (suc n) l u h =
-        let behind = first f (run g (suc s) n) in
-        at-other (λ (k : ℕ). At c ≡ orElse (first f (g k)) behind) x s (ap (λ (r : Search). orElse r behind) e) (λ q.
-          let none = h s (omega arith) (omega arith) in
-          let later = first-of c e (suc s) n (omega arith) (omega arith) (λ k m v. h k (omega arith) v) in
-          λ i. orElse (none i) (later i))
-        ∙ joined (g s) (run g (suc s) n)
+  none-at : (g : ℕ → List Cell) (x m : ℕ) → 1 ≤ x → x ≤ m → any f (run g 1 m) ≡ false → any f (g x) ≡ false
+  none-at g x m l u =
+      over (λ (k : List Cell). any f k ≡ false → any f (g x) ≡ false) g x (λ k e. parted (g x) k e .0) (λ j k a h r e. r (parted (g j) k e .1))
+      1 m (omega arith) l (omega arith)
 
   -- a test that no cell passes fails at each cell of the panel
   pub any-none : (p : Panel) (c : Cell) → OnPanel p c → any f (reading p) ≡ false → f c ≡ false
   any-none p c o e =
-      let none = none-at (row p) (c .y) 1 (p .height) (o .top) (omega arith) e in
-      sym (or-false (f c)) ∙ none-at (λ x. cell x (c .y) ∷ []) (c .x) 1 (p .width) (o .left) (omega arith) none
+      let none = none-at (row p) (c .y) (p .height) (o .top) (o .bottom) e in
+      sym (or-false (f c)) ∙ none-at (λ x. cell x (c .y) ∷ []) (c .x) (p .width) (o .left) (o .right) none
 
 -- no cell of the lists before x passes the test
 pub record NoneBefore (f : Cell → Bool) (g : ℕ → List Cell) (x : ℕ) : Type 0 where
@@ -99,7 +91,11 @@ pub record NoneBefore (f : Cell → Bool) (g : ℕ → List Cell) (x : ℕ) : Ty
 
 module _ {f : Cell → Bool} {g : ℕ → List Cell} {x : ℕ} (b : NoneBefore f g x) where
   pub hit : (m : ℕ) {k : ℕ} {c : Cell} → At c ≡ first f (g k) → 1 ≤ k → k ≤ m → k ≤ x → At c ≡ first f (run g 1 m)
-  hit m {k} e l h u = first-of f g k _ e 1 m l (omega arith) (λ j a v. b .none j a (omega arith))
+  hit m {k} {c} e l h u =
+      over (λ (l : List Cell). At c ≡ first f l) g k
+      (λ l. ap (λ (r : Search). orElse r (first f l)) e ∙ joined f (g k) l)
+      (λ j l a v q. let none = b .none j a (omega arith) in (λ i. orElse (none i) (q i)) ∙ joined f (g j) l)
+      1 m (omega arith) l (omega arith)
 
   pub miss : {z : ℕ} → Nothing ≡ first f (g x) → 1 ≤ z → z ≤ x + 1 → NoneBefore f g z
   miss e l h = record { low = l; none = λ k m u. at-other (λ (k : ℕ). Nothing ≡ first f (g k)) x k e (λ q. b .none k m (omega arith)) }

@@ -1,6 +1,6 @@
 -- `exit::in_panel` meets its contract: no cell of the rows before y fits.
 use Prim.Native.Nat.{_+_, _-_}
-use mathlib.Core.Path.{refl, sym, _∙_}
+use mathlib.Core.Path.{sym, _∙_}
 use native.Mathlib.Omega.{arith}
 use borrow.Author.Needs.{needs}
 use Rattle.exit.specs.Exit.{fits, row}
