@@ -21,11 +21,6 @@ abbrev pub found : Search → Bool
 found (At c) = true
 found Nothing = false
 
--- what one search finds, or else another
-abbrev orElse : Search → Search → Search
-orElse (At c) q = At c
-orElse Nothing q = q
-
 -- k is x, or another
 at-other : (Q : ℕ → Type 0) (x k : ℕ) → Q x → (¬ (x ≡ k) → Q k) → Q k
 at-other Q x k a b = elim (ℕ-discrete x k) [ yes q ↦ subst Q q a | no q ↦ b q ]
@@ -63,10 +58,15 @@ module _ (f : Cell → Bool) where
       (λ n q. first-at c a q)
       e
 
-  -- two lists joined: the second decides where nothing of the first passes
-  joined : (l k : List Cell) → orElse (first f l) (first f k) ≡ first f (l ++ k)
-  joined [] k = refl
-  joined (c ∷ l) k = elim (f c) as (λ b. orElse (cond b (At c) (first f l)) (first f k) ≡ cond b (At c) (first f (l ++ k))) [ true ↦ refl | false ↦ joined l k ]
+  -- two lists joined: what is found in the first; what is found in the second, where nothing of the first passes
+  kept : (l k : List Cell) {c : Cell} → At c ≡ first f l → At c ≡ first f (l ++ k)
+  kept [] k e = clash (cc)
+  kept (d ∷ l) k {c} e = (elim (f d) as (λ b. At c ≡ cond b (At d) (first f l) → At c ≡ cond b (At d) (first f (l ++ k))) [ true ↦ λ q. q | false ↦ λ q. kept l k q ]) e
+
+  past : (l k : List Cell) {r : Search} → Nothing ≡ first f l → r ≡ first f k → r ≡ first f (l ++ k)
+  past [] k e h = h
+  past (c ∷ l) k {r} e h =
+      (elim (f c) as (λ b. Nothing ≡ cond b (At c) (first f l) → r ≡ cond b (At c) (first f (l ++ k))) [ true ↦ λ q. clash (cc) | false ↦ λ q. past l k q h ]) e
 
   parted : (l k : List Cell) → any f (l ++ k) ≡ false → (any f l ≡ false) × (any f k ≡ false)
   parted [] k e = (refl, e)
@@ -92,13 +92,11 @@ pub record NoneBefore (f : Cell → Bool) (g : ℕ → List Cell) (x : ℕ) : Ty
 module _ {f : Cell → Bool} {g : ℕ → List Cell} {x : ℕ} (b : NoneBefore f g x) where
   pub hit : (m : ℕ) {k : ℕ} {c : Cell} → At c ≡ first f (g k) → 1 ≤ k → k ≤ m → k ≤ x → At c ≡ first f (run g 1 m)
   hit m {k} {c} e l h u =
-      over (λ (l : List Cell). At c ≡ first f l) g k
-      (λ l. ap (λ (r : Search). orElse r (first f l)) e ∙ joined f (g k) l)
-      (λ j l a v q. let none = b .none j a (omega arith) in (λ i. orElse (none i) (q i)) ∙ joined f (g j) l)
+      over (λ (z : List Cell). At c ≡ first f z) g k (λ z. kept f (g k) z e) (λ j z a v q. past f (g j) z (b .none j a (omega arith)) q)
       1 m (omega arith) l (omega arith)
 
   pub miss : {z : ℕ} → Nothing ≡ first f (g x) → 1 ≤ z → z ≤ x + 1 → NoneBefore f g z
   miss e l h = record { low = l; none = λ k m u. at-other (λ (k : ℕ). Nothing ≡ first f (g k)) x k e (λ q. b .none k m (omega arith)) }
 
   pub all-passed : (m : ℕ) → m < x → Nothing ≡ first f (run g 1 m)
-  all-passed m h = each (λ l. Nothing ≡ first f l) refl (λ l k p q. (λ i. orElse (p i) (q i)) ∙ joined f l k) g 1 m (λ k l u. b .none k l (omega arith))
+  all-passed m h = each (λ l. Nothing ≡ first f l) refl (λ l k e q. past f l k e q) g 1 m (λ k l u. b .none k l (omega arith))
