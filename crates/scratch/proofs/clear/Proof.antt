@@ -34,8 +34,8 @@ loop-less c = omega arith
 loop-again : tie.Need-loop-again Inv-loop μ-loop
 loop-again c =
     let l = c .before .loop in
-    let filled = ap (λ (s : List ℕ). set s (l .at) 0) (l .atnv .0) ∙ fill-more (l .at) 0 _ (omega arith) in
-    (filled, omega arith, length-set (l .scratch) (l .at) 0 ∙ l .atnv .2)
+    let filled = ap (λ (s : List ℕ). set s (l .at) 0) (l .inv .0) ∙ fill-more (l .at) 0 _ (omega arith) in
+    (filled, omega arith, length-set (l .scratch) (l .at) 0 ∙ l .inv .2)
 
 same-length : tie.Need-same-length Inv-loop μ-loop
 same-length c = c .before .loop .inv .2
@@ -44,8 +44,8 @@ returns : tie.Need-returns Inv-loop μ-loop
 returns c =
     let l = c .before .loop in
     let s = c .before .before .before .before .args in
-    let e = le-antisymm (l .atnv .1) (c .loop-test .left) ∙ c .before .before .area-of .ensures in
-    l .atnv .0 ∙ ap (λ (j : ℕ). replicate j 0 ++ drop j (s .scratch .now)) e
+    let e = le-antisymm (l .inv .1) (c .loop-test .left) ∙ c .before .before .area-of .ensures in
+    l .inv .0 ∙ ap (λ (j : ℕ). replicate j 0 ++ drop j (s .scratch .now)) e
 
 pub clear-spec : {M : Type 1} → statement M
 clear-spec =
