@@ -295,7 +295,8 @@ square-f3 {p} {s} {t} q = go (eqb (p .height) 3) refl _
 decided-square : {p : Panel} {s t : Cell} → Square p s t → p .height ≢ 2 → decided p s t ≡ byColour p s t
 decided-square {p} {s} {t} q n = decided-by-colour p s t (square-f1 q) (not-f2 p s t n) (square-f3 q)
 
-square-class : (p : Panel) (s t : Cell) → p .width ≡ p .height → p .height ≢ 2 → OnPanel p s → OnPanel p t → s ≢ t → classCount p s t ≡ byColour p s t
+square-class : (p : Panel) (s t : Cell) → p .width ≡ p .height → p .height ≢ 2 → OnPanel p s → OnPanel p t → s ≢ t
+    → classCount p s t ≡ byColour p s t
 square-class p s t e two a b n =
     wide-class p s t (omega arith)
     ∙ by-name (λ (r : ClassCount). r ≡ byColour p s t) p s t (omega arith) a b n

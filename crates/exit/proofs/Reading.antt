@@ -32,7 +32,8 @@ each Q o j g s zero h = o
 each Q o j g s (suc n) h = j (g s) _ (h s (omega arith) (omega arith)) (each Q o j g (suc s) n (λ k l u. h k (omega arith) (omega arith)))
 
 -- what holds with the list of x in front, and stays with the lists before x in front, holds of a run over x
-over : (Q : List Cell → Type 0) (g : ℕ → List Cell) (x : ℕ) → ((l : List Cell) → Q (g x ++ l)) → ((k : ℕ) (l : List Cell) → 1 ≤ k → k < x → Q l → Q (g k ++ l))
+over : (Q : List Cell → Type 0) (g : ℕ → List Cell) (x : ℕ) → ((l : List Cell) → Q (g x ++ l))
+    → ((k : ℕ) (l : List Cell) → 1 ≤ k → k < x → Q l → Q (g k ++ l))
     → (s n : ℕ) → 1 ≤ s → s ≤ x → x < s + n → Q (run g s n)
 over Q g x o j s zero a l u = absurd (omega arith)
 over Q g x o j s (suc n) a l u =
@@ -61,17 +62,21 @@ module _ (f : Cell → Bool) where
   -- two lists joined: what is found in the first; what is found in the second, where nothing of the first passes
   kept : (l k : List Cell) {c : Cell} → At c ≡ first f l → At c ≡ first f (l ++ k)
   kept [] k e = clash (cc)
-  kept (d ∷ l) k {c} e = (elim (f d) as (λ b. At c ≡ cond b (At d) (first f l) → At c ≡ cond b (At d) (first f (l ++ k))) [ true ↦ λ q. q | false ↦ λ q. kept l k q ]) e
+  kept (d ∷ l) k {c} e =
+      (elim (f d) as (λ b. At c ≡ cond b (At d) (first f l) → At c ≡ cond b (At d) (first f (l ++ k)))
+      [ true ↦ λ q. q | false ↦ λ q. kept l k q ]) e
 
   past : (l k : List Cell) {r : Search} → Nothing ≡ first f l → r ≡ first f k → r ≡ first f (l ++ k)
   past [] k e h = h
   past (c ∷ l) k {r} e h =
-      (elim (f c) as (λ b. Nothing ≡ cond b (At c) (first f l) → r ≡ cond b (At c) (first f (l ++ k))) [ true ↦ λ q. clash (cc) | false ↦ λ q. past l k q h ]) e
+      (elim (f c) as (λ b. Nothing ≡ cond b (At c) (first f l) → r ≡ cond b (At c) (first f (l ++ k)))
+      [ true ↦ λ q. clash (cc) | false ↦ λ q. past l k q h ]) e
 
   parted : (l k : List Cell) → any f (l ++ k) ≡ false → (any f l ≡ false) × (any f k ≡ false)
   parted [] k e = (refl, e)
   parted (c ∷ l) k e =
-      (elim (f c) as (λ b. (b || any f (l ++ k)) ≡ false → ((b || any f l) ≡ false) × (any f k ≡ false)) [ true ↦ λ q. clash (cc) | false ↦ λ q. parted l k q ]) e
+      (elim (f c) as (λ b. (b || any f (l ++ k)) ≡ false → ((b || any f l) ≡ false) × (any f k ≡ false))
+      [ true ↦ λ q. clash (cc) | false ↦ λ q. parted l k q ]) e
 
   none-at : (g : ℕ → List Cell) (x m : ℕ) → 1 ≤ x → x ≤ m → any f (run g 1 m) ≡ false → any f (g x) ≡ false
   none-at g x m l u =
