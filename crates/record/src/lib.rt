@@ -178,6 +178,7 @@ pub fn letters<'a>(file: &'a [u8]) -> &'a [u8]
 {
     let f = find_record(file);
     if let CellsAnswer::Refused(_) = f {
+        // The empty stretch at the front.
         let front = 0;
         return &file[front..front];
     }
