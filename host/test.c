@@ -1,14 +1,24 @@
 /* Tests the three calls from C: the table of orders, the cases that are only run, and hostile numbers.
- * Every buffer stands between canary bytes, and is allocated for the one call, so that the address
- * sanitizer sees a byte too far as well. */
+ *
+ * The archive is not compiled with the sanitizers, so they see the code of this file only. What the calls
+ * do is seen by fences: every buffer that a call gets stands against a page that may be neither read nor
+ * written, and a byte too far, read or written, stops the test. A buffer touches one fence at a time, so
+ * each call with a buffer is made twice, with the first byte right behind the front fence and with the
+ * last byte right before the rear one; both must give the same answer and the same content. The bytes
+ * between the fences that are not the buffer hold canaries, which are looked at after the call. Judge's
+ * list may only be read. An empty buffer points into the fence, and is null in a third call. */
+
+#define _DEFAULT_SOURCE /* MAP_ANONYMOUS */
 
 #include "foil.h"
 
 #include <stdio.h>
 #include <stdlib.h>
 #include <string.h>
+#include <sys/mman.h>
+#include <unistd.h>
 
-enum { GUARD = 64, CANARY = 0xC5, OLD = 0x3A };
+enum { CANARY = 0xC5, OLD = 0x3A };
 
 static unsigned long checks, faults;
 
@@ -32,74 +42,121 @@ static uint64_t answer(uint32_t refusal, uint32_t class, uint32_t count)
     return (uint64_t)refusal << 32 | (uint64_t)class << 24 | count;
 }
 
-/* A buffer of `size` bytes of OLD between two guards. */
-struct guarded {
-    uint8_t *whole, *bytes;
+/* Bytes that are open, between two fences; CANARY wherever no buffer stands. */
+struct region {
+    uint8_t *open;
     size_t size;
 };
 
-static struct guarded guarded(size_t size)
+static struct region for_draw, for_list, for_scratch;
+
+/* Where in its region a buffer stands. NOWHERE: as FRONT, but null if it has no bytes. */
+enum side { FRONT, REAR, NOWHERE, SIDES };
+
+/* A region with room for the largest buffer here: every cell of the largest panel, and some bytes more. */
+static struct region fenced(void)
 {
-    struct guarded g = {malloc(size + 2 * GUARD), NULL, size};
-    if (g.whole == NULL)
-        abort();
-    g.bytes = g.whole + GUARD;
-    memset(g.whole, CANARY, size + 2 * GUARD);
-    memset(g.bytes, OLD, size);
-    return g;
+    size_t page = (size_t)sysconf(_SC_PAGESIZE);
+    size_t size = (FOIL_MAX_BYTES / page + 2) * page;
+    uint8_t *whole = mmap(NULL, size + 2 * page, PROT_NONE, MAP_PRIVATE | MAP_ANONYMOUS, -1, 0);
+    if (whole == MAP_FAILED || mprotect(whole + page, size, PROT_READ | PROT_WRITE) != 0) {
+        perror("test.c: fences");
+        exit(1);
+    }
+    memset(whole + page, CANARY, size);
+    return (struct region){whole + page, size};
 }
 
 static int all(const uint8_t *at, size_t size, uint8_t byte)
 {
-    for (size_t i = 0; i < size; i++)
-        if (at[i] != byte)
-            return 0;
-    return 1;
+    return size == 0 || (at[0] == byte && memcmp(at, at + 1, size - 1) == 0);
 }
 
-/* Whether the canaries live; the buffer is freed. */
-static int release(struct guarded g)
+/* A buffer of `size` bytes against a fence; of no bytes: in the fence itself, or null. */
+static uint8_t *place(struct region r, enum side side, size_t size)
 {
-    int ok = all(g.whole, GUARD, CANARY) && all(g.bytes + g.size, GUARD, CANARY);
-    free(g.whole);
+    if (size > r.size)
+        abort();
+    if (side == REAR)
+        return r.open + r.size - size;
+    if (size > 0)
+        return r.open;
+    return side == FRONT ? r.open - 1 : NULL;
+}
+
+/* The sides to try: null too where a buffer may be that. */
+static enum side sides(int some_empty)
+{
+    return some_empty ? SIDES : NOWHERE;
+}
+
+/* Whether the canaries beside a buffer live; the buffer is taken away. */
+static int lift(struct region r, enum side side, size_t size)
+{
+    uint8_t *rest = side == REAR ? r.open : r.open + size;
+    int ok = all(rest, r.size - size, CANARY);
+    memset(r.open, CANARY, r.size);
     return ok;
 }
 
-/* A buffer with no guard: the sanitizer's own red zones begin at its ends. */
-static uint8_t *bare(size_t size)
+static void protect(struct region r, int protection)
 {
-    uint8_t *at = malloc(size > 0 ? size : 1);
-    if (at == NULL)
+    if (mprotect(r.open, r.size, protection) != 0)
         abort();
-    memset(at, OLD, size);
-    return at;
 }
 
+/* What the last `draw` left in its buffer. */
+static uint8_t drawn[2 * FOIL_MAX_BYTES];
+
+/* Draws into a buffer of `room` bytes, at both fences, and looks at what is left of it. */
 static uint64_t draw(struct order o, size_t room)
 {
-    struct guarded g = guarded(room);
-    uint64_t got = foil_draw(SIX(o), g.bytes, room);
-    size_t used = 2 * (size_t)foil_count_in(got);
-    EXPECT(used <= room);
-    EXPECT(all(g.bytes + used, room - used, OLD));
-    EXPECT(release(g));
-    return got;
+    uint64_t first = 0;
+    for (enum side side = FRONT; side < sides(room == 0); side++) {
+        uint8_t *at = place(for_draw, side, room);
+        if (room > 0)
+            memset(at, OLD, room);
+        uint64_t got = foil_draw(SIX(o), at, room);
+        if (side == FRONT) {
+            first = got;
+            if (room > 0)
+                memcpy(drawn, at, room);
+        }
+        EXPECT(got == first);
+        EXPECT(room == 0 || memcmp(drawn, at, room) == 0);
+        size_t used = 2 * (size_t)foil_count_in(got);
+        EXPECT(used <= room && all(drawn + used, room - used, OLD));
+        EXPECT(lift(for_draw, side, room));
+    }
+    return first;
 }
 
-/* Judges with scratch of `room` bytes and looks at what is left of it. */
+/* Judges a list with scratch of `room` bytes, at both fences, and looks at what is left of the two. */
 static uint64_t judge(struct order o, const uint8_t *list, size_t size, size_t room)
 {
-    struct guarded l = guarded(size), g = guarded(room);
-    memcpy(l.bytes, list, size);
-    uint64_t got = foil_judge(SIX(o), l.bytes, size, g.bytes, room);
-    uint32_t refusal = foil_refusal_in(got);
-    size_t cleared = refusal == FOIL_OK || refusal >= FOIL_CELL_OFF ? (size_t)o.m * o.n : 0;
-    EXPECT(cleared <= room);
-    EXPECT(all(g.bytes, cleared, 0) && all(g.bytes + cleared, room - cleared, OLD));
-    EXPECT(memcmp(l.bytes, list, size) == 0);
-    EXPECT(release(l));
-    EXPECT(release(g));
-    return got;
+    uint64_t first = 0;
+    for (enum side side = FRONT; side < sides(size == 0 || room == 0); side++) {
+        uint8_t *bytes = place(for_list, side, size), *scratch = place(for_scratch, side, room);
+        if (size > 0)
+            memcpy(bytes, list, size);
+        if (room > 0)
+            memset(scratch, OLD, room);
+        protect(for_list, PROT_READ);
+        uint64_t got = foil_judge(SIX(o), bytes, size, scratch, room);
+        protect(for_list, PROT_READ | PROT_WRITE);
+        if (side == FRONT)
+            first = got;
+        EXPECT(got == first);
+        uint32_t refusal = foil_refusal_in(got);
+        size_t cleared = refusal == FOIL_OK || refusal >= FOIL_CELL_OFF ? (size_t)o.m * o.n : 0;
+        EXPECT(cleared <= room);
+        if (cleared <= room && room > 0)
+            EXPECT(all(scratch, cleared, 0) && all(scratch + cleared, room - cleared, OLD));
+        EXPECT(size == 0 || memcmp(bytes, list, size) == 0);
+        EXPECT(lift(for_list, side, size));
+        EXPECT(lift(for_scratch, side, room));
+    }
+    return first;
 }
 
 /* An order that is not refused: the three calls agree with class and count. */
@@ -107,24 +164,21 @@ static void good(struct order o, uint32_t class, uint32_t count)
 {
     size_t enough = 2 * (size_t)count, area = (size_t)o.m * o.n;
     EXPECT(foil_bound(SIX(o)) == answer(0, class, count));
-    EXPECT(draw(o, enough) == answer(0, 0, count));
     EXPECT(draw(o, enough + 33) == answer(0, 0, count));
     EXPECT(draw(o, enough - 1) == answer(FOIL_SHORT_BUFFER, 0, 0));
-    EXPECT(foil_draw(SIX(o), NULL, 0) == answer(FOIL_SHORT_BUFFER, 0, 0));
+    EXPECT(draw(o, 0) == answer(FOIL_SHORT_BUFFER, 0, 0));
+    EXPECT(draw(o, enough) == answer(0, 0, count));
 
-    uint8_t *track = bare(enough), *scratch = bare(area);
-    EXPECT(foil_draw(SIX(o), track, enough) == answer(0, 0, count));
-    EXPECT(foil_judge(SIX(o), track, enough, scratch, area) == answer(0, 0, count));
-    EXPECT(judge(o, track, enough, area + 17) == answer(0, 0, count));
-    EXPECT(judge(o, track, enough, area - 1) == answer(FOIL_SHORT_BUFFER, 0, 0));
-    EXPECT(judge(o, track, enough - 1, area) == answer(FOIL_LIST_LENGTH, 0, 0));
-    EXPECT(judge(o, track, enough - 2, area) == answer(FOIL_WRONG_ENDS, 0, 0));
-    EXPECT(foil_judge(SIX(o), NULL, 0, NULL, 0) == answer(FOIL_LIST_LENGTH, 0, 0));
-    EXPECT(foil_judge(SIX(o), track, enough, NULL, 0) == answer(FOIL_SHORT_BUFFER, 0, 0));
-    track[enough - 1] = 0;
-    EXPECT(judge(o, track, enough, area) == answer(FOIL_CELL_OFF, 0, 0));
-    free(track);
-    free(scratch);
+    EXPECT(judge(o, drawn, enough, area) == answer(0, 0, count));
+    EXPECT(judge(o, drawn, enough, area + 17) == answer(0, 0, count));
+    EXPECT(judge(o, drawn, enough, area - 1) == answer(FOIL_SHORT_BUFFER, 0, 0));
+    EXPECT(judge(o, drawn, enough - 1, area) == answer(FOIL_LIST_LENGTH, 0, 0));
+    EXPECT(judge(o, drawn, enough - 2, area) == answer(FOIL_WRONG_ENDS, 0, 0));
+    EXPECT(judge(o, drawn, 0, 0) == answer(FOIL_LIST_LENGTH, 0, 0));
+    EXPECT(judge(o, drawn, 0, area) == answer(FOIL_LIST_LENGTH, 0, 0));
+    EXPECT(judge(o, drawn, enough, 0) == answer(FOIL_SHORT_BUFFER, 0, 0));
+    drawn[enough - 1] = 0;
+    EXPECT(judge(o, drawn, enough, area) == answer(FOIL_CELL_OFF, 0, 0));
 }
 
 /* An order that every call refuses alike. */
@@ -134,12 +188,9 @@ static void bad(struct order o, uint32_t refusal)
     uint64_t refused = answer(refusal, 0, 0);
     EXPECT(foil_bound(SIX(o)) == refused);
     EXPECT(draw(o, 64) == refused);
-    EXPECT(foil_draw(SIX(o), NULL, 0) == refused);
-    struct guarded g = guarded(64);
-    EXPECT(foil_judge(SIX(o), list, sizeof list, g.bytes, g.size) == refused);
-    EXPECT(all(g.bytes, g.size, OLD));
-    EXPECT(foil_judge(SIX(o), NULL, 0, NULL, 0) == refused);
-    EXPECT(release(g));
+    EXPECT(draw(o, 0) == refused);
+    EXPECT(judge(o, list, sizeof list, 64) == refused);
+    EXPECT(judge(o, list, 0, 0) == refused);
 }
 
 static void table(void)
@@ -240,6 +291,9 @@ static void pairs(void)
 
 int main(void)
 {
+    for_draw = fenced();
+    for_list = fenced();
+    for_scratch = fenced();
     table();
     run_only();
     hostile();

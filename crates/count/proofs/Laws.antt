@@ -200,14 +200,22 @@ pub decided-by-colour : (p : Panel) (s t : Cell) → f1 p s t ≡ false → f2 p
 unfolding decided
 decided-by-colour p s t e f g = rw (e, f) (rest-by-colour p s t g)
 
--- more than 3 rows and columns: neither F1, F2* nor F3 fits
+-- F1, F2* and F3 each have their number of rows
+pub not-f1 : (p : Panel) (s t : Cell) → p .height ≢ 1 → f1 p s t ≡ false
+unfolding f1
+not-f1 p s t n = sym (and-no _ (ne-eqb (p .height) 1 n))
+
+pub not-f2 : (p : Panel) (s t : Cell) → p .height ≢ 2 → f2 p s t ≡ false
+unfolding f2
+not-f2 p s t n = sym (and-no _ (ne-eqb (p .height) 2 n))
+
+pub not-f3 : (p : Panel) (s t : Cell) → p .height ≢ 3 → f3 p s t ≡ false
+unfolding f3
+not-f3 p s t n = sym (and-no _ (ne-eqb (p .height) 3 n))
+
+-- more than 3 rows and columns: none of them fits
 high : (p : Panel) (s t : Cell) → 3 < p .height → decided p s t ≡ byColour p s t
-unfolding f1 f2 f3
-high p s t h =
-    decided-by-colour p s t
-    (sym (and-no _ (ne-eqb (p .height) 1 (omega arith))))
-    (sym (and-no _ (ne-eqb (p .height) 2 (omega arith))))
-    (sym (and-no _ (ne-eqb (p .height) 3 (omega arith))))
+high p s t h = decided-by-colour p s t (not-f1 p s t (omega arith)) (not-f2 p s t (omega arith)) (not-f3 p s t (omega arith))
 
 high-named : (p : Panel) (s t : Cell) → 3 < p .height → named p s t ≡ byColour p s t
 unfolding named
@@ -233,8 +241,8 @@ unfolding classCount
 tall-class p s t h = sym (cond-yes _ _ (lt-ltb _ _ h) refl)
 
 -- a panel that is no square: the same class and count
-pub turned-class : (p : Panel) (s t : Cell) → p .width ≢ p .height → classCount (turned p) (turnedCell s) (turnedCell t) ≡ classCount p s t
-turned-class p s t n = go (ltb (p .width) (p .height)) refl
+oblong-class : (p : Panel) (s t : Cell) → p .width ≢ p .height → classCount (turned p) (turnedCell s) (turnedCell t) ≡ classCount p s t
+oblong-class p s t n = go (ltb (p .width) (p .height)) refl
   where
     go : (a : Bool) → ltb (p .width) (p .height) ≡ a → classCount (turned p) (turnedCell s) (turnedCell t) ≡ classCount p s t
     go true e =
@@ -273,8 +281,7 @@ square-high {p} {s} {t} q = go (leb 2 (p .height)) refl
     go false e = let h = leb-false 2 (p .height) e in absurd (q .order .differ (cell-eq (omega arith) (omega arith)))
 
 square-f1 : {p : Panel} {s t : Cell} → Square p s t → f1 p s t ≡ false
-unfolding f1
-square-f1 {p} {s} {t} q = sym (and-no _ (ne-eqb (p .height) 1 (omega (arith, square-high q))))
+square-f1 {p} {s} {t} q = not-f1 p s t (omega (arith, square-high q))
 
 square-f3 : {p : Panel} {s t : Cell} → Square p s t → f3 p s t ≡ false
 unfolding f3
@@ -283,6 +290,31 @@ square-f3 {p} {s} {t} q = go (eqb (p .height) 3) refl _
     go : (b : Bool) → eqb (p .height) 3 ≡ b → (r : Bool) → (b && (not (odd (p .width)) && r)) ≡ false
     go true e r = let h = eqb-true (p .height) 3 e in sym (and-no r (ap not (eq-eqb (p .width % 2) 1 (omega (arith, q .same)))))
     go false e r = refl
+
+-- a square of another side than 2: the colours decide
+decided-square : {p : Panel} {s t : Cell} → Square p s t → p .height ≢ 2 → decided p s t ≡ byColour p s t
+decided-square {p} {s} {t} q n = decided-by-colour p s t (square-f1 q) (not-f2 p s t n) (square-f3 q)
+
+square-class : (p : Panel) (s t : Cell) → p .width ≡ p .height → p .height ≢ 2 → OnPanel p s → OnPanel p t → s ≢ t
+    → classCount p s t ≡ byColour p s t
+square-class p s t e two a b n =
+    wide-class p s t (omega arith)
+    ∙ by-name (λ (r : ClassCount). r ≡ byColour p s t) p s t (omega arith) a b n
+    (λ q. decided-square (record { order = q; same = e }) two)
+    (λ q. decided-square (record { order = q; same = e }) two ∙ by-colour-swap p t s)
+
+-- every panel but 2 by 2: the same class and count for the panel turned
+pub turned-class : (p : Panel) (s t : Cell) → OnPanel p s → OnPanel p t → s ≢ t → (p .width ≡ 2 → p .height ≢ 2)
+    → classCount (turned p) (turnedCell s) (turnedCell t) ≡ classCount p s t
+turned-class p s t a b n two = go (eqb (p .width) (p .height)) refl
+  where
+    go : (r : Bool) → eqb (p .width) (p .height) ≡ r → classCount (turned p) (turnedCell s) (turnedCell t) ≡ classCount p s t
+    go true e =
+        let q = eqb-true (p .width) (p .height) e in
+        square-class (turned p) (turnedCell s) (turnedCell t) (sym q) (λ w. two w (sym q ∙ w)) (turn-on a) (turn-on b) (λ r. n (ap turnedCell r))
+        ∙ by-colour-turned p s t
+        ∙ sym (square-class p s t q (λ h. two (q ∙ h) h) a b n)
+    go false e = oblong-class p s t (eqb-false _ _ e)
 
 -- the count by the colours
 abbrev colourCount : Panel → Cell → Cell → ℕ
@@ -351,7 +383,7 @@ turned-count p s t a b n = go (eqb (p .width) (p .height)) refl
         square-count (turned p) (turnedCell s) (turnedCell t) (sym q) (turn-on a) (turn-on b) (λ r. n (ap turnedCell r))
         ∙ ap (λ (r : ClassCount). r .count .0) (by-colour-turned p s t)
         ∙ sym (square-count p s t q a b n)
-    go false e = ap (λ (r : ClassCount). r .count .0) (turned-class p s t (eqb-false _ _ e))
+    go false e = ap (λ (r : ClassCount). r .count .0) (oblong-class p s t (eqb-false _ _ e))
 
 -- ---- 2 ≤ count ≤ mn
 

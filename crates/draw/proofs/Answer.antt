@@ -1,7 +1,6 @@
 -- What Draw answers and leaves, from what its tests showed and what was drawn.
 use Prim.Native.Nat.{ℕ, _*_, _≤_, _<_}
 use mathlib.Core.Path.{_≡_, refl, sym, ap, _∙_, subst}
-use mathlib.Core.Logic.{_≢_}
 use mathlib.Core.List.{List, _++_}
 use native.Mathlib.Omega.{arith}
 use lib.ListN.{length, drop}
@@ -22,6 +21,7 @@ use Rattle.grid.specs.Answer.{GivesCells}
 use Rattle.grid.proofs.Tests.{expect-yes, expect-no, after-good, after-refused, answer-good, answer-refused}
 use Rattle.grid.proofs.Answers.{gives-cells}
 use Rattle.grid.proofs.Bytes.{length-bytes, front-bytes}
+use Rattle.grid.proofs.Passed.{good-order}
 use Rattle.line.specs.Drawn.{Drawn}
 use Rattle.count.specs.Count.{count}
 use Rattle.count.specs.Longest.{NoLonger}
@@ -45,12 +45,12 @@ module _ (p : Panel) (s t : Cell) (size : ℕ) where
       gives-cells _ _ (answer-good _ _ (sym (after-good _ e room)) (λ i. CellsAnswer.Given (record { 0 = q i })))
 
 -- a track of the count's cells drawn at the front is a longest one
-pub at-front : {p : Panel} {s t : Cell} {k : ℕ} {old new : List ℕ} → s ≢ t → k ≡ count p s t
+pub at-front : {p : Panel} {s t : Cell} {k : ℕ} {old new : List ℕ} → checkOrder p s t ≡ Good → k ≡ count p s t
     → Drawn (OnPanel p) s t (count p s t) old new → LongestAtFront p s t k old new
-at-front {p} {s} {t} {k} {old} {new} ne q d = record {
+at-front {p} {s} {t} {k} {old} {new} e q d = record {
   size = ap length there ∙ d .size ∙ sym q;
   track = subst (λ (l : List Cell). Track p s t l) (sym there) (d .track);
-  none-longer = subst (λ (n : ℕ). NoLonger p s t n) (sym q) (no-longer p s t ne);
+  none-longer = subst (λ (n : ℕ). NoLonger p s t n) (sym q) (no-longer p s t (good-order p s t e .differ));
   behind =
       ap (drop (2 * k)) written
       ∙ drop-at (bytes (d .cells)) (drop (2 * k) old) (2 * k) (length-bytes (d .cells) ∙ ap (λ (n : ℕ). 2 * n) cells);

@@ -2,7 +2,7 @@
 use Prim.Native.Nat.{ℕ, zero, suc, _≤_}
 use mathlib.Core.Path.{_≡_}
 use mathlib.Core.Logic.{_≢_}
-use mathlib.Core.Bool.{Bool, true, false, not, _&&_, _||_}
+use mathlib.Core.Bool.{Bool, true, false, cond, not, _&&_, _||_}
 use mathlib.Core.List.{List, [], _∷_, _++_}
 use lib.Dec.{leb}
 use lib.ListN.{length}
@@ -79,15 +79,7 @@ pub record Exits (p : Panel) (s : Cell) (w : Cells) (r : ExitAnswer) : Type 0 wh
 
 -- ---- the search: no promise of Exit rests on what follows
 
--- what a search over a list of cells finds: a cell of the panel that fits, or that none of the list does
-abbrev pub SearchIn : Panel → Cell → Cells → List Cell → Search → Type 0
-SearchIn p s w l (At c) = (any (fits p s w) l ≡ true) × ((fits p s w c ≡ true) × OnPanel p c)
-SearchIn p s w l Nothing = any (fits p s w) l ≡ false
-
--- what the search over row y finds
-abbrev pub RowIs : Panel → Cell → Cells → ℕ → Search → Type 0
-RowIs p s w y r = SearchIn p s w (row p y) r
-
--- what the search over the panel finds
-abbrev pub SearchIs : Panel → Cell → Cells → Search → Type 0
-SearchIs p s w r = SearchIn p s w (reading p) r
+-- the first cell of the list that passes the test
+abbrev pub first : (Cell → Bool) → List Cell → Search
+first f [] = Nothing
+first f (c ∷ l) = cond (f c) (At c) (first f l)

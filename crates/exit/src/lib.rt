@@ -7,7 +7,7 @@ use grid::Refusal;
 ghost use mathlib.Core.Path.{_≡_};
 ghost use Prim.Native.Nat.{_≤_};
 ghost use Rattle.grid.specs.Panel.{OnPanel, GoodPanel};
-ghost use Rattle.exit.specs.Exit.{fits, Exits, RowIs, SearchIs};
+ghost use Rattle.exit.specs.Exit.{row, reading, fits, Exits, first};
 
 // What Exit answers.
 pub enum ExitAnswer {
@@ -40,7 +40,7 @@ fn in_row(p: Panel, entry: Cell, wanted: Cells, y: u32) -> Search
     requires { ⌜ GoodPanel p ⌝ }
     requires { ⌜ OnPanel p entry ⌝ }
     requires { ⌜ (1 ≤ y) × (y ≤ p .height) ⌝ }
-    ensures { λ r. ⌜ RowIs p entry wanted y r ⌝ }
+    ensures { λ r. ⌜ r ≡ first (fits p entry wanted) (row p y) ⌝ }
 {
     let width = p.width;
     let mut x: u32 = 1;
@@ -58,7 +58,7 @@ fn in_row(p: Panel, entry: Cell, wanted: Cells, y: u32) -> Search
 fn in_panel(p: Panel, entry: Cell, wanted: Cells) -> Search
     requires { ⌜ GoodPanel p ⌝ }
     requires { ⌜ OnPanel p entry ⌝ }
-    ensures { λ r. ⌜ SearchIs p entry wanted r ⌝ }
+    ensures { λ r. ⌜ r ≡ first (fits p entry wanted) (reading p) ⌝ }
 {
     let height = p.height;
     let mut y: u32 = 1;

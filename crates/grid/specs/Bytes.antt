@@ -1,7 +1,9 @@
--- A cell list is bytes: x then y for each cell.
-use Prim.Native.Nat.{ℕ, _*_}
+-- A cell list is bytes: x then y for each cell. And where a part of a slice of bytes begins.
+use Prim.Native.Nat.{ℕ, _+_, _*_}
+use mathlib.Core.Path.{_≡_}
 use mathlib.Core.List.{List, [], _∷_}
 use lib.ListN.{take}
+use denote.Ref.{RefT}
 use Rattle.grid.specs.declared.Cell.{Cell}
 
 -- the bytes of a list of cells
@@ -18,3 +20,9 @@ cellsIn (x ∷ y ∷ b) = record { x = x; y = y } ∷ cellsIn b
 -- the list read from the front of a buffer, for k cells
 abbrev pub front : ℕ → List ℕ → List Cell
 front k b = cellsIn (take (2 * k) b)
+
+-- these bytes as a part of a slice, from its byte k on: in the same block of memory, k bytes behind the slice's front
+pub record PartOf (slice : RefT (List ℕ)) (k : ℕ) (content : List ℕ) (part : RefT (List ℕ)) : Type 0 where
+  pub bytes : part .now ≡ content
+  pub block : part .ptr .0 ≡ slice .ptr .0
+  pub place : part .ptr .1 ≡ slice .ptr .1 + k

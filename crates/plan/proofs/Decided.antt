@@ -4,7 +4,6 @@ use Prim.Native.Nat.{ℕ, _+_, _-_, _*_, _%_, _≤_, max}
 use mathlib.Core.Path.{_≡_, refl, sym, ap, _∙_}
 use mathlib.Core.Bool.{Bool, true, false, not, cond, _&&_, _||_}
 use native.Mathlib.Omega.{arith}
-use borrow.Author.Tests.{ne-eqb}
 use Rattle.grid.specs.declared.Panel.{Panel}
 use Rattle.grid.specs.declared.Cell.{Cell}
 use Rattle.grid.specs.Panel.{black}
@@ -94,20 +93,3 @@ module _ (p : Panel) (s t : Cell) (no1 : f1 p s t ≡ false) (no2 : f2 p s t ≡
   pub decided-f3 : area p % 2 ≡ 0 → black s ≡ true → black t ≡ false → f3 p s t ≡ true → 2 ≤ area p → decidedCount p s t + 2 ≡ area p
   decided-f3 o b w f h =
       ap (λ (k : ℕ). k + 2) (decided-left ∙ (λ j. left (odd-no (area p) o j) (b j) (w j) (f j) (area p))) ∙ left-f3 (area p) h
-
--- ---- when the lines of one, two and three rows do not fit
-
-first-false : {a : Bool} (b : Bool) → a ≡ false → (a && b) ≡ false
-first-false b e = ap (λ (x : Bool). x && b) e
-
-pub not-f1 : (p : Panel) (s t : Cell) → (p .height ≡ 1 → ⊥) → f1 p s t ≡ false
-unfolding f1
-not-f1 p s t n = first-false _ (ne-eqb (p .height) 1 n)
-
-pub not-f2 : (p : Panel) (s t : Cell) → (p .height ≡ 2 → ⊥) → f2 p s t ≡ false
-unfolding f2
-not-f2 p s t n = first-false _ (ne-eqb (p .height) 2 n)
-
-pub not-f3 : (p : Panel) (s t : Cell) → (p .height ≡ 3 → ⊥) → f3 p s t ≡ false
-unfolding f3
-not-f3 p s t n = first-false _ (ne-eqb (p .height) 3 n)

@@ -15,10 +15,11 @@ use Rattle.grid.specs.Panel.{black, dist, turned, turnedCell}
 pub use Rattle.grid.proofs.Moves.{black-turned}
 use Rattle.corner.specs.Corner.{cornerCount, trackCount}
 use Rattle.count.specs.Count.{odd, area, f1, f2, f3}
+use Rattle.count.proofs.Laws.{not-f1, not-f2}
 use Rattle.plan.specs.Leg.{mirrorX, mirrorY}
 use Rattle.plan.specs.Plan.{differ}
 use Rattle.plan.proofs.Terminals.{Distinct}
-use Rattle.plan.proofs.Decided.{decidedCount, decided-odd, decided-even, not-f1, not-f2}
+use Rattle.plan.proofs.Decided.{decidedCount, decided-odd, decided-even}
 use Rattle.plan.proofs.Size.{count-block, block-loss}
 use Rattle.plan.proofs.Parity.{two, three, four, same, bit, mod-bit, odd-sum, odd-product, odd-rest, odd-dist, colour}
 

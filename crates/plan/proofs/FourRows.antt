@@ -15,6 +15,7 @@ use Rattle.grid.proofs.Facts.{and-parts}
 use Rattle.grid.proofs.Moves.{turn-on}
 use Rattle.grid.proofs.Tests.{both-branches}
 use Rattle.count.specs.Count.{odd}
+use Rattle.count.proofs.Laws.{not-f3}
 use Rattle.plan.specs.declared.Plan.{Plan}
 use Rattle.plan.specs.Leg.{mirrorX, mirrorY}
 use Rattle.plan.specs.Plan.{moving, leftFirst, differ, critical, steep, innerSplit, wrapped, atEdge, bridged, fourRows}
@@ -23,7 +24,7 @@ use Rattle.plan.proofs.Chain.{Plans, exchanged}
 use Rattle.plan.proofs.Moved.{mirror-move, mirror-y-move, plan-turned, plan-mirrored, plan-flipped}
 use Rattle.plan.proofs.Terminals.{Distinct, NotCorner, Near, Steep, Critical, steep-yes, steep-no, critical-yes}
 use Rattle.plan.proofs.Parity.{odd-yes, odd-no, is-odd, is-even, odd-sum, odd-rest}
-use Rattle.plan.proofs.Decided.{decidedCount, not-f3}
+use Rattle.plan.proofs.Decided.{decidedCount}
 use Rattle.plan.proofs.Defect.{Fits, fits-exchanged, fits-turned, fits-mirrored, fits-flipped, black-turned, black-flipped, fits-decided}
 use Rattle.plan.proofs.Split.{and-false, byColours, inner-plans, edge-plans}
 use Rattle.plan.proofs.Wrap.{wrap-plans}

@@ -16,6 +16,7 @@ use Rattle.grid.proofs.Tests.{both-branches}
 use Rattle.corner.specs.Corner.{cornerCount, trackCount}
 use Rattle.corner.proofs.Count.{count-flat, count-thin}
 use Rattle.count.specs.Count.{area, endCell, f1, f2}
+use Rattle.count.proofs.Laws.{not-f1, not-f2, not-f3}
 use Rattle.plan.specs.declared.Plan.{Plan}
 use Rattle.plan.specs.declared.Plan.the-variants.{One}
 use Rattle.plan.specs.Leg.{cell, forth, back}
@@ -24,7 +25,7 @@ use Rattle.plan.proofs.Cases.{if-equal, if-less, one-of}
 use Rattle.plan.proofs.Terminals.{Distinct}
 use Rattle.plan.proofs.Size.{blockCount, count-block}
 use Rattle.plan.proofs.Chain.{Plans, forth-leg, back-leg, left-of, one-leg, two-legs}
-use Rattle.plan.proofs.Decided.{decidedCount, decided-one, decided-two, decided-odd, decided-even, not-f1, not-f2, not-f3}
+use Rattle.plan.proofs.Decided.{decidedCount, decided-one, decided-two, decided-odd, decided-even}
 
 -- ---- sizes
 

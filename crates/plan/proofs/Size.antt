@@ -1,10 +1,37 @@
--- How many cells a corner track has in a block of two rows and two columns or more: all, or all but one, by parity. The other cases are
--- `count-here`, `count-flat` and `count-thin` of the crate `corner`.
+-- How many cells the plans have on small panels, by computation; and how many a corner track has in a block of two rows and two columns or more:
+-- all, or all but one, by parity. The other cases are `count-here`, `count-flat` and `count-thin` of the crate `corner`.
 use Prim.Native.Nat.{ℕ, _+_, _-_, _*_, _%_, _≤_, _<_}
-use mathlib.Core.Path.{_≡_}
+use mathlib.Core.Path.{_≡_, refl}
+use mathlib.Core.Bool.{cond}
 use native.Mathlib.Omega.{arith}
-use Rattle.corner.specs.Corner.{cornerCount}
+use Rattle.grid.specs.declared.Panel.{Panel}
+use Rattle.grid.specs.declared.Cell.{Cell}
+use Rattle.grid.specs.Panel.{panel, cell, sameCell, dist}
+use Rattle.corner.specs.Corner.{cornerCount, trackCount}
 use Rattle.corner.proofs.Count.{count-full}
+use Rattle.count.specs.Count.{f1, f2, f3, c2, c0, decided, named, classCount, count}
+use Rattle.count.specs.Longest.{columnsWeight, panelWeight}
+use Rattle.plan.specs.Leg.{legs, total}
+use Rattle.plan.specs.Plan.{split, bridge, wrap, round, zigzag, middle, twoRows, threeRowsApart, threeRows, wrapped, crossing, innerSplit}
+use Rattle.plan.specs.Plan.{edgeSplit, atEdge, bridged, fourRows, wide, planOf}
+
+-- ---- plans on small panels
+
+-- by how many cells the plan of an order misses its count
+abbrev off : Panel → Cell → Cell → ℕ
+off p s t = cond (sameCell s t) 0 (dist (total (legs (planOf (p .width) (p .height) s t))) (count p s t))
+
+-- by how many the plans from s to the other cells of the panel do
+abbrev offFrom : Panel → Cell → ℕ
+offFrom p s = panelWeight (off p s) p
+
+-- From an entry on panels of one to four rows none does. `plan-good` (Wide.antt) says it of every order; here a wrong plan shows as a number.
+plans-counted : offFrom (panel 5 1) (cell 2 1) + offFrom (panel 6 2) (cell 2 1) + offFrom (panel 4 3) (cell 1 2) + offFrom (panel 4 4) (cell 1 2) ≡ 0
+unfolding columnsWeight f1 f2 f3 c2 c0 decided named classCount dist trackCount cornerCount
+    split bridge wrap round zigzag middle twoRows threeRowsApart threeRows wrapped crossing innerSplit edgeSplit atEdge bridged fourRows wide planOf
+plans-counted = refl
+
+-- ---- blocks
 
 -- a block of w by h, its target d steps from its corner
 unfoldable pub blockCount : ℕ → ℕ → ℕ → ℕ

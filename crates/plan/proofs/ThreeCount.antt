@@ -13,10 +13,11 @@ use Rattle.grid.specs.declared.Cell.{Cell}
 use Rattle.grid.specs.Panel.{black}
 use Rattle.grid.proofs.Facts.{and-both}
 use Rattle.count.specs.Count.{area, odd, f1, f2, f3}
+use Rattle.count.proofs.Laws.{not-f1, not-f2}
 use Rattle.plan.proofs.Cases.{or-right}
 use Rattle.plan.proofs.Parity.{odd-yes, odd-no}
 use Rattle.plan.proofs.Terminals.{Critical}
-use Rattle.plan.proofs.Decided.{decidedCount, decided-odd, decided-even, decided-f3, not-f1, not-f2}
+use Rattle.plan.proofs.Decided.{decidedCount, decided-odd, decided-even, decided-f3}
 
 -- far enough apart for F3: as a fact and as the test
 abbrev pub Far : Cell → Cell → Type 0

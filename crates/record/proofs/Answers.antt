@@ -47,9 +47,12 @@ behind-head f g e m a =
     ∙ ap (λ (k : Check). cellsAnswer k (length (cellsRead f))) (after-good _ g refl)
 
 -- an answer that is a refusal is the check's
-pub cells-refused : (c : Check) (n : ℕ) {r : Refusal} → cellsAnswer c n ≡ CellsAnswer.Refused r → c ≡ Check.Refused r
+cells-refused : (c : Check) (n : ℕ) {r : Refusal} → cellsAnswer c n ≡ CellsAnswer.Refused r → c ≡ Check.Refused r
 cells-refused Good n e = clash (cc)
 cells-refused (Check.Refused s) n e = cc
+
+pub record-refused : (f : List ℕ) {r : Refusal} → recordCells f ≡ CellsAnswer.Refused r → checkRecord f ≡ Check.Refused r
+record-refused f = cells-refused (checkRecord f) (length (cellsRead f))
 
 module _ (file old : List ℕ) {r : ReadAnswer} (e : r ≡ readAnswer file old) where
   -- what is read off the answer is read off each of its cases

@@ -1,6 +1,6 @@
 -- A head with the letters behind it is a record, and that is what Write promises.
 use Prim.Native.Nat.{ℕ, _+_}
-use mathlib.Core.Path.{_≡_, ap, _∙_, subst⁻¹}
+use mathlib.Core.Path.{_≡_, sym, ap, _∙_, subst⁻¹}
 use mathlib.Core.List.{List, _∷_, _++_}
 use lib.ListN.{length, drop}
 use lib.Seq.{drop-append-add, drop-drop}
@@ -12,7 +12,8 @@ use Rattle.grid.specs.declared.Check.the-variants.{Good}
 use Rattle.grid.specs.declared.BytesAnswer.the-variants.{Refused, Given}
 use Rattle.grid.specs.Bytes.{cellsIn}
 use Rattle.grid.proofs.Answers.{gives-bytes}
-use Rattle.grid.proofs.Tests.{answer-good, answer-refused}
+use Rattle.grid.proofs.Tests.{after-refused, answer-good, answer-refused}
+use Rattle.list.specs.Check.{checkList}
 use Rattle.step_letters.specs.Letters.{lettersFrom, stepsOf, withLetters}
 use Rattle.record_head.specs.Head.{headOf, headLength}
 use Rattle.record.specs.Write.{recordOf, recordLength, checkWrite, Writes}
@@ -44,6 +45,11 @@ module _ {p : Panel} {list out headed new : List ℕ} {s t : Cell} {r : List Cel
         buffer = answer-good _ _ e (f ∙ ap (withLetters headLength (cellsIn list)) behind ∙ record-made p s k out (cellsIn list) r split n);
       }
 
--- a refusal leaves the buffer as it was
-pub refused : (p : Panel) (list out : List ℕ) {r : Refusal} → checkWrite p list out ≡ Check.Refused r → Writes p list out out (Refused r)
-refused p list out e = record { gives = gives-bytes _ _ (answer-refused Refused _ e); buffer = answer-refused (λ r. out) _ e }
+module _ (p : Panel) (list out : List ℕ) {new : List ℕ} {r : Refusal} where
+  -- a refusal that leaves the buffer as it was
+  pub refused : checkWrite p list out ≡ Check.Refused r → new ≡ out → Writes p list out new (Refused r)
+  refused e same = record { gives = gives-bytes _ _ (answer-refused Refused _ e); buffer = same ∙ answer-refused (λ r. out) _ e }
+
+  -- a refusal of the list, whatever the buffer
+  pub list-refused : checkList p list ≡ Check.Refused r → new ≡ out → Writes p list out new (Refused r)
+  list-refused e = refused (sym (after-refused _ e))

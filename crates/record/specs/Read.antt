@@ -4,6 +4,7 @@ use mathlib.Core.Path.{_≡_}
 use mathlib.Core.List.{List, [], _++_}
 use lib.ListN.{length, take, drop}
 use lib.Dec.{leb}
+use denote.Ref.{RefT, now}
 use Rattle.grid.specs.declared.Panel.{Panel}
 use Rattle.grid.specs.declared.Cell.{Cell}
 use Rattle.grid.specs.declared.Cells.{Cells}
@@ -13,7 +14,7 @@ use Rattle.grid.specs.declared.CellsAnswer.{CellsAnswer}
 use Rattle.grid.specs.declared.Refusal.the-variants.{CellOff, ShortBuffer, UnknownByte}
 use Rattle.grid.specs.Panel.{panel}
 use Rattle.grid.specs.Refusal.{number}
-use Rattle.grid.specs.Bytes.{bytes}
+use Rattle.grid.specs.Bytes.{bytes, PartOf}
 use Rattle.grid.specs.Check.{expect, after, answer}
 use Rattle.grid.specs.Answer.{refusalNumber, given, cellsAnswer}
 use Rattle.list.specs.List.{allOn}
@@ -92,6 +93,10 @@ listRead f list = take (2 * (readValues (readAnswer f list)) .cells .0) (readBuf
 abbrev pub lettersAnswer : List ℕ → List ℕ
 lettersAnswer f = answer (checkRecord f) (λ r. []) (lettersIn f)
 
--- what Letters promises of the stretch that it hands back
-pub record Lettered (file letters : List ℕ) : Type 0 where
-  pub bytes : letters ≡ lettersAnswer file
+-- where the stretch with the letters begins: at the head's end; at the front if refused
+abbrev pub lettersPlace : List ℕ → ℕ
+lettersPlace f = given (checkRecord f) headLength
+
+-- what Letters promises of the stretch of the file that it hands back
+pub record Lettered (file letters : RefT (List ℕ)) : Type 0 where
+  pub part : PartOf file (lettersPlace (now file)) (lettersAnswer (now file)) letters

@@ -45,14 +45,16 @@ pub fn write(p: Panel, list: &[u8], out: &mut [u8]) -> BytesAnswer
     if let Check::Refused(r) = c {
         return BytesAnswer::Refused(r);
     }
-    let steps = steps_of(Cells((list.len() / 2) as u32));
+    let cells = (list.len() / 2) as u32;
+    let steps = steps_of(Cells(cells));
     let k = HEAD + steps.0 as usize;
     if out.len() < k {
         return BytesAnswer::Refused(Refusal::ShortBuffer);
     }
     write_head(p, cell_at(list, 0), steps, out);
     write_letters(list, out, HEAD);
-    BytesAnswer::Given(k as u32)
+    let bytes = k as u32;
+    BytesAnswer::Given(bytes)
 }
 
 // Whether every byte is a letter, tried from one cell.
@@ -164,17 +166,21 @@ pub fn read(file: &[u8], list: &mut [u8]) -> ReadAnswer
                 return ReadAnswer::Refused(Refusal::ShortBuffer);
             }
             write_cells(s, letters_in(file), list);
-            ReadAnswer::Given(p, cells, HEAD as u32 + h.steps.0)
+            let head = HEAD as u32;
+            let bytes = head + h.steps.0;
+            ReadAnswer::Given(p, cells, bytes)
         }
     }
 }
 
 pub fn letters<'a>(file: &'a [u8]) -> &'a [u8]
-    ensures { λ r. ⌜ Lettered (now (file .entry)) (now r) ⌝ }
+    ensures { λ r. ⌜ Lettered (file .entry) r ⌝ }
 {
     let f = find_record(file);
     if let CellsAnswer::Refused(_) = f {
-        return &file[..0];
+        // The empty stretch at the front.
+        let front = 0;
+        return &file[front..front];
     }
     letters_in(file)
 }

@@ -15,6 +15,7 @@ ghost use mathlib.Core.List.{_++_};
 ghost use Prim.Native.Nat.{_≤_, _<_, _+_, _/_, _%_};
 ghost use lib.ListN.{length, drop, set};
 ghost use Rattle.grid.specs.Panel.{onPanel, goodPanel};
+ghost use Rattle.grid.specs.Bytes.{PartOf};
 ghost use Rattle.record_head.specs.Head.{headOf, headLength, hasMark, pairAt, headIn, stepsIn, lettersIn, goodSteps, checkHead};
 
 // The mark (a magic number).
@@ -99,7 +100,7 @@ pub fn head_in(file: &[u8]) -> Head
 // The stretch that holds the step letters.
 pub fn letters_in<'a>(file: &'a [u8]) -> &'a [u8]
     requires { ⌜ headLength + stepsIn (now file) ≤ length (now file) ⌝ }
-    ensures { λ r. ⌜ now r ≡ lettersIn (now (file .entry)) ⌝ }
+    ensures { λ r. ⌜ PartOf (file .entry) headLength (lettersIn (now (file .entry))) r ⌝ }
 {
     let end = HEAD + pair_at(file, STEPS_AT) as usize;
     &file[HEAD..end]

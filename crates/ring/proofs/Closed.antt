@@ -48,9 +48,9 @@ even-part a k h = by-eq (a % 2) 1 (λ e. cond-yes _ _ (eq-eqb _ _ e) (omega arit
 ring-sum : (a : ℕ) → 1 ≤ a → a - 1 + (a + 1) % 2 ≡ cond (odd a) (a - 1) a
 ring-sum a h = even-part a _ (omega arith)
 
--- a refusal
-pub refused : {p : Panel} {old : List ℕ} {r : Refusal} → ringCheck p (length old) ≡ check.Refused r → Rings p old old (Refused r)
-refused e = record { gives = gives-cells _ _ (answer-refused _ _ e); leaves = refl }
+-- a refusal that leaves the buffer as it was
+pub refused : {p : Panel} {old new : List ℕ} {r : Refusal} → ringCheck p (length old) ≡ check.Refused r → new ≡ old → Rings p old new (Refused r)
+refused e same = record { gives = gives-cells _ _ (answer-refused _ _ e); leaves = same }
 
 -- a track of the whole panel to a neighbour t of its first cell
 module _ (p : Panel) (old : List ℕ) (fine : ringCheck p (length old) ≡ check.Good) (t : Cell) (o : OnPanel p t) (n : Neighbours t first) where

@@ -1,33 +1,72 @@
 // Answers Ring for some panels and buffers. A line gives the panel and the buffer's size and, behind the
-// colon, the refusal's number (0: none), the count, the last cell, which is a neighbour of (1, 1), and the
-// byte behind the track, 7 as before. A refused line has what stood in the buffer: 7s.
+// colon, the refusal's number (0: none), the count and the last cell, then what a plain look at all bytes
+// of a larger buffer, filled with 7 before, says: `closed`, the cells are a track from (1, 1) whose last
+// cell is a neighbour of its first, and the bytes behind are 7; a refusal has no cell, and `untouched`, all
+// bytes are 7; else `FAULT`.
+use grid::Cell;
+use grid::Panel;
 use grid::cells_values;
 use grid::panel_of;
+use trial::cells::Order;
 use trial::cells::byte_at;
+use trial::cells::filled;
+use trial::cells::is_closed;
+use trial::cells::is_track;
 use trial::print::row;
+use trial::print::text;
 
-fn report(buf: &[u8], number: u32, count: u32) {
+// What the buffer is filled with.
+const FILL: u8 = 7;
+
+// Whether the first k cells are a closed track from (1, 1), and the bytes behind are as before.
+fn closed(buf: &[u8], p: Panel, last: Cell, k: u32) -> bool {
+    let first = Cell { x: 1, y: 1 };
+    let o = Order {
+        panel: p,
+        entry: first,
+        exit: last,
+    };
+    if !is_track(buf, o, first, k) {
+        return false;
+    }
+    if !is_closed(buf, k) {
+        return false;
+    }
+    filled(buf, 2 * (k as usize), FILL)
+}
+
+fn word(right: bool, name: &[u8]) {
+    if right {
+        text(name);
+    } else {
+        text(b"FAULT\n");
+    }
+}
+
+fn report(buf: &[u8], p: Panel, number: u32, count: u32) {
     let behind = 2 * (count as usize);
     if behind < 2 {
-        row(&[number, count, byte_at(buf, 0)], b"\n");
+        row(&[number, count], b" ");
+        word(filled(buf, 0, FILL), b"untouched\n");
         return;
     }
     let x = byte_at(buf, behind - 2);
     let y = byte_at(buf, behind - 1);
-    row(&[number, count, x, y, byte_at(buf, behind)], b"\n");
+    row(&[number, count, x, y], b" ");
+    word(closed(buf, p, Cell { x, y }, count), b"closed\n");
 }
 
-// Ring in the first `size` bytes of a buffer of 7s.
+// Ring in the first `size` bytes of a buffer that is filled.
 fn answer_in(width: u32, height: u32, size: usize, buf: &mut [u8]) {
     if size <= buf.len() {
-        let r = ring::ring(panel_of(width, height), &mut buf[0..size]);
-        let v = cells_values(r);
-        report(buf, v.refusal, v.cells.0);
+        let p = panel_of(width, height);
+        let v = cells_values(ring::ring(p, &mut buf[0..size]));
+        report(buf, p, v.refusal, v.cells.0);
     }
 }
 
 fn answer(width: u32, height: u32, size: u32) {
-    let mut buf = [7u8; 40000];
+    let mut buf = [FILL; 40000];
     row(&[width, height, size], b": ");
     answer_in(width, height, size as usize, &mut buf);
 }

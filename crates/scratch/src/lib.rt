@@ -27,10 +27,10 @@ pub fn clear(p: Panel, scratch: &mut [u8])
     ensures { λ _. ⌜ now (scratch .exit) ≡ cleared p (now (scratch .entry)) ⌝ }
 {
     let places = grid::area_of(p);
-    let mut i = 0;
-    while i < places {
-        scratch[i] = 0;
-        i += 1;
+    let mut at = 0;
+    while at < places {
+        scratch[at] = 0;
+        at += 1;
     }
 }
 

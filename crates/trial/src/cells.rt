@@ -117,6 +117,14 @@ pub fn is_track(buf: &[u8], o: Order, low: Cell, k: u32) -> bool {
     true
 }
 
+// Whether the first k cells of the buffer may be closed: four or more, the last beside the first.
+pub fn is_closed(buf: &[u8], k: u32) -> bool {
+    if k < 4 {
+        return false;
+    }
+    beside(cell_at(buf, k - 1), cell_at(buf, 0))
+}
+
 // Whether every byte from `from` on is b.
 pub fn filled(buf: &[u8], from: usize, b: u8) -> bool {
     let mut i = from;

@@ -1,4 +1,5 @@
 -- The terminals are exchanged or not, as in the definition.
+use borrow.Author.Needs.{needs}
 use borrow.Author.Tests.{lt-ltb, le-ltb}
 use native.Mathlib.Omega.{arith}
 use Prim.Native.Nat.{_≤_}
@@ -21,8 +22,9 @@ exchanged g = record { panel = g .panel; entry = g .exit; exit = g .entry }
 
 decide-requires : tie.Need-decide-requires
 decide-requires c κs =
-    let k = c .before .before .before .pre in
-    ⊎-elim (λ w. chosen (w .1) (w .2) (exchanged k) (omega (arith, w .0 .taken))) (λ w. chosen (w .1) (w .2) k (w .0 .left))
+    ⊎-elim
+    (λ w. chosen (w .1) (w .2) (exchanged (search needs)) (omega (arith, w .0 .taken)))
+    (λ w. chosen (w .1) (w .2) (search needs) (omega (arith, w .0 .left)))
     (c .if1 .came)
 
 returns : tie.Need-returns

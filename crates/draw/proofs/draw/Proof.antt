@@ -31,11 +31,7 @@ enum-known-c : tie.Need-enum-known-c
 enum-known-c c = search needs
 
 returns : tie.Need-returns
-returns c =
-    let check = c .before .before .before in
-    let args = check .before .before .args in
-    let e = sym (check .check-order .ensures) ∙ c .before .c .given .1 in
-    record { gives = refused (args .p) (args .entry) (args .exit) (length (args .buf .now)) e; leaves = refl }
+returns c = record { gives = refused _ _ _ _ (cc); leaves = refl }
 
 enum-told : tie.Need-enum-told
 enum-told c = search needs
@@ -71,15 +67,7 @@ same-length : tie.Need-same-length
 same-length c = search needs
 
 returns-3 : tie.Need-returns-3
-returns-3 c =
-    let written = c .before .before in
-    let room = written .before .before in
-    let found = room .before .before .before in
-    let args = found .before .before .before .before .before .args in
-    record {
-      gives = drawn (args .p) (args .entry) (args .exit) (length (args .buf .now)) (passed (found .before)) (counted found) (room .if1 .left);
-      leaves = at-front (good (found .before) .differ) (counted found) (written .draw-longest .ensures);
-    }
+returns-3 c = record { gives = drawn _ _ _ _ (cc) (cc) (omega arith); leaves = at-front (cc) (cc) (search needs) }
 
 pub draw-spec : {M : Type 1} → statement M
 draw-spec =

@@ -1,13 +1,11 @@
 -- `exit::find_exit` meets its contract: the check's refusal, else the first cell that fits, else 12.
 use borrow.Author.Needs.{needs}
-use mathlib.Core.Path.{_≡_, refl, sym, _∙_}
+use mathlib.Core.Path.{_≡_, sym, _∙_}
 use Rattle.grid.specs.declared.Check.the-variants.{Good}
 use Rattle.grid.specs.Check.{checkEntry}
-use Rattle.grid.proofs.Tests.{expect-yes, expect-no, after-good, after-refused}
+use Rattle.grid.proofs.Tests.{after-refused}
 use Rattle.grid.proofs.Passed.{good-entry}
-use Rattle.exit.proofs.Answers.{exits}
-use Rattle.exit.proofs.Reading.{told}
-use Rattle.exit.proofs.Fitting.{fit-exit}
+use Rattle.exit.proofs.Answers.{exits, searched}
 use Rattle.exit.proofs.find_exit.Statement.{statement}
 use Rattle.exit.proofs.find_exit.Tie as tie
 
@@ -33,18 +31,13 @@ enum-known-found : tie.Need-enum-known-found
 enum-known-found c = search needs
 
 returns-2 : tie.Need-returns-2
-returns-2 c =
-    let g = passed (c .before .before .before .before) in
-    let f = told _ _ _ _ (c .before .found .given .1) (c .before .before .before .in-panel .ensures) in
-    exits _ _ _ _ (sym (after-good _ g (expect-yes _ _ (f .0) refl)), fit-exit _ _ _ _ (good-entry _ _ g .1) (f .1 .1) (f .1 .0))
+returns-2 c = searched _ _ _ _ (passed (c .before .before .before .before)) (sym (c .before .found .given .1) ∙ c .before .before .before .in-panel .ensures)
 
 enum-told-2 : tie.Need-enum-told-2
 enum-told-2 c = search needs
 
 returns-3 : tie.Need-returns-3
-returns-3 c =
-    let f = told _ _ _ _ (c .enum-told2 .given .1) (c .before .before .in-panel .ensures) in
-    exits _ _ _ _ (sym (after-good _ (passed (c .before .before .before)) (expect-no _ _ f)))
+returns-3 c = searched _ _ _ _ (passed (c .before .before .before)) (sym (c .enum-told2 .given .1) ∙ c .before .before .in-panel .ensures)
 
 pub find-exit-spec : {M : Type 1} → statement M
 find-exit-spec =

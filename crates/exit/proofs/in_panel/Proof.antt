@@ -1,34 +1,33 @@
 -- `exit::in_panel` meets its contract: no cell of the rows before y fits.
-use Prim.Native.Nat.{_+_, _-_, _≤_}
-use mathlib.Core.Path.{_≡_, refl}
-use mathlib.Core.Bool.{false}
+use Prim.Native.Nat.{_+_, _-_}
+use mathlib.Core.Path.{sym, _∙_}
 use native.Mathlib.Omega.{arith}
 use borrow.Author.Needs.{needs}
-use Rattle.exit.specs.Exit.{any, fits, run, row}
-use Rattle.exit.proofs.Reading.{hit, miss, all-passed, told}
+use Rattle.exit.specs.Exit.{fits, row}
+use Rattle.exit.proofs.Reading.{NoneBefore, hit, miss, all-passed}
 use Rattle.exit.proofs.in_panel.Statement.{statement}
 use Rattle.exit.proofs.in_panel.Tie as tie
 
 abbrev Inv-loop : tie.InvT-loop
-Inv-loop p entry wanted height y₀ y = (1 ≤ y) × ((y ≤ height + 1) × (any (fits p entry wanted) (run (row p) 1 (y - 1)) ≡ false))
+Inv-loop p entry wanted height y₀ y = NoneBefore (fits p entry wanted) (row p) y
 
 abbrev μ-loop : tie.MeasureT-loop
 μ-loop p entry wanted height y₀ y = height + 1 - y
 
 loop-holds : tie.Need-loop-holds Inv-loop μ-loop
-loop-holds c = (omega arith, (omega arith, refl))
+loop-holds c = record { low = omega arith; none = λ k l u. absurd (omega arith) }
 
 in-row-requires : tie.Need-in-row-requires Inv-loop μ-loop
-in-row-requires c κs = let a = c .before .before .pre in (a .0, (a .1, (c .before .loop .inv .0, c .loop-test .taken)))
+in-row-requires c κs = let a = c .before .before .pre in (a .0, (a .1, (omega arith, omega arith)))
 
 enum-known-row : tie.Need-enum-known-row Inv-loop μ-loop
 enum-known-row c = search needs
 
 returns : tie.Need-returns Inv-loop μ-loop
 returns c =
-    let i = c .before .before .before .before .before .loop .inv in
-    let f = told _ _ _ _ (c .before .row .given .1) (c .before .before .before .in-row .ensures) in
-    (hit _ _ _ _ (i .0) (c .before .before .before .before .loop-test .taken) (i .1 .1) (f .0), f .1)
+    let a = c .before .before .before .before .before in
+    let e = sym (c .before .row .given .1) ∙ c .before .before .before .in-row .ensures in
+    hit (a .loop .inv) (a .before .args .p .height) e (omega arith) (omega arith) (omega arith)
 
 enum-told : tie.Need-enum-told Inv-loop μ-loop
 enum-told c = search needs
@@ -41,15 +40,11 @@ loop-less c = let t = c .before .before .before .loop-test .taken in omega arith
 
 loop-again : tie.Need-loop-again Inv-loop μ-loop
 loop-again c =
-    let i = c .before .before .before .before .loop .inv in
-    let t = c .before .before .before .loop-test .taken in
-    let n = told _ _ _ _ (c .enum-told .given .1) (c .before .before .in-row .ensures) in
-    (omega arith, (omega arith, miss _ _ _ (i .0) (i .1 .1) n))
+    let n = sym (c .enum-told .given .1) ∙ c .before .before .in-row .ensures in
+    miss (c .before .before .before .before .loop .inv) n (omega arith) (omega arith)
 
 returns-2 : tie.Need-returns-2 Inv-loop μ-loop
-returns-2 c =
-    let i = c .before .loop .inv in
-    all-passed _ _ _ _ (i .0) (i .1 .0) (c .loop-test .left) (i .1 .1)
+returns-2 c = all-passed (c .before .loop .inv) (c .before .before .args .p .height) (omega arith)
 
 pub in-panel-spec : {M : Type 1} → statement M
 in-panel-spec =

@@ -52,14 +52,14 @@ count-cells-requires c κs =
     let e = head .head-in .ensures in (
       ap (λ (h : Head). goodPanel (h .panel)) e ∙ g .panel,
       ap (λ (h : Head). onPanel (h .panel) (h .entry)) e ∙ g .entry,
-      omega (arith, steps-bound f g, length-take (stepsIn f) (drop headLength f), ap length (c .letters-in .ensures)),
+      omega (arith, steps-bound f g, length-take (stepsIn f) (drop headLength f), ap length (c .letters-in .ensures .bytes)),
     )
 
 returns-2 : tie.Need-returns-2
 returns-2 c =
     let at = c .before in
     let head = at .before .before .before in
-    behind-head (F (head .before)) (passed (head .before)) (head .head-in .ensures) (at .letters-in .ensures) (c .count-cells .ensures)
+    behind-head (F (head .before)) (passed (head .before)) (head .head-in .ensures) (at .letters-in .ensures .bytes) (c .count-cells .ensures)
 
 pub find-record-spec : {M : Type 1} → statement M
 find-record-spec =

@@ -1,13 +1,16 @@
 -- What was found says whether the record is refused.
-use mathlib.Core.Path.{_≡_, sym, _∙_}
-use mathlib.Core.List.{[]}
+use Prim.Native.Nat.{ℕ}
+use mathlib.Core.Path.{_≡_, refl, sym, _∙_}
+use mathlib.Core.List.{List, [], _∷_}
+use native.Mathlib.Omega.{arith}
 use lib.ListN.{length}
 use denote.Ref.{now}
 use Rattle.grid.proofs.Answers.{cells-good}
 use Rattle.grid.proofs.Tests.{answer-good, answer-refused}
 use Rattle.grid.specs.declared.Check.the-variants.{Good}
-use Rattle.record.specs.Read.{cellsRead, checkRecord}
-use Rattle.record.proofs.Answers.{cells-refused, record-good}
+use Rattle.record_head.specs.Head.{headLength}
+use Rattle.record.specs.Read.{cellsRead, checkRecord, lettersPlace}
+use Rattle.record.proofs.Answers.{record-refused, record-good}
 use borrow.Author.Needs.{needs}
 use Rattle.record.proofs.letters.Statement.{statement}
 use Rattle.record.proofs.letters.Tie as tie
@@ -21,16 +24,28 @@ find-record-requires c κs = search needs
 enum-told : tie.Need-enum-told
 enum-told c = search needs
 
-slice-aggregate-result : tie.Need-slice-aggregate-result
-slice-aggregate-result c = search needs
+sub-result : tie.Need-sub-result
+sub-result c = search needs
+
+part-result-start : tie.Need-part-result-start
+part-result-start c = search needs
+
+part-result-end : tie.Need-part-result-end
+part-result-end c = search needs
+
+-- an empty stretch has no bytes
+none-left : (l : List ℕ) → length l ≡ 0 → l ≡ []
+none-left [] e = refl
+none-left (x ∷ l) e = absurd (omega arith)
 
 returns : tie.Need-returns
 returns c =
     let told = c .before in
     let call = told .before .before in
     let f = now (call .before .before .args .file) in
-    let e = cells-refused (checkRecord f) (length (cellsRead f)) (sym (call .find-record .ensures) ∙ told .enum-told .given .1) in
-    record { bytes = answer-refused (λ r. []) _ e }
+    let e = record-refused f (sym (call .find-record .ensures) ∙ told .enum-told .given .1) in
+    let front : 0 ≡ lettersPlace f = answer-refused (λ r. 0) _ e in
+    record { part = record { bytes = none-left _ (omega arith) ∙ answer-refused (λ r. []) _ e; block = refl; place = omega arith } }
 
 enum-told-2 : tie.Need-enum-told-2
 enum-told-2 c = search needs
@@ -39,7 +54,11 @@ letters-in-requires : tie.Need-letters-in-requires
 letters-in-requires c κs = record-good _ (good c) .head .whole
 
 returns-2 : tie.Need-returns-2
-returns-2 c = record { bytes = answer-good _ _ (good (c .before)) (c .letters-in .ensures) }
+returns-2 c =
+    let h = good (c .before) in
+    let found = c .letters-in .ensures in
+    let behind : headLength ≡ lettersPlace (now (c .before .before .before .before .before .args .file)) = answer-good _ _ h refl in
+    record { part = record { bytes = answer-good _ _ h (found .bytes); block = found .block; place = omega (arith, found .place) } }
 
 pub letters-spec : {M : Type 1} → statement M
 letters-spec =
@@ -47,7 +66,9 @@ letters-spec =
     (tie.spec
     find-record-requires
     enum-told
-    slice-aggregate-result
+    sub-result
+    part-result-start
+    part-result-end
     returns
     enum-told-2
     letters-in-requires

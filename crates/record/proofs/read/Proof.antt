@@ -21,7 +21,7 @@ use Rattle.record_head.specs.Head.{headLength, panelIn}
 use Rattle.record_head.proofs.Heads.{steps-bound}
 use Rattle.record.specs.declared.ReadAnswer.{ReadAnswer}
 use Rattle.record.specs.Read.{withCells, cellsRead, checkRecord, checkRead, Reads}
-use Rattle.record.proofs.Answers.{GoodRecord, record-good, cells-refused, reads}
+use Rattle.record.proofs.Answers.{GoodRecord, record-good, record-refused, reads}
 use Rattle.record.proofs.Walks.{all-on-largest}
 use Rattle.record.proofs.read.Statement.{statement}
 use Rattle.record.proofs.read.Tie as tie
@@ -58,11 +58,11 @@ head c = c .before .before .before .before .before
 
 -- the cells written are those of the record
 same : (c : tie.After-letters-in) → walkFrom (head c .head-in .result .entry) (now (c .letters-in .result)) ≡ cellsRead (F (head c .before))
-same c = ap₂ (λ (h : Head) (l : List ℕ). walkFrom (h .entry) l) (head c .head-in .ensures) (c .letters-in .ensures)
+same c = ap₂ (λ (h : Head) (l : List ℕ). walkFrom (h .entry) l) (head c .head-in .ensures) (c .letters-in .ensures .bytes)
 
--- a refusal leaves the buffer as it was
-refuses : (f list : List ℕ) {r : Refusal} → checkRead f list ≡ Refused r → Reads f list list (ReadAnswer.Refused r)
-refuses f list e = reads f list (answer-refused ReadAnswer.Refused _ e) (answer-refused (λ r. list) _ e)
+-- a refusal that leaves the buffer as it was
+refuses : (f list : List ℕ) {new : List ℕ} {r : Refusal} → checkRead f list ≡ Refused r → new ≡ list → Reads f list new (ReadAnswer.Refused r)
+refuses f list e same = reads f list (answer-refused ReadAnswer.Refused _ e) (same ∙ answer-refused (λ r. list) _ e)
 
 find-record-requires : tie.Need-find-record-requires
 find-record-requires c κs = search needs
@@ -85,7 +85,7 @@ mul-if1 c = search needs
 returns : tie.Need-returns
 returns c =
     let at = told (c .before) in
-    refuses (F at) (L at) (sym (after-good _ (found at .0) (expect-no _ _ (asked (c .before) ∙ lt-leb _ _ (c .if1 .taken)))))
+    refuses (F at) (L at) (sym (after-good _ (found at .0) (expect-no _ _ (asked (c .before) ∙ lt-leb _ _ (c .if1 .taken))))) refl
 
 letters-in-requires : tie.Need-letters-in-requires
 letters-in-requires c κs = good (told (c .before)) .head .whole
@@ -99,22 +99,17 @@ write-cells-requires c κs =
       omega (arith, found f .1, ap length (same at), at .before .if1 .left),
     )
 
-cast-t19 : tie.Need-cast-t19
-cast-t19 c = search needs
+cast-head : tie.Need-cast-head
+cast-head c = search needs
 
-add-t20 : tie.Need-add-t20
-add-t20 c =
+add-bytes : tie.Need-add-bytes
+add-bytes c =
     let at = c .before .before .before .before .before .before .before in
     let f = told at in
     omega (arith, steps-bound (F f) (good f .head), ap (λ (h : Head). h .steps .0) (at .before .before .before .head-in .ensures))
 
 returns-2 : tie.Need-returns-2
-returns-2 c =
-    let call = c .before .before .before in
-    let a = call .before .before .before .args in
-    let f = now (a .file) in
-    let e = cells-refused (checkRecord f) (length (cellsRead f)) (sym (call .find-record .ensures) ∙ c .before .f .given .1) in
-    refuses f (now (a .list)) (sym (after-refused _ e))
+returns-2 c = refuses _ _ (sym (after-refused _ (record-refused _ (cc)))) refl
 
 same-length : tie.Need-same-length
 same-length c = search needs
@@ -144,8 +139,8 @@ read-spec =
     returns
     letters-in-requires
     write-cells-requires
-    cast-t19
-    add-t20
+    cast-head
+    add-bytes
     returns-2
     same-length
     returns-3)

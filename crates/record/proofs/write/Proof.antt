@@ -10,7 +10,7 @@ use lib.ListN.{length, drop}
 use lib.Dec.{leb}
 use denote.Ref.{now}
 use Rattle.grid.proofs.Facts.{good as is-good-panel, area-small, and-parts}
-use Rattle.grid.proofs.Tests.{expect-yes, expect-no, after-good, after-refused}
+use Rattle.grid.proofs.Tests.{expect-yes, expect-no, after-good}
 use Rattle.grid.specs.declared.Panel.{Panel}
 use Rattle.grid.specs.declared.Check.the-variants.{Good}
 use Rattle.grid.specs.Panel.{onPanel}
@@ -23,7 +23,7 @@ use Rattle.step_letters.specs.Letters.{stepsOf}
 use Rattle.step_letters.proofs.Lists.{steps-and-one}
 use Rattle.record_head.specs.Head.{headLength}
 use Rattle.record.specs.Write.{recordLength}
-use Rattle.record.proofs.Made.{made, refused}
+use Rattle.record.proofs.Made.{made, refused, list-refused}
 use Rattle.record.proofs.write.Statement.{statement}
 use Rattle.record.proofs.write.Tie as tie
 
@@ -75,17 +75,13 @@ enum-known-c : tie.Need-enum-known-c
 enum-known-c c = search needs
 
 returns : tie.Need-returns
-returns c =
-    let call = c .before .before .before in
-    let a = call .before .before .before .args in
-    let e = sym (after-refused _ (sym (call .check-list .ensures) ∙ c .before .c .given .1)) in
-    refused (a .p) (now (a .list)) (now (a .out)) e
+returns c = list-refused _ _ _ (cc) refl
 
 enum-told : tie.Need-enum-told
 enum-told c = search needs
 
-cast-t10 : tie.Need-cast-t10
-cast-t10 c = omega (arith, few c, length-cells (L c))
+cast-cells : tie.Need-cast-cells
+cast-cells c = omega (arith, few c, length-cells (L c))
 
 steps-of-requires : tie.Need-steps-of-requires
 steps-of-requires c κs = omega (arith, good c .some, length-cells (L c))
@@ -100,7 +96,7 @@ returns-2 : tie.Need-returns-2
 returns-2 c =
     let call = c .before .before in
     let at = call .before in
-    refused (P at) (L at) (O at) (sym (after-good _ (passed at) (expect-no _ _ (asked call ∙ lt-leb _ _ (c .if1 .taken)))))
+    refused (P at) (L at) (O at) (sym (after-good _ (passed at) (expect-no _ _ (asked call ∙ lt-leb _ _ (c .if1 .taken))))) refl
 
 cell-at-requires : tie.Need-cell-at-requires
 cell-at-requires c κs = search needs
@@ -119,8 +115,8 @@ write-letters-requires c κs =
     let room = call .before .before .before in
     omega (arith, counted (room .before .before), room .if1 .left, call .write-head .kept .1 .1 .1 .0)
 
-cast-t10-2 : tie.Need-cast-t10-2
-cast-t10-2 c =
+cast-bytes : tie.Need-cast-bytes
+cast-bytes c =
     let call = c .before .before .before .before .before .before .before .before .before .before .before in
     omega (arith, few (call .before), call .steps-of .ensures, length-cells (L (call .before)))
 
@@ -146,7 +142,7 @@ write-spec =
     enum-known-c
     returns
     enum-told
-    cast-t10
+    cast-cells
     steps-of-requires
     cast-k
     add-k
@@ -154,6 +150,6 @@ write-spec =
     cell-at-requires
     write-head-requires
     write-letters-requires
-    cast-t10-2
+    cast-bytes
     same-length
     returns-3)

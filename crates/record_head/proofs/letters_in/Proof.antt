@@ -1,7 +1,8 @@
--- The head's own count of steps bounds the part.
+-- The head's own count of steps bounds the part, which begins at the head's end.
 use borrow.Author.Needs.{needs}
 use Prim.Native.Nat.{ℕ}
-use mathlib.Core.Path.{ap, _∙_}
+use mathlib.Core.Path.{refl, ap, _∙_}
+use native.Mathlib.Omega.{arith}
 use native.Mathlib.Nat.{add-sub-cancel-left}
 use lib.ListN.{take, drop}
 use denote.Ref.{now}
@@ -30,8 +31,13 @@ part-result-end c = search needs
 returns : tie.Need-returns
 returns c =
     let call = c .before in
-    ap (λ (k : ℕ). take k (drop headLength (now (call .before .before .args .file))))
-    (add-sub-cancel-left headLength _ ∙ call .pair-at .ensures .0)
+    record {
+      bytes =
+          ap (λ (k : ℕ). take k (drop headLength (now (call .before .before .args .file))))
+          (add-sub-cancel-left headLength _ ∙ call .pair-at .ensures .0);
+      block = refl;
+      place = omega arith;
+    }
 
 pub letters-in-spec : {M : Type 1} → statement M
 letters-in-spec =

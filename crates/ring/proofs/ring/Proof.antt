@@ -1,6 +1,6 @@
 -- A refusal is the check's and changes nothing; a good call draws the corner track to a neighbour of its first cell, a longest closed track.
 use borrow.Author.Needs.{needs}
-use mathlib.Core.Path.{_≡_, sym, _∙_}
+use mathlib.Core.Path.{_≡_, refl, sym, _∙_}
 use native.Mathlib.Omega.{arith}
 use mathlib.Core.List.{List}
 use Prim.Native.Nat.{ℕ}
@@ -35,7 +35,7 @@ enum-known-c : tie.Need-enum-known-c
 enum-known-c c = search needs
 
 returns : tie.Need-returns
-returns c = refused (sym (c .before .before .before .check-ring .ensures) ∙ c .before .c .given .1)
+returns c = refused (cc) refl
 
 enum-told : tie.Need-enum-told
 enum-told c = search needs

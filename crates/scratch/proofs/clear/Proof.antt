@@ -11,10 +11,10 @@ use Rattle.scratch.proofs.clear.Statement.{statement}
 use Rattle.scratch.proofs.clear.Tie as tie
 
 abbrev Inv-loop : tie.InvT-loop
-Inv-loop scratch₀ places i₀ scratch i = (scratch ≡ replicate i 0 ++ drop i scratch₀) × (i ≤ places) × (length scratch ≡ length scratch₀)
+Inv-loop scratch₀ places at₀ scratch at = (scratch ≡ replicate at 0 ++ drop at scratch₀) × (at ≤ places) × (length scratch ≡ length scratch₀)
 
 abbrev μ-loop : tie.MeasureT-loop
-μ-loop scratch₀ places i₀ scratch i = places - i
+μ-loop scratch₀ places at₀ scratch at = places - at
 
 area-of-requires : tie.Need-area-of-requires Inv-loop μ-loop
 area-of-requires c κs = search needs
@@ -25,8 +25,8 @@ loop-holds c = (refl, omega arith, refl)
 slice-write-scratch : tie.Need-slice-write-scratch Inv-loop μ-loop
 slice-write-scratch c = omega arith
 
-add-i : tie.Need-add-i Inv-loop μ-loop
-add-i c = omega arith
+add-at : tie.Need-add-at Inv-loop μ-loop
+add-at c = omega arith
 
 loop-less : tie.Need-loop-less Inv-loop μ-loop
 loop-less c = omega arith
@@ -34,8 +34,8 @@ loop-less c = omega arith
 loop-again : tie.Need-loop-again Inv-loop μ-loop
 loop-again c =
     let l = c .before .loop in
-    let filled = ap (λ (s : List ℕ). set s (l .i) 0) (l .inv .0) ∙ fill-more (l .i) 0 _ (omega arith) in
-    (filled, omega arith, length-set (l .scratch) (l .i) 0 ∙ l .inv .2)
+    let filled = ap (λ (s : List ℕ). set s (l .at) 0) (l .inv .0) ∙ fill-more (l .at) 0 _ (omega arith) in
+    (filled, omega arith, length-set (l .scratch) (l .at) 0 ∙ l .inv .2)
 
 same-length : tie.Need-same-length Inv-loop μ-loop
 same-length c = c .before .loop .inv .2
@@ -56,7 +56,7 @@ clear-spec =
     area-of-requires
     loop-holds
     slice-write-scratch
-    add-i
+    add-at
     loop-less
     loop-again
     same-length
