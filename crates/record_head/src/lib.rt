@@ -21,20 +21,22 @@ ghost use Rattle.record_head.specs.Head.{headOf, headLength, hasMark, pa
 // The mark (a magic number).
 pub const MARK_HIGH: u8 = 0x46;
 
-pub const MARK_LOW: u8 = 0x54;
+pub const MARK_LOW: u8 = 0x55;
 
-// Where the fields behind it stand: one byte for the width, one for the height, two for the entry, x first, and
-// two for the step count, high first.
+// Where the fields behind it stand: one byte for the width, one for the height, two for the pitch, high first,
+// two for the entry, x first, and two for the step count, high first.
 pub const WIDTH_AT: usize = 2;
 
 pub const HEIGHT_AT: usize = 3;
 
-pub const ENTRY_AT: usize = 4;
+pub const PITCH_AT: usize = 4;
 
-pub const STEPS_AT: usize = 6;
+pub const ENTRY_AT: usize = 6;
+
+pub const STEPS_AT: usize = 8;
 
 // The number of bytes before the letters.
-pub const HEAD: usize = 8;
+pub const HEAD: usize = 10;
 
 // The fields of a record's head.
 pub struct Head {
@@ -69,6 +71,7 @@ pub fn write_head(p: Panel, entry: Cell, steps: Steps, out: &mut [u8])
     out[1] = MARK_LOW;
     out[WIDTH_AT] = p.width as u8;
     out[HEIGHT_AT] = p.height as u8;
+    put_pair(out, PITCH_AT, p.pitch);
     out[ENTRY_AT] = entry.x as u8;
     out[ENTRY_AT + 1] = entry.y as u8;
     put_pair(out, STEPS_AT, steps.0);
@@ -91,7 +94,11 @@ pub fn head_in(file: &[u8]) -> Head
     ensures { λ r. ⌜ r ≡ headIn (now (file .entry)) ⌝ }
 {
     Head {
-        panel: panel_of(byte_at(file, WIDTH_AT), byte_at(file, HEIGHT_AT)),
+        panel: panel_of(
+            byte_at(file, WIDTH_AT),
+            byte_at(file, HEIGHT_AT),
+            pair_at(file, PITCH_AT),
+        ),
         entry: cell_at(file, ENTRY_AT),
         steps: Steps(pair_at(file, STEPS_AT)),
     }
