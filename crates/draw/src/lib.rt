@@ -32,8 +32,8 @@ fn draw_plan(p: Plan, buf: &mut [u8]) -> Cells
 // Draws a longest track between two different cells, where there is room for it. Like all that
 // chooses and draws, it is given the sides and no pitch: one track serves every panel of these sides.
 fn draw_longest(width: u32, height: u32, s: Cell, t: Cell, buf: &mut [u8])
-    requires { ⌜ (pitch : ℕ) → ReadyOrder (panel width height pitch) s t (now buf) ⌝ }
-    ensures { λ _. ⌜ (pitch : ℕ) → OrderDrawn (panel width height pitch) s t (now (buf .entry)) (now (buf .exit)) ⌝ }
+    requires { ⌜ ((pitch : ℕ) → ReadyOrder (panel width height pitch) s t (now buf)) ⌝ }
+    ensures { λ _. ⌜ ((pitch : ℕ) → OrderDrawn (panel width height pitch) s t (now (buf .entry)) (now (buf .exit))) ⌝ }
 {
     if width == 3 {
         if height == 3 {

@@ -200,8 +200,8 @@ fn write_row(p: Placing, n: usize, buf: &mut [u8])
 
 // Draws a longest track of 3 by 3 cells, which serves every pitch.
 pub fn draw_small(s: Cell, t: Cell, buf: &mut [u8])
-    requires { ⌜ (pitch : ℕ) → ReadyOrder (panel 3 3 pitch) s t (now buf) ⌝ }
-    ensures { λ _. ⌜ (pitch : ℕ) → OrderDrawn (panel 3 3 pitch) s t (now (buf .entry)) (now (buf .exit)) ⌝ }
+    requires { ⌜ ((pitch : ℕ) → ReadyOrder (panel 3 3 pitch) s t (now buf)) ⌝ }
+    ensures { λ _. ⌜ ((pitch : ℕ) → OrderDrawn (panel 3 3 pitch) s t (now (buf .entry)) (now (buf .exit))) ⌝ }
 {
     let placed = placing_of(s, t);
     let row = placed.row;
