@@ -8,7 +8,7 @@ use Rattle.grid.specs.declared.Cell.{Cell}
 use Rattle.grid.specs.declared.Check.{Check}
 use Rattle.grid.specs.declared.Check.the-variants.{Good}
 use Rattle.grid.specs.declared.Refusal.the-variants.{Side, Pitch, EntryOff, ExitOff, SameCell}
-use Rattle.grid.specs.Panel.{panel, goodSides, goodPitch, onPanel, OnPanel, sameCell, Neighbours}
+use Rattle.grid.specs.Panel.{panel, goodSides, GoodSides, goodPitch, onPanel, OnPanel, sameCell, Neighbours}
 use Rattle.grid.specs.Track.{Track}
 use Rattle.grid.specs.Check.{expect, checkPanel, checkOrder, after}
 use Rattle.grid.proofs.Track.{widen}
@@ -16,6 +16,9 @@ use Rattle.grid.proofs.Track.{widen}
 module _ {m n a b : ℕ} where
   pub cell-same : (c : Cell) → OnPanel (panel m n a) c → OnPanel (panel m n b) c
   cell-same c o = record { left = o .left; right = o .right; top = o .top; bottom = o .bottom }
+
+  pub sides-same : GoodSides (panel m n a) → GoodSides (panel m n b)
+  sides-same g = record { wide = g .wide; widest = g .widest; high = g .high; highest = g .highest }
 
   pub neighbour-same : (c d : Cell) → OnPanel (panel m n a) d × Neighbours c d → OnPanel (panel m n b) d × Neighbours c d
   neighbour-same c d (o, h) = (cell-same d o, h)

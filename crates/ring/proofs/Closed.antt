@@ -78,7 +78,7 @@ module _ (p : Panel) (old : List ℕ) (fine : ringCheck p (length old) ≡ check
   pub ready : Ready first (far p) t old
   ready = record {
     corner = record { across = omega arith; down = omega arith };
-    opposite = record { across = omega (arith, g .panel .widest); down = omega (arith, g .panel .highest) };
+    opposite = record { across = omega (arith, g .sides .widest); down = omega (arith, g .sides .highest) };
     inside = inside (Between.up (o .left) (o .right)) (Between.up (o .top) (o .bottom));
     room = omega (arith, count-is, g .room);
   }

@@ -1,45 +1,32 @@
--- Class and count read the sides of a panel and nothing else, and so does what is on it. So what is computed over the panel that is made of 3 and 3
--- holds of every panel of three columns and three rows.
+-- What is computed over one panel of 3 by 3 holds of every pitch, since class, count and what is on the panel go by the sides alone.
 use Prim.Native.Nat.{ℕ, _*_}
-use mathlib.Core.Path.{_≡_, refl, sym, ap, _∙_}
+use mathlib.Core.Path.{_≡_, sym, ap, _∙_}
 use mathlib.Core.List.{List, _++_}
-use native.Mathlib.Omega.{arith}
 use lib.ListN.{drop}
 use Rattle.grid.specs.declared.Panel.{Panel}
 use Rattle.grid.specs.declared.Cell.{Cell}
 use Rattle.grid.specs.Panel.{panel, OnPanel}
 use Rattle.grid.specs.Bytes.{bytes}
-use Rattle.grid.proofs.Track.{widen}
+use Rattle.grid.proofs.Sides.{track-same}
 use Rattle.line.specs.Drawn.{Drawn}
 use Rattle.count.specs.declared.ClassCount.{ClassCount}
-use Rattle.count.specs.Count.{classCount, named, decided, f1, f2, f3, c2, c0, count}
-use Rattle.table.specs.Order.{ThreeByThree}
+use Rattle.count.specs.Count.{count}
+use Rattle.count.proofs.Sides.{by-sides}
+use Rattle.table.specs.Order.{OrderDrawn}
 
-pub by-sides : (p : Panel) (s t : Cell) → classCount p s t ≡ classCount (panel (p .width) (p .height)) s t
-unfolding classCount named decided f1 f2 f3 c2 c0
-by-sides p s t = refl
-
--- the panel over which is computed
+-- the panel over which is computed, of the usual pitch
 abbrev pub three : Panel
-three = panel 3 3
+three = panel 3 3 4000
 
-module _ {p : Panel} (h : ThreeByThree p) where
-  pub three-count : (s t : Cell) → count p s t ≡ count three s t
-  three-count s t = ap (λ (k : ClassCount). k .count .0) (by-sides p s t ∙ (λ i. classCount (panel (h .wide i) (h .high i)) s t))
+pub three-count : (q : ℕ) (s t : Cell) → count (panel 3 3 q) s t ≡ count three s t
+three-count q s t = ap (λ (k : ClassCount). k .count .0) (by-sides 3 3 q 4000 s t)
 
-  pub on-three : {c : Cell} → OnPanel p c → OnPanel three c
-  on-three o = record { left = o .left; right = omega (arith, h .wide); top = o .top; bottom = omega (arith, h .high) }
-
-  pub three-on : (c : Cell) → OnPanel three c → OnPanel p c
-  three-on c o = record { left = o .left; right = omega (arith, h .wide); top = o .top; bottom = omega (arith, h .high) }
-
-  pub three-drawn : {s t : Cell} {old new : List ℕ} → Drawn (OnPanel three) s t (count three s t) old new
-      → Drawn (OnPanel p) s t (count p s t) old new
-  three-drawn {s} {t} {old} d =
-      let e = three-count s t in
-      record {
-        cells = d .cells;
-        size = d .size ∙ sym e;
-        track = widen three-on (d .track);
-        written = d .written ∙ ap (λ (k : ℕ). bytes (d .cells) ++ drop (2 * k) old) (sym e);
-      }
+pub three-drawn : (q : ℕ) {s t : Cell} {old new : List ℕ} → OrderDrawn three s t old new → OrderDrawn (panel 3 3 q) s t old new
+three-drawn q {s} {t} {old} d =
+    let e = three-count q s t in
+    record {
+      cells = d .cells;
+      size = d .size ∙ sym e;
+      track = track-same (d .track);
+      written = d .written ∙ ap (λ (k : ℕ). bytes (d .cells) ++ drop (2 * k) old) (sym e);
+    }
