@@ -12,12 +12,12 @@ use borrow.Author.Tests.{lt-ltb, le-ltb, le-leb, leb-true, leb-false, eqb-true}
 use Rattle.grid.specs.declared.Cell.{Cell}
 use Rattle.grid.specs.declared.Panel.{Panel}
 use Rattle.grid.specs.declared.Check.the-variants.{Good}
-use Rattle.grid.specs.Panel.{area, onPanel, goodPanel}
+use Rattle.grid.specs.Panel.{panel, area, onPanel, goodPanel}
 use Rattle.grid.specs.Check.{checkEntry}
 use Rattle.grid.proofs.Facts.{good, is-good, is-on, area-small, and-parts, and-both}
-use Rattle.grid.proofs.Passed.{expect-passed, expect-rest, after-passed, after-rest, good-entry}
+use Rattle.grid.proofs.Passed.{expect-passed, expect-rest, after-passed, after-rest, good-entry, panel-passes}
 use Rattle.grid.proofs.Tests.{expect-yes, after-good}
-use Rattle.record_head.specs.Head.{markHigh, markLow, headOf, headLength, stepsAt, hasMark}
+use Rattle.record_head.specs.Head.{markHigh, markLow, headOf, headLength, pitchAt, stepsAt, hasMark}
 use Rattle.record_head.specs.Head.{panelIn, entryIn, stepsIn, lettersIn, goodSteps, checkHead}
 
 -- ---- numbers
@@ -33,11 +33,8 @@ below-last k n h = by-case (leb k (n - 1)) refl
 high-and-low : (k : ℕ) → 256 * (k / 256) + k % 256 ≡ k
 high-and-low k = omega arith
 
-high-of : (h l : ℕ) → l < 256 → (256 * h + l) / 256 ≡ h
-high-of h l b = omega arith
-
-low-of : (h l : ℕ) → l < 256 → (256 * h + l) % 256 ≡ l
-low-of h l b = omega arith
+pair-of : (h l : ℕ) → l < 256 → ((256 * h + l) / 256 ≡ h) × ((256 * h + l) % 256 ≡ l)
+pair-of h l b = (omega arith, omega arith)
 
 -- ---- a check that refuses nothing
 
@@ -77,7 +74,7 @@ head-good f e =
 pub is-head-good : (f : List ℕ) → GoodHead f → checkHead f ≡ Good
 unfolding goodSteps
 is-head-good f g =
-    let entry = sym (after-good _ (sym (expect-yes _ _ (g .panel) refl)) (expect-yes _ _ (g .entry) refl)) in
+    let entry = sym (after-good _ (panel-passes (panelIn f) (g .panel)) (expect-yes _ _ (g .entry) refl)) in
     let steps = and-both (le-leb 1 (stepsIn f) (g .some)) (le-leb (stepsIn f) (area (panelIn f) - 1) (omega (arith, g .few))) in
     sym (expect-yes _ _ (g .mark)
     (expect-yes _ _ (le-leb _ _ (g .long))
@@ -87,7 +84,7 @@ is-head-good f g =
 
 -- the step count of a good head has two bytes to spare
 pub steps-bound : (f : List ℕ) → GoodHead f → stepsIn f < 16384
-steps-bound f h = omega (arith, h .few, area-small (good (panelIn f) (h .panel)))
+steps-bound f h = omega (arith, h .few, area-small (good (panelIn f) (h .panel) .sides))
 
 -- ---- a head in front of anything
 
@@ -96,7 +93,7 @@ module _ (p : Panel) (s : Cell) (k : ℕ) (rest : List ℕ) where
   file = headOf p s k ++ rest
 
   pub panel-back : panelIn file ≡ p
-  panel-back = refl
+  panel-back = ap (panel (p .width) (p .height)) (high-and-low (p .pitch))
 
   pub entry-back : entryIn file ≡ s
   entry-back = refl
@@ -113,7 +110,7 @@ module _ (p : Panel) (s : Cell) (k : ℕ) (rest : List ℕ) where
       is-head-good file record {
         mark = and-both (le-leb 2 (length file) (omega arith)) refl;
         long = omega arith;
-        panel = g;
+        panel = ap goodPanel panel-back ∙ g;
         entry = o;
         some = omega (arith, steps-back);
         few = omega (arith, steps-back);
@@ -138,6 +135,6 @@ head-is f g byte =
     let m = and-parts (eqb (getD f 0 0) markHigh) (eqb (getD f 1 0) markLow) (and-parts (leb 2 (length f)) _ (g .mark) .1) in
     let first = eqb-true (getD f 0 0) markHigh (m .0) in
     let second = eqb-true (getD f 1 0) markLow (m .1) in
-    let high = high-of (getD f stepsAt 0) (getD f (stepsAt + 1) 0) (byte (stepsAt + 1)) in
-    let low = low-of (getD f stepsAt 0) (getD f (stepsAt + 1) 0) (byte (stepsAt + 1)) in
+    let (pitch-high, pitch-low) = pair-of (getD f pitchAt 0) (getD f (pitchAt + 1) 0) (byte (pitchAt + 1)) in
+    let (steps-high, steps-low) = pair-of (getD f stepsAt 0) (getD f (stepsAt + 1) 0) (byte (stepsAt + 1)) in
     bytes-from headLength 0 f (g .long) ∙ cc
