@@ -30,7 +30,7 @@ returns c =
     let height = pitch .before in
     let width = height .before in
     let its-panel = made .panel-of .ensures
-        ∙ (λ i. panel (width .byte-at .ensures .0 i) (height .byte-at2 .ensures .0 i) (pitch .pair-at .ensures .0 i)) in
+    ∙ (λ i. panel (width .byte-at .ensures .0 i) (height .byte-at2 .ensures .0 i) (pitch .pair-at .ensures .0 i)) in
     λ i. record { panel = its-panel i; entry = c .before .cell-at .ensures i; steps = record { 0 = c .pair-at2 .ensures .0 i } }
 
 pub head-in-spec : {M : Type 1} → statement M
