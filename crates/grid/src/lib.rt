@@ -225,8 +225,13 @@ pub fn after(first: Check, rest: Check) -> Check
 pub fn check_panel(p: Panel) -> Check
     ensures { λ r. ⌜ r ≡ checkPanel p ⌝ }
 {
-    let pitch = expect(good_pitch(p), Refusal::Pitch, Check::Good);
-    expect(good_sides(p), Refusal::Side, pitch)
+    let sides = good_sides(p);
+    let pitch = good_pitch(p);
+    expect(
+        sides,
+        Refusal::Side,
+        expect(pitch, Refusal::Pitch, Check::Good),
+    )
 }
 
 pub fn check_entry(p: Panel, s: Cell) -> Check

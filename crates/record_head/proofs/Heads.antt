@@ -17,7 +17,7 @@ use Rattle.grid.specs.Check.{checkEntry}
 use Rattle.grid.proofs.Facts.{good, is-good, is-on, area-small, and-parts, and-both}
 use Rattle.grid.proofs.Passed.{expect-passed, expect-rest, after-passed, after-rest, good-entry, panel-passes}
 use Rattle.grid.proofs.Tests.{expect-yes, after-good}
-use Rattle.record_head.specs.Head.{markHigh, markLow, headOf, headLength, pitchAt, stepsAt, hasMark}
+use Rattle.record_head.specs.Head.{markHigh, markLow, headOf, headLength, pitchAt, stepsAt, hasMark, hasHead}
 use Rattle.record_head.specs.Head.{panelIn, entryIn, stepsIn, lettersIn, goodSteps, checkHead}
 
 -- ---- numbers
@@ -52,7 +52,7 @@ pub head-good : (f : List ℕ) → checkHead f ≡ Good → GoodHead f
 unfolding goodSteps
 head-good f e =
     let e₁ = expect-rest (hasMark f) _ _ e in
-    let e₂ = expect-rest (leb headLength (length f)) _ _ e₁ in
+    let e₂ = expect-rest (hasHead f) _ _ e₁ in
     let e₃ = after-rest (checkEntry (panelIn f) (entryIn f)) _ e₂ in
     let e₄ = expect-rest (goodSteps (panelIn f) (stepsIn f)) _ _ e₃ in
     let front = good-entry (panelIn f) (entryIn f) (after-passed _ _ e₂) in
@@ -60,7 +60,7 @@ head-good f e =
     let low = leb-true 1 (stepsIn f) (k .0) in
     record {
       mark = expect-passed (hasMark f) _ _ e;
-      long = leb-true _ _ (expect-passed (leb headLength (length f)) _ _ e₁);
+      long = leb-true _ _ (expect-passed (hasHead f) _ _ e₁);
       panel = is-good (front .0);
       entry = is-on (front .1);
       some = low;

@@ -55,13 +55,17 @@ headLength = stepsAt + 2
 unfoldable pub hasMark : List ℕ → Bool
 hasMark f = leb 2 (length f) && (eqb (getD f 0 0) markHigh && eqb (getD f 1 0) markLow)
 
--- the number in two bytes from i on, high first
-abbrev pub pairAt : List ℕ → ℕ → ℕ
-pairAt f i = 256 * getD f i 0 + getD f (i + 1) 0
+-- bytes enough for a head
+abbrev pub hasHead : List ℕ → Bool
+hasHead f = leb headLength (length f)
+
+-- the number in two bytes, by the places of its high byte and of its low one
+abbrev pub pairAt : List ℕ → ℕ → ℕ → ℕ
+pairAt f high low = 256 * getD f high 0 + getD f low 0
 
 -- the panel in the head
 abbrev pub panelIn : List ℕ → Panel
-panelIn f = panel (getD f widthAt 0) (getD f heightAt 0) (pairAt f pitchAt)
+panelIn f = panel (getD f widthAt 0) (getD f heightAt 0) (pairAt f pitchAt (pitchAt + 1))
 
 -- the entry in the head
 abbrev pub entryIn : List ℕ → Cell
@@ -69,7 +73,7 @@ entryIn f = cellAt f entryAt
 
 -- the step count in the head
 abbrev pub stepsIn : List ℕ → ℕ
-stepsIn f = pairAt f stepsAt
+stepsIn f = pairAt f stepsAt (stepsAt + 1)
 
 -- the three together
 abbrev pub headIn : List ℕ → Head
@@ -87,7 +91,7 @@ goodSteps p k = upTo (area p - 1) k
 abbrev pub checkHead : List ℕ → Check
 checkHead f =
     expect (hasMark f) Mark
-    (expect (leb headLength (length f)) CutShort
+    (expect (hasHead f) CutShort
     (after (checkEntry (panelIn f) (entryIn f))
     (expect (goodSteps (panelIn f) (stepsIn f)) StepCount
     (expect (leb (headLength + stepsIn f) (length f)) CutShort Good))))

@@ -8,25 +8,25 @@ use Rattle.grid.specs.Check.{expect}
 use Rattle.grid.proofs.check_panel.Statement.{statement}
 use Rattle.grid.proofs.check_panel.Tie as tie
 
+good-sides-requires : tie.Need-good-sides-requires
+good-sides-requires c κs = search needs
+
 good-pitch-requires : tie.Need-good-pitch-requires
 good-pitch-requires c κs = search needs
 
 expect-requires : tie.Need-expect-requires
 expect-requires c κs = search needs
 
-good-sides-requires : tie.Need-good-sides-requires
-good-sides-requires c κs = search needs
-
 expect-requires-2 : tie.Need-expect-requires-2
 expect-requires-2 c κs = search needs
 
 returns : tie.Need-returns
 returns c =
-    let first = c .before .before in
-    let pitch = first .expect .ensures ∙ ap (λ (b : Bool). expect b Pitch Good) (first .before .good-pitch .ensures) in
-    c .expect2 .ensures ∙ (λ i. expect (c .before .good-sides .ensures i) Side (pitch i))
+    let tested = c .before .before in
+    let pitch = c .before .expect .ensures ∙ ap (λ (b : Bool). expect b Pitch Good) (tested .good-pitch .ensures) in
+    c .expect2 .ensures ∙ (λ i. expect (tested .before .good-sides .ensures i) Side (pitch i))
 
 pub check-panel-spec : {M : Type 1} → statement M
 check-panel-spec =
     tie.close
-    (tie.spec good-pitch-requires expect-requires good-sides-requires expect-requires-2 returns)
+    (tie.spec good-sides-requires good-pitch-requires expect-requires expect-requires-2 returns)

@@ -43,7 +43,8 @@ slice-write-out-4 c = simp length-set (omega arith)
 put-pair-requires : tie.Need-put-pair-requires
 put-pair-requires c κs =
     let start = c .before .before .before .before in
-    (omega (arith, fine start .coarsest), simp length-set (omega (arith, start .pre .3)))
+    let room = start .pre .3 in
+    (omega (arith, fine start .coarsest), simp length-set (omega (arith, room)), simp length-set (omega (arith, room)))
 
 -- what is known behind the pitch: the start, and that the buffer is as long as it was
 abbrev before-pitch : tie.After-put-pair → tie.Start
@@ -83,7 +84,8 @@ put-pair-requires-2 : tie.Need-put-pair-requires-2
 put-pair-requires-2 c κs =
     let pair = c .before .before .before .before .before in
     let start = before-pitch pair in
-    (start .pre .2, simp length-set (omega (arith, as-long pair, start .pre .3)))
+    let room = start .pre .3 in
+    (start .pre .2, simp length-set (omega (arith, as-long pair, room)), simp length-set (omega (arith, as-long pair, room)))
 
 same-length : tie.Need-same-length
 same-length c =
