@@ -227,11 +227,8 @@ pub fn check_panel(p: Panel) -> Check
 {
     let sides = good_sides(p);
     let pitch = good_pitch(p);
-    expect(
-        sides,
-        Refusal::Side,
-        expect(pitch, Refusal::Pitch, Check::Good),
-    )
+    let rest = expect(pitch, Refusal::Pitch, Check::Good);
+    expect(sides, Refusal::Side, rest)
 }
 
 pub fn check_entry(p: Panel, s: Cell) -> Check
