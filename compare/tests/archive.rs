@@ -70,7 +70,7 @@ fn every_pair_up_to_eight_by_eight() {
     for (width, height) in (1..=8).flat_map(|m| (1..=8).map(move |n| (m, n))) {
         let cells = || (1..=height).flat_map(move |y| (1..=width).map(move |x| (x, y)));
         for (entry, exit) in cells().flat_map(|s| cells().map(move |t| (s, t))) {
-            let order = Order::new(width, height, entry, exit);
+            let order = Order::new(width, height, 4_000, entry, exit);
             compare_bound(&order);
             let mut buffer = [0xA5; 2 * 64 + 2];
             let count = compare_draw(&order, &mut buffer).count as usize;
@@ -120,7 +120,7 @@ fn order(random: &mut Random, rarely: u32) -> Order {
     let (width, height) = (number(random, largest), number(random, largest));
     let mut cell = || (number(random, width), number(random, height));
     let (entry, exit) = (cell(), cell());
-    Order::new(width, height, entry, if random.below(64) == 0 { entry } else { exit })
+    Order::new(width, height, 4_000, entry, if random.below(64) == 0 { entry } else { exit })
 }
 
 fn dirty(random: &mut Random, length: usize) -> Vec<u8> {

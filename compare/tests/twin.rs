@@ -8,7 +8,7 @@ fn orders(width: u32, height: u32) -> impl Iterator<Item = Order> {
     cells().flat_map(move |entry| {
         cells()
             .filter(move |&exit| exit != entry)
-            .map(move |exit| Order::new(width, height, entry, exit))
+            .map(move |exit| Order::new(width, height, 4_000, entry, exit))
     })
 }
 
@@ -49,7 +49,7 @@ fn random_orders() {
     for _ in 0..4_000 {
         let (width, height) = (random.within(1, 128), random.within(1, 128));
         let mut cell = || (random.within(1, width), random.within(1, height));
-        let order = Order::new(width, height, cell(), cell());
+        let order = Order::new(width, height, 4_000, cell(), cell());
         if order.entry != order.exit {
             draws_and_accepts(&order);
         }
@@ -58,7 +58,7 @@ fn random_orders() {
 
 #[test]
 fn a_buffer_one_byte_short() {
-    let order = Order::new(128, 128, (1, 1), (1, 128));
+    let order = Order::new(128, 128, 4_000, (1, 1), (1, 128));
     assert_eq!(draw(&order, &mut vec![0; 32_768]), Ok(16_384));
     assert_eq!(draw(&order, &mut vec![0; 32_767]), Err(Refusal::ShortBuffer));
 }
