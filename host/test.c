@@ -267,10 +267,11 @@ static void run_only(void)
     EXPECT(draw(large, 32767) == answer(FOIL_SHORT_BUFFER, 0, 0));
 }
 
-/* Each number of an order in turn is one from the ends of the range, or just outside its own. */
+/* Each number of an order in turn is one from the ends of the range, or just outside its own; the low half of 69536
+ * is the usual pitch. */
 static void hostile(void)
 {
-    static const uint32_t numbers[] = {0, 129, 255, 256, 257, 999, 10001, 65535, 65536, 0x7FFFFFFF, 0x80000000, 0xFFFFFFFE, 0xFFFFFFFF};
+    static const uint32_t numbers[] = {0, 129, 255, 256, 257, 999, 10001, 65535, 65536, 69536, 0x7FFFFFFF, 0x80000000, 0xFFFFFFFE, 0xFFFFFFFF};
     for (size_t i = 0; i < sizeof numbers / sizeof *numbers; i++) {
         uint32_t k = numbers[i];
         bad((struct order){k, 5, USUAL, 1, 1, 2, 2}, FOIL_SIDE);
