@@ -110,7 +110,7 @@ fn the_same_track_at_every_pitch() {
         let mut buffer = vec![0xA5; 2 * order.area() + 6];
         (bound(order), draw(order, &mut buffer), buffer)
     };
-    for order in orders(6, 5).chain(orders(3, 8)) {
+    for order in orders(6, 5).chain(orders(5, 5)).chain(orders(3, 8)) {
         let usual = drawn(&order);
         assert!([1_000, 10_000].iter().all(|&pitch| drawn(&order.at(pitch)) == usual), "{order:?}");
     }
