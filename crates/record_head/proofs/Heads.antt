@@ -2,7 +2,7 @@
 -- what it says, and what the check says where it refuses nothing. Only these laws know which byte of the head holds what.
 use Prim.Native.Nat.{ℕ, zero, suc, _+_, _-_, _*_, _/_, _%_, _≤_, _<_}
 use mathlib.Core.Path.{_≡_, refl, sym, ap, _∙_}
-use mathlib.Core.Bool.{Bool, true, false}
+use mathlib.Core.Bool.{Bool, true, false, _&&_}
 use mathlib.Core.List.{List, [], _∷_, _++_}
 use native.Mathlib.Omega.{arith}
 use lib.Dec.{leb, ltb, eqb}
@@ -11,12 +11,13 @@ use lib.Seq.{drop-cons}
 use borrow.Author.Tests.{lt-ltb, le-ltb, le-leb, leb-true, leb-false, eqb-true}
 use Rattle.grid.specs.declared.Cell.{Cell}
 use Rattle.grid.specs.declared.Panel.{Panel}
-use Rattle.grid.specs.declared.Check.the-variants.{Good}
+use Rattle.grid.specs.declared.Refusal.the-variants.{Mark}
+use Rattle.grid.specs.declared.Check.the-variants.{Good, Refused}
 use Rattle.grid.specs.Panel.{panel, area, onPanel, goodPanel}
 use Rattle.grid.specs.Check.{checkEntry}
 use Rattle.grid.proofs.Facts.{good, is-good, is-on, area-small, and-parts, and-both}
 use Rattle.grid.proofs.Passed.{expect-passed, expect-rest, after-passed, after-rest, good-entry, panel-passes}
-use Rattle.grid.proofs.Tests.{expect-yes, after-good}
+use Rattle.grid.proofs.Tests.{expect-yes, expect-no, after-good}
 use Rattle.record_head.specs.Head.{markHigh, markLow, headOf, headLength, pitchAt, stepsAt, hasMark, hasHead}
 use Rattle.record_head.specs.Head.{panelIn, entryIn, stepsIn, lettersIn, goodSteps, checkHead}
 
@@ -85,6 +86,14 @@ is-head-good f g =
 -- the step count of a good head has two bytes to spare
 pub steps-bound : (f : List ℕ) → GoodHead f → stepsIn f < 16384
 steps-bound f h = omega (arith, h .few, area-small (good (panelIn f) (h .panel) .sides))
+
+-- ---- the old mark, 46 54
+
+pub old-mark : (rest : List ℕ) → checkHead (0x46 ∷ 0x54 ∷ rest) ≡ Refused Mark
+unfolding hasMark
+old-mark rest =
+    let long = le-leb 2 (length (0x46 ∷ 0x54 ∷ rest)) (omega arith) in
+    sym (expect-no _ _ (ap (λ (b : Bool). b && false) long))
 
 -- ---- a head in front of anything
 
