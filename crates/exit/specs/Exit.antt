@@ -45,7 +45,7 @@ any f (c ∷ l) = f c || any f l
 abbrev pub fits : Panel → Cell → Cells → Cell → Bool
 fits p s w c = not (sameCell s c) && leb (w .0) (count p s c)
 
--- 1; 2; then 12, no such cell exists
+-- 1; 18; 2; then 12, no such cell exists
 abbrev pub exitCheck : Panel → Cell → Cells → Check
 exitCheck p s w = after (checkEntry p s) (expect (any (fits p s w) (reading p)) NoExit Good)
 

@@ -87,7 +87,7 @@ is-head-good f g =
 pub steps-bound : (f : List ℕ) → GoodHead f → stepsIn f < 16384
 steps-bound f h = omega (arith, h .few, area-small (good (panelIn f) (h .panel) .sides))
 
--- ---- the old mark, 46 54
+-- ---- the old mark, 46 54, under which records had no pitch
 
 pub old-mark : (rest : List ℕ) → checkHead (0x46 ∷ 0x54 ∷ rest) ≡ Refused Mark
 unfolding hasMark
