@@ -11,9 +11,8 @@ use Rattle.grid.specs.Panel.{panel, OnPanel, GoodSides}
 use Rattle.grid.specs.Bytes.{bytes}
 use Rattle.grid.proofs.Sides.{sides-same, cell-same}
 use Rattle.line.specs.Drawn.{InBytes}
-use Rattle.count.specs.declared.ClassCount.{ClassCount}
 use Rattle.count.specs.Count.{count}
-use Rattle.count.proofs.Sides.{by-sides}
+use Rattle.count.proofs.Sides.{count-same}
 use Rattle.plan.specs.declared.Leg.{Leg}
 use Rattle.plan.specs.declared.Plan.{Plan}
 use Rattle.plan.specs.Leg.{legs}
@@ -41,7 +40,7 @@ ready-same {m} {n} {a} {s} {t} o q = record {
   entry = cell-same s (o .entry);
   exit = cell-same t (o .exit);
   differ = o .differ;
-  room = omega (arith, o .room, ap (λ (k : ClassCount). k .count .0) (by-sides m n a q s t));
+  room = omega (arith, o .room, count-same m n a q s t);
 }
 
 -- sides that were found to be 3

@@ -12,14 +12,13 @@ use Rattle.grid.specs.Bytes.{bytes}
 use Rattle.grid.proofs.Facts.{cell-eq}
 use Rattle.grid.proofs.Track.{backwards}
 use Rattle.grid.proofs.Moves.{Move, moved, turning}
-use Rattle.grid.proofs.Sides.{cell-same}
 use Rattle.line.specs.Line.{line}
 use Rattle.line.proofs.Line.{line-more, length-line}
 use Rattle.count.specs.Count.{count}
 use Rattle.table.specs.declared.Placing.{Placing}
 use Rattle.table.specs.Order.{ReadyOrder, OrderDrawn}
 use Rattle.table.specs.Table.{rowSize, rowCell, turnIf, mirror, mirrorCell, place, position, placedCell, placing, UpToFour}
-use Rattle.table.proofs.Sides.{three, three-count, three-drawn}
+use Rattle.table.proofs.Sides.{three, drawn-same}
 use Rattle.table.proofs.Rows.{row-track, row-some, row-most, row-x, row-y, Found, found}
 
 abbrev On : Cell → Type 0
@@ -152,7 +151,7 @@ module _ {s t : Cell} {buf : List ℕ} (o : (q : ℕ) → ReadyOrder (panel 3 3 
 
       pub drawn-here : {new : List ℕ} → new ≡ bytes (line (placedCell q) n) ++ drop (2 * n) buf
           → (pitch : ℕ) → OrderDrawn (panel 3 3 pitch) s t buf new
-      drawn-here w pitch = three-drawn pitch (placed-drawn found-here g w)
+      drawn-here w pitch = drawn-same 3 3 4000 pitch (placed-drawn found-here g w)
 
 -- mirrored and turned cells stay small
 mirror-small : (on : Bool) (a : ℕ) → a ≤ 4 → mirror on a ≤ 4

@@ -12,7 +12,8 @@ use Rattle.grid.proofs.check_panel.Statement.{statement}
 use Rattle.grid.proofs.check_panel.Tie as tie
 
 -- the sides are tested first, and then the pitch
-sides-first : (p : Panel) {s q : Bool} {c d : Check} → c ≡ expect s Side d → d ≡ expect q Pitch Good → s ≡ goodSides p → q ≡ goodPitch p → c ≡ checkPanel p
+sides-first : (p : Panel) {s q : Bool} {c d : Check} → c ≡ expect s Side d → d ≡ expect q Pitch Good
+    → s ≡ goodSides p → q ≡ goodPitch p → c ≡ checkPanel p
 sides-first p e f g h = e ∙ (λ i. expect (g i) Side (f i)) ∙ (λ i. expect (goodSides p) Side (expect (h i) Pitch Good))
 
 good-sides-requires : tie.Need-good-sides-requires
@@ -30,7 +31,8 @@ expect-requires-2 c κs = search needs
 returns : tie.Need-returns
 returns c =
     let pitch = c .before .before in
-    sides-first (pitch .before .before .args .p) (c .expect2 .ensures) (c .before .expect .ensures) (pitch .before .good-sides .ensures) (pitch .good-pitch .ensures)
+    let sides = pitch .before in
+    sides-first (sides .before .args .p) (c .expect2 .ensures) (c .before .expect .ensures) (sides .good-sides .ensures) (pitch .good-pitch .ensures)
 
 pub check-panel-spec : {M : Type 1} → statement M
 check-panel-spec =

@@ -1,7 +1,9 @@
 -- Field by field.
 use borrow.Author.Needs.{needs}
-use mathlib.Core.Path.{_∙_}
+use mathlib.Core.Path.{_≡_, _∙_}
+use denote.Ref.{now}
 use Rattle.grid.specs.Panel.{panel}
+use Rattle.record_head.specs.Head.{panelIn}
 use Rattle.record_head.proofs.head_in.Statement.{statement}
 use Rattle.record_head.proofs.head_in.Tie as tie
 
@@ -23,15 +25,17 @@ cell-at-requires c κs = search needs
 pair-at-requires-2 : tie.Need-pair-at-requires-2
 pair-at-requires-2 c κs = search needs
 
+panel-read : (c : tie.After-panel-of) → c .panel-of .result ≡ panelIn (now (c .before .before .before .before .before .args .file))
+panel-read c =
+    let pitch = c .before in
+    let height = pitch .before in
+    c .panel-of .ensures
+    ∙ (λ i. panel (height .before .byte-at .ensures .0 i) (height .byte-at2 .ensures .0 i) (pitch .pair-at .ensures .0 i))
+
 returns : tie.Need-returns
 returns c =
-    let made = c .before .before in
-    let pitch = made .before in
-    let height = pitch .before in
-    let width = height .before in
-    let its-panel = made .panel-of .ensures
-    ∙ (λ i. panel (width .byte-at .ensures .0 i) (height .byte-at2 .ensures .0 i) (pitch .pair-at .ensures .0 i)) in
-    λ i. record { panel = its-panel i; entry = c .before .cell-at .ensures i; steps = record { 0 = c .pair-at2 .ensures .0 i } }
+    let entry = c .before in
+    λ i. record { panel = panel-read (entry .before) i; entry = entry .cell-at .ensures i; steps = record { 0 = c .pair-at2 .ensures .0 i } }
 
 pub head-in-spec : {M : Type 1} → statement M
 head-in-spec =
