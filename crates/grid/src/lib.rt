@@ -69,7 +69,7 @@ pub enum CellsAnswer {
     Given(Cells),
 }
 
-// Document 01's number of the refusal, 0 where nothing is refused, and the cells, 0 where refused.
+// The number of the refusal, 0 where nothing is refused, and the cells, 0 where refused.
 pub struct CellsValues {
     pub refusal: u32,
     pub cells: Cells,
