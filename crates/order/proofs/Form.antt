@@ -12,7 +12,7 @@ use Rattle.text.specs.Field.{blank, lineFeed, largestNumber, fieldOf, Parsed, f
 use Rattle.text.specs.Field.Parsed.{nothing, value}
 use Rattle.text.proofs.Numbers.{reads-field, field-read}
 use Rattle.order.specs.declared.Line.{Line}
-use Rattle.order.specs.declared.Line.the-variants.{Other, Order}
+use Rattle.order.specs.declared.Line.the-variants.{Order}
 use Rattle.order.specs.Line.{lineOf, andThen, lineIn}
 
 -- the seven numbers of an order are not too large

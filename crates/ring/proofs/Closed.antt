@@ -1,7 +1,7 @@
 -- A corner track from (1, 1) to a neighbour of it in the whole panel is a longest closed track: its count is mn, or mn − 1 if mn is odd, and a closed
 -- track has an even number of cells, at most mn.
 use Prim.Native.Nat.{ℕ, _+_, _-_, _*_, _/_, _%_, _≤_}
-use mathlib.Core.Path.{_≡_, refl, sym, ap, _∙_, subst}
+use mathlib.Core.Path.{_≡_, sym, ap, _∙_, subst}
 use mathlib.Core.Bool.{cond}
 use mathlib.Core.List.{List, _++_}
 use native.Mathlib.Omega.{arith}

@@ -1,6 +1,5 @@
 -- What the functions that draw an order ask for, and what they leave. No promise of Draw rests on this file.
 use Prim.Native.Nat.{ℕ, _*_, _≤_}
-use mathlib.Core.Path.{_≡_}
 use mathlib.Core.Logic.{_≢_}
 use mathlib.Core.List.{List}
 use lib.ListN.{length}
