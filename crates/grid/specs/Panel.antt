@@ -6,7 +6,7 @@ use lib.Dec.{leb, eqb}
 use Rattle.grid.specs.declared.Panel.{Panel}
 use Rattle.grid.specs.declared.Cell.{Cell}
 
--- a panel of m columns and n rows, whose cells have the pitch q in micrometres
+-- a panel of m columns and n rows; q is its pitch, from centre to centre of neighbouring cells, in micrometres
 abbrev pub panel : ℕ → ℕ → ℕ → Panel
 panel m n q = record { width = m; height = n; pitch = q }
 
