@@ -1,5 +1,5 @@
-/* An example order desk: reads orders from standard input, one a line as six numbers
- * (m n entry_x entry_y exit_x exit_y), draws each, judges what was drawn, and prints a data-sheet line. */
+/* An example order desk: reads orders from standard input, one a line as seven numbers with a blank between
+ * (m n entry_x entry_y exit_x exit_y pitch), draws each, judges what was drawn, and prints a data-sheet line. */
 
 #include "foil.h"
 
@@ -11,17 +11,34 @@ static const char *const class_names[] = {"", "F1", "F2*", "C0", "C1", "C2"};
 static uint8_t track[FOIL_MAX_BYTES];
 static uint8_t scratch[FOIL_MAX_CELLS];
 
-static void sheet(uint32_t m, uint32_t n, uint32_t sx, uint32_t sy, uint32_t tx, uint32_t ty)
+/* An order's numbers as the calls take them: the pitch is the panel's. On paper it stands last. */
+struct order {
+    uint32_t m, n, pitch, sx, sy, tx, ty;
+};
+
+/* Whether a line is an order, which is then in `o`. The line feed stands right behind the pitch, so that a line of
+ * six numbers does not take its pitch from the next. */
+static int order_in(const char *line, struct order *o)
 {
-    printf("%" PRIu32 " by %" PRIu32 " (%" PRIu32 ",%" PRIu32 ") to (%" PRIu32 ",%" PRIu32 "): ", m, n, sx, sy, tx, ty);
-    uint64_t bound = foil_bound(m, n, sx, sy, tx, ty);
-    uint64_t drawn = foil_draw(m, n, sx, sy, tx, ty, track, sizeof track);
+    char end;
+    int read = sscanf(line, "%" SCNu32 " %" SCNu32 " %" SCNu32 " %" SCNu32 " %" SCNu32 " %" SCNu32 " %" SCNu32 "%c",
+                      &o->m, &o->n, &o->sx, &o->sy, &o->tx, &o->ty, &o->pitch, &end);
+    return read == 8 && end == '\n';
+}
+
+/* Prints the sheet of an order; the pitch, which the desk's buyers know in millimetres, in these. */
+static void sheet(struct order o)
+{
+    printf("%" PRIu32 " by %" PRIu32 ", pitch %" PRIu32 ".%03" PRIu32 " mm, (%" PRIu32 ",%" PRIu32 ") to (%" PRIu32 ",%" PRIu32 "): ",
+           o.m, o.n, o.pitch / 1000, o.pitch % 1000, o.sx, o.sy, o.tx, o.ty);
+    uint64_t bound = foil_bound(o.m, o.n, o.pitch, o.sx, o.sy, o.tx, o.ty);
+    uint64_t drawn = foil_draw(o.m, o.n, o.pitch, o.sx, o.sy, o.tx, o.ty, track, sizeof track);
     if (foil_refusal_in(drawn) != FOIL_OK) {
         printf("refused %" PRIu32 "\n", foil_refusal_in(drawn));
         return;
     }
     uint32_t cells = foil_count_in(drawn);
-    uint64_t judged = foil_judge(m, n, sx, sy, tx, ty, track, 2 * (size_t)cells, scratch, sizeof scratch);
+    uint64_t judged = foil_judge(o.m, o.n, o.pitch, o.sx, o.sy, o.tx, o.ty, track, 2 * (size_t)cells, scratch, sizeof scratch);
     printf("class %" PRIu32 " (%s), %" PRIu32 " cells, %" PRIu32 " steps, %" PRIu32 ".00 squares, judged %s\n",
            foil_class_in(bound), class_names[foil_class_in(bound)], cells, cells - 1, cells,
            judged == drawn && cells == foil_count_in(bound) ? "good" : "bad");
@@ -29,13 +46,14 @@ static void sheet(uint32_t m, uint32_t n, uint32_t sx, uint32_t sy, uint32_t tx,
 
 int main(void)
 {
-    uint32_t m, n, sx, sy, tx, ty;
-    int read;
-    while ((read = scanf("%" SCNu32 " %" SCNu32 " %" SCNu32 " %" SCNu32 " %" SCNu32 " %" SCNu32, &m, &n, &sx, &sy, &tx, &ty)) == 6)
-        sheet(m, n, sx, sy, tx, ty);
-    if (read != EOF) {
-        fputs("an order is six numbers: m n entry_x entry_y exit_x exit_y\n", stderr);
-        return 1;
+    char line[128]; /* the longest order has 77 bytes, its line feed among them */
+    struct order o;
+    while (fgets(line, sizeof line, stdin) != NULL) {
+        if (!order_in(line, &o)) {
+            fputs("an order is a line of seven numbers: m n entry_x entry_y exit_x exit_y pitch\n", stderr);
+            return 1;
+        }
+        sheet(o);
     }
     return 0;
 }

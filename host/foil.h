@@ -1,8 +1,11 @@
 /* Foil Router: the longest track between two cells of a rectangular panel.
  *
- * A panel has m columns and n rows, each from 1 to 128. A cell is (x, y), x from 1 to m and y from 1 to
- * n; (1, 1) is the upper left, and y grows downward. A track is a list of cells from the entry to the
- * exit, each a neighbour of the one before, none twice. A cell list is bytes: x then y for each cell.
+ * A panel has m columns and n rows, each from 1 to 128, and a pitch in micrometres, from 1,000 to 10,000. A
+ * cell is (x, y), x from 1 to m and y from 1 to n; (1, 1) is the upper left, and y grows downward. A track
+ * is a list of cells from the entry to the exit, each a neighbour of the one before, none twice. A cell list
+ * is bytes: x then y for each cell. A call takes an order as seven numbers: the panel's three, then entry
+ * and exit; on an order's line the pitch stands last. No answer and no byte that is written depends on a
+ * pitch within its range.
  *
  * Link with libhost.a, the archive that `rt staticlib host` writes to target/staticlib. The calls keep
  * no state, call nothing but memcpy and memset, and may be made from several threads at once on different buffers.
@@ -35,13 +38,18 @@ enum foil_refusal {
     FOIL_NOT_NEIGHBOURS = 8,    /* some two successive cells are not neighbours */
     FOIL_REPEATED = 9,          /* some cell stands twice */
     FOIL_TOO_MANY_CELLS = 10,   /* the list has more cells than the panel */
-    FOIL_WRONG_ENDS = 11        /* the first cell is not the entry, or the last not the exit */
+    FOIL_WRONG_ENDS = 11,       /* the first cell is not the entry, or the last not the exit */
+    FOIL_PITCH = 18             /* the pitch is below 1,000 or above 10,000; looked at right after 1 */
 };
 
 /* The largest panel: sides, cells, and bytes of a cell list with every cell. */
 #define FOIL_MAX_SIDE 128u
 #define FOIL_MAX_CELLS (FOIL_MAX_SIDE * FOIL_MAX_SIDE)
 #define FOIL_MAX_BYTES (2u * FOIL_MAX_CELLS)
+
+/* The range of the pitch, in micrometres. */
+#define FOIL_MIN_PITCH 1000u
+#define FOIL_MAX_PITCH 10000u
 
 /* A call's answer is one number: refusal * 2^32 + class * 2^24 + count. Where a call refuses, class and
  * count are 0. These three take it apart. */
@@ -50,22 +58,25 @@ static inline uint32_t foil_class_in(uint64_t answer) { return (uint32_t)(answer
 static inline uint32_t foil_count_in(uint64_t answer) { return (uint32_t)answer & 0xFFFFFFu; }
 
 /* Bound: the class of the order, 1 to 5, and the number of cells of a longest track.
- * Refused, in order: 1, 2, 3, 4. */
-uint64_t foil_bound(uint32_t m, uint32_t n, uint32_t entry_x, uint32_t entry_y, uint32_t exit_x, uint32_t exit_y);
+ * Refused, in order: 1, 18, 2, 3, 4. */
+uint64_t foil_bound(uint32_t m, uint32_t n, uint32_t pitch,
+                    uint32_t entry_x, uint32_t entry_y, uint32_t exit_x, uint32_t exit_y);
 
 /* Draw: writes a longest track from entry to exit at the front of the buffer and gives its number of
  * cells, the count of foil_bound. It takes 2 bytes for each cell; FOIL_MAX_BYTES are always enough.
- * Refused, in order: 1, 2, 3, 4; 5, the buffer is shorter than 2 bytes for each cell of the count.
+ * Refused, in order: 1, 18, 2, 3, 4; 5, the buffer is shorter than 2 bytes for each cell of the count.
  * After: the bytes behind the track are as before; a refusal changes no byte. The class is 0. */
-uint64_t foil_draw(uint32_t m, uint32_t n, uint32_t entry_x, uint32_t entry_y, uint32_t exit_x, uint32_t exit_y,
+uint64_t foil_draw(uint32_t m, uint32_t n, uint32_t pitch,
+                   uint32_t entry_x, uint32_t entry_y, uint32_t exit_x, uint32_t exit_y,
                    uint8_t *buffer, size_t buffer_len);
 
 /* Judge: whether a list is a track from entry to exit, and its number of cells. It need not be longest.
- * Refused, in order: 1, 2, 3, 4; 6; 5, the scratch is shorter than m * n bytes (FOIL_MAX_CELLS are always
- * enough); 7, 8, 9, 10, 11, each over the whole list before the next.
- * After: the list is as before. A refusal of 1 to 6 leaves the scratch as before; otherwise, accepted or
- * refused, its first m * n bytes are 0 and the rest as before. The class is 0. */
-uint64_t foil_judge(uint32_t m, uint32_t n, uint32_t entry_x, uint32_t entry_y, uint32_t exit_x, uint32_t exit_y,
+ * Refused, in order: 1, 18, 2, 3, 4; 6; 5, the scratch is shorter than m * n bytes (FOIL_MAX_CELLS are
+ * always enough); 7, 8, 9, 10, 11, each over the whole list before the next.
+ * After: the list is as before. A refusal of 1 to 6 or of 18 leaves the scratch as before; otherwise,
+ * accepted or refused, its first m * n bytes are 0 and the rest as before. The class is 0. */
+uint64_t foil_judge(uint32_t m, uint32_t n, uint32_t pitch,
+                    uint32_t entry_x, uint32_t entry_y, uint32_t exit_x, uint32_t exit_y,
                     const uint8_t *list, size_t list_len, uint8_t *scratch, size_t scratch_len);
 
 #ifdef __cplusplus

@@ -1,4 +1,4 @@
-/* Tests the three calls from C: the table of orders, the cases that are only run, and hostile numbers.
+/* Tests the three calls from C: the table of orders, the cases that are only run, hostile numbers, and pitches.
  *
  * The archive is not compiled with the sanitizers, so they see the code of this file only. What the calls
  * do is seen by fences: every buffer that a call gets stands against a page that may be neither read nor
@@ -33,9 +33,26 @@ static void expect(int ok, const char *what, unsigned line)
 #define EXPECT(what) expect((what), #what, __LINE__)
 
 struct order {
-    uint32_t m, n, sx, sy, tx, ty;
+    uint32_t m, n, pitch, sx, sy, tx, ty;
 };
-#define SIX(o) (o).m, (o).n, (o).sx, (o).sy, (o).tx, (o).ty
+#define SEVEN(o) (o).m, (o).n, (o).pitch, (o).sx, (o).sy, (o).tx, (o).ty
+
+enum { USUAL = 4000 };
+
+/* The ends of the pitch's range and of the type, the numbers just outside the range, and the usual pitch. */
+static const uint32_t pitches[] = {0, 999, 1000, USUAL, 10000, 10001, 0xFFFFFFFF};
+enum { PITCHES = sizeof pitches / sizeof *pitches };
+
+static int good_pitch(uint32_t pitch)
+{
+    return pitch >= FOIL_MIN_PITCH && pitch <= FOIL_MAX_PITCH;
+}
+
+/* What is refused at a pitch where `refusal` is refused at the usual one: 18 stands right after 1. */
+static uint32_t refusal_at(uint32_t pitch, uint32_t refusal)
+{
+    return good_pitch(pitch) || refusal == FOIL_SIDE ? refusal : FOIL_PITCH;
+}
 
 static uint64_t answer(uint32_t refusal, uint32_t class, uint32_t count)
 {
@@ -116,7 +133,7 @@ static uint64_t draw(struct order o, size_t room)
         uint8_t *at = place(for_draw, side, room);
         if (room > 0)
             memset(at, OLD, room);
-        uint64_t got = foil_draw(SIX(o), at, room);
+        uint64_t got = foil_draw(SEVEN(o), at, room);
         if (side == FRONT) {
             first = got;
             if (room > 0)
@@ -131,6 +148,12 @@ static uint64_t draw(struct order o, size_t room)
     return first;
 }
 
+/* Whether Judge came to look at the cells, and cleared its scratch for them: all that stands before 7 is passed. */
+static int cells_looked_at(uint32_t refusal)
+{
+    return refusal == FOIL_OK || (refusal >= FOIL_CELL_OFF && refusal <= FOIL_WRONG_ENDS);
+}
+
 /* Judges a list with scratch of `room` bytes, at both fences, and looks at what is left of the two. */
 static uint64_t judge(struct order o, const uint8_t *list, size_t size, size_t room)
 {
@@ -142,13 +165,12 @@ static uint64_t judge(struct order o, const uint8_t *list, size_t size, size_t r
         if (room > 0)
             memset(scratch, OLD, room);
         protect(for_list, PROT_READ);
-        uint64_t got = foil_judge(SIX(o), bytes, size, scratch, room);
+        uint64_t got = foil_judge(SEVEN(o), bytes, size, scratch, room);
         protect(for_list, PROT_READ | PROT_WRITE);
         if (side == FRONT)
             first = got;
         EXPECT(got == first);
-        uint32_t refusal = foil_refusal_in(got);
-        size_t cleared = refusal == FOIL_OK || refusal >= FOIL_CELL_OFF ? (size_t)o.m * o.n : 0;
+        size_t cleared = cells_looked_at(foil_refusal_in(got)) ? (size_t)o.m * o.n : 0;
         EXPECT(cleared <= room);
         if (cleared <= room && room > 0)
             EXPECT(all(scratch, cleared, 0) && all(scratch + cleared, room - cleared, OLD));
@@ -159,11 +181,44 @@ static uint64_t judge(struct order o, const uint8_t *list, size_t size, size_t r
     return first;
 }
 
+/* An order that every call refuses alike, whatever 5 and 6 would say of its buffers. */
+static void bad(struct order o, uint32_t refusal)
+{
+    static const uint8_t list[] = {1, 1, 2, 1};
+    uint64_t refused = answer(refusal, 0, 0);
+    EXPECT(foil_bound(SEVEN(o)) == refused);
+    EXPECT(draw(o, 64) == refused);
+    EXPECT(draw(o, 0) == refused);
+    EXPECT(judge(o, list, sizeof list, 64) == refused);
+    EXPECT(judge(o, list, sizeof list, 0) == refused);
+    EXPECT(judge(o, list, sizeof list - 1, 64) == refused);
+    EXPECT(judge(o, list, 0, 64) == refused);
+    EXPECT(judge(o, list, 0, 0) == refused);
+}
+
+/* An order that is not refused at the usual pitch: at every other the same answers and the same whole buffer, or 18. */
+static void at_every_pitch(struct order o, uint32_t class, uint32_t count)
+{
+    static uint8_t usual[sizeof drawn];
+    size_t enough = 2 * (size_t)count, room = enough + 33, area = (size_t)o.m * o.n;
+    draw(o, room);
+    memcpy(usual, drawn, room);
+    for (size_t i = 0; i < PITCHES; i++) {
+        o.pitch = pitches[i];
+        int ok = good_pitch(o.pitch);
+        uint64_t expected = ok ? answer(0, 0, count) : answer(FOIL_PITCH, 0, 0);
+        EXPECT(foil_bound(SEVEN(o)) == (ok ? answer(0, class, count) : expected));
+        EXPECT(draw(o, room) == expected);
+        EXPECT(!ok || memcmp(drawn, usual, room) == 0);
+        EXPECT(judge(o, usual, enough, area) == expected);
+    }
+}
+
 /* An order that is not refused: the three calls agree with class and count. */
 static void good(struct order o, uint32_t class, uint32_t count)
 {
     size_t enough = 2 * (size_t)count, area = (size_t)o.m * o.n;
-    EXPECT(foil_bound(SIX(o)) == answer(0, class, count));
+    EXPECT(foil_bound(SEVEN(o)) == answer(0, class, count));
     EXPECT(draw(o, enough + 33) == answer(0, 0, count));
     EXPECT(draw(o, enough - 1) == answer(FOIL_SHORT_BUFFER, 0, 0));
     EXPECT(draw(o, 0) == answer(FOIL_SHORT_BUFFER, 0, 0));
@@ -179,73 +234,93 @@ static void good(struct order o, uint32_t class, uint32_t count)
     EXPECT(judge(o, drawn, enough, 0) == answer(FOIL_SHORT_BUFFER, 0, 0));
     drawn[enough - 1] = 0;
     EXPECT(judge(o, drawn, enough, area) == answer(FOIL_CELL_OFF, 0, 0));
-}
-
-/* An order that every call refuses alike. */
-static void bad(struct order o, uint32_t refusal)
-{
-    static const uint8_t list[] = {1, 1, 2, 1};
-    uint64_t refused = answer(refusal, 0, 0);
-    EXPECT(foil_bound(SIX(o)) == refused);
-    EXPECT(draw(o, 64) == refused);
-    EXPECT(draw(o, 0) == refused);
-    EXPECT(judge(o, list, sizeof list, 64) == refused);
-    EXPECT(judge(o, list, 0, 0) == refused);
+    at_every_pitch(o, class, count);
 }
 
 static void table(void)
 {
-    good((struct order){5, 1, 5, 1, 1, 1}, 3, 5);
-    good((struct order){5, 1, 2, 1, 4, 1}, 1, 3);
-    good((struct order){6, 2, 2, 1, 2, 2}, 2, 10);
-    good((struct order){6, 2, 3, 1, 4, 2}, 2, 7);
-    good((struct order){6, 2, 3, 1, 4, 1}, 3, 12);
-    good((struct order){4, 3, 2, 1, 3, 1}, 3, 12);
-    good((struct order){4, 3, 2, 2, 3, 2}, 3, 12);
-    good((struct order){4, 3, 1, 2, 2, 2}, 5, 10);
-    good((struct order){3, 4, 2, 1, 2, 4}, 5, 10);
-    good((struct order){3, 3, 2, 2, 1, 2}, 4, 8);
-    good((struct order){3, 3, 1, 2, 3, 2}, 5, 7);
-    good((struct order){128, 128, 1, 1, 128, 128}, 4, 16383);
-    good((struct order){128, 128, 1, 1, 1, 128}, 3, 16384);
-    good((struct order){2, 2, 1, 1, 2, 1}, 3, 4);
-    good((struct order){2, 2, 1, 1, 1, 2}, 2, 4);
+    good((struct order){5, 1, USUAL, 5, 1, 1, 1}, 3, 5);
+    good((struct order){5, 1, USUAL, 2, 1, 4, 1}, 1, 3);
+    good((struct order){6, 2, USUAL, 2, 1, 2, 2}, 2, 10);
+    good((struct order){6, 2, USUAL, 3, 1, 4, 2}, 2, 7);
+    good((struct order){6, 2, USUAL, 3, 1, 4, 1}, 3, 12);
+    good((struct order){4, 3, USUAL, 2, 1, 3, 1}, 3, 12);
+    good((struct order){4, 3, USUAL, 2, 2, 3, 2}, 3, 12);
+    good((struct order){4, 3, USUAL, 1, 2, 2, 2}, 5, 10);
+    good((struct order){3, 4, USUAL, 2, 1, 2, 4}, 5, 10);
+    good((struct order){3, 3, USUAL, 2, 2, 1, 2}, 4, 8);
+    good((struct order){3, 3, USUAL, 1, 2, 3, 2}, 5, 7);
+    good((struct order){128, 128, USUAL, 1, 1, 128, 128}, 4, 16383);
+    good((struct order){128, 128, USUAL, 1, 1, 1, 128}, 3, 16384);
+    good((struct order){2, 2, USUAL, 1, 1, 2, 1}, 3, 4);
+    good((struct order){2, 2, USUAL, 1, 1, 1, 2}, 2, 4);
 }
 
 static void run_only(void)
 {
-    bad((struct order){129, 1, 1, 1, 2, 1}, FOIL_SIDE);
-    bad((struct order){1, 129, 1, 1, 1, 2}, FOIL_SIDE);
-    bad((struct order){1, 1, 1, 1, 2, 1}, FOIL_EXIT_OFF);
-    bad((struct order){1, 1, 1, 1, 1, 1}, FOIL_SAME_CELL);
-    struct order large = {128, 128, 1, 1, 1, 128};
+    bad((struct order){129, 1, USUAL, 1, 1, 2, 1}, FOIL_SIDE);
+    bad((struct order){1, 129, USUAL, 1, 1, 1, 2}, FOIL_SIDE);
+    bad((struct order){1, 1, USUAL, 1, 1, 2, 1}, FOIL_EXIT_OFF);
+    bad((struct order){1, 1, USUAL, 1, 1, 1, 1}, FOIL_SAME_CELL);
+    struct order large = {128, 128, USUAL, 1, 1, 1, 128};
     EXPECT(draw(large, 32768) == answer(0, 0, 16384));
     EXPECT(draw(large, 32767) == answer(FOIL_SHORT_BUFFER, 0, 0));
 }
 
-/* Each number of an order in turn is one from the ends of the range. */
+/* Each number of an order in turn is one from the ends of the range, or just outside its own; the low half of 69536
+ * is the usual pitch. */
 static void hostile(void)
 {
-    static const uint32_t numbers[] = {0, 129, 255, 256, 257, 65535, 65536, 0x7FFFFFFF, 0x80000000, 0xFFFFFFFE, 0xFFFFFFFF};
+    static const uint32_t numbers[] = {0, 129, 255, 256, 257, 999, 10001, 65535, 65536, 69536, 0x7FFFFFFF, 0x80000000, 0xFFFFFFFE, 0xFFFFFFFF};
     for (size_t i = 0; i < sizeof numbers / sizeof *numbers; i++) {
         uint32_t k = numbers[i];
-        bad((struct order){k, 5, 1, 1, 2, 2}, FOIL_SIDE);
-        bad((struct order){7, k, 1, 1, 2, 2}, FOIL_SIDE);
-        bad((struct order){7, 5, k, 1, 2, 2}, FOIL_ENTRY_OFF);
-        bad((struct order){7, 5, 1, k, 2, 2}, FOIL_ENTRY_OFF);
-        bad((struct order){7, 5, 1, 1, k, 2}, FOIL_EXIT_OFF);
-        bad((struct order){7, 5, 1, 1, 2, k}, FOIL_EXIT_OFF);
-        bad((struct order){k, k, k, k, k, k}, FOIL_SIDE);
-        bad((struct order){128, 128, k, k, k, k}, FOIL_ENTRY_OFF);
+        bad((struct order){k, 5, USUAL, 1, 1, 2, 2}, FOIL_SIDE);
+        bad((struct order){7, k, USUAL, 1, 1, 2, 2}, FOIL_SIDE);
+        bad((struct order){7, 5, k, 1, 1, 2, 2}, FOIL_PITCH);
+        bad((struct order){7, 5, USUAL, k, 1, 2, 2}, FOIL_ENTRY_OFF);
+        bad((struct order){7, 5, USUAL, 1, k, 2, 2}, FOIL_ENTRY_OFF);
+        bad((struct order){7, 5, USUAL, 1, 1, k, 2}, FOIL_EXIT_OFF);
+        bad((struct order){7, 5, USUAL, 1, 1, 2, k}, FOIL_EXIT_OFF);
+        bad((struct order){k, k, k, k, k, k, k}, FOIL_SIDE);
+        bad((struct order){128, 128, k, k, k, k, k}, FOIL_PITCH);
+        bad((struct order){128, 128, USUAL, k, k, k, k}, FOIL_ENTRY_OFF);
     }
-    bad((struct order){128, 128, 128, 128, 128, 128}, FOIL_SAME_CELL);
-    bad((struct order){128, 128, 128, 129, 128, 129}, FOIL_ENTRY_OFF);
+    bad((struct order){128, 128, USUAL, 128, 128, 128, 128}, FOIL_SAME_CELL);
+    bad((struct order){128, 128, USUAL, 128, 129, 128, 129}, FOIL_ENTRY_OFF);
 }
 
-/* One list for each refusal of the cells, and two faults at once in both orders. */
+/* Each fault of an order, and several at once, beside every pitch. */
+static void faults_at_every_pitch(void)
+{
+    static const struct {
+        uint32_t refusal;
+        struct order order;
+    } cases[] = {
+        {FOIL_SIDE, {0, 5, USUAL, 1, 1, 2, 2}},
+        {FOIL_SIDE, {7, 0, USUAL, 1, 1, 2, 2}},
+        {FOIL_SIDE, {129, 5, USUAL, 1, 1, 2, 2}},
+        {FOIL_SIDE, {7, 129, USUAL, 1, 1, 2, 2}},
+        {FOIL_SIDE, {0, 0, USUAL, 0, 0, 0, 0}},
+        {FOIL_ENTRY_OFF, {7, 5, USUAL, 0, 1, 2, 2}},
+        {FOIL_ENTRY_OFF, {7, 5, USUAL, 1, 6, 2, 2}},
+        {FOIL_ENTRY_OFF, {7, 5, USUAL, 8, 1, 8, 1}},
+        {FOIL_EXIT_OFF, {7, 5, USUAL, 1, 1, 8, 2}},
+        {FOIL_EXIT_OFF, {7, 5, USUAL, 1, 1, 2, 0}},
+        {FOIL_SAME_CELL, {7, 5, USUAL, 1, 1, 1, 1}},
+        {FOIL_SAME_CELL, {7, 5, USUAL, 7, 5, 7, 5}},
+    };
+    for (size_t i = 0; i < sizeof cases / sizeof *cases; i++)
+        for (size_t j = 0; j < PITCHES; j++) {
+            struct order o = cases[i].order;
+            o.pitch = pitches[j];
+            bad(o, refusal_at(o.pitch, cases[i].refusal));
+        }
+}
+
+/* One list for each refusal of the cells, and two faults at once in both orders, at every pitch. */
 static void lists(void)
 {
-    struct order o = {3, 2, 1, 1, 1, 2};
+    struct order o = {3, 2, USUAL, 1, 1, 1, 2};
     static const struct {
         uint32_t refusal, count;
         size_t size;
@@ -267,10 +342,13 @@ static void lists(void)
         {FOIL_WRONG_ENDS, 0, 4, {1, 1, 2, 1}},
         {FOIL_WRONG_ENDS, 0, 2, {1, 1}},
     };
-    for (size_t i = 0; i < sizeof cases / sizeof *cases; i++) {
-        EXPECT(judge(o, cases[i].bytes, cases[i].size, 6) == answer(cases[i].refusal, 0, cases[i].count));
-        EXPECT(judge(o, cases[i].bytes, cases[i].size, 9) == answer(cases[i].refusal, 0, cases[i].count));
-    }
+    for (size_t i = 0; i < sizeof cases / sizeof *cases; i++)
+        for (size_t j = 0; j < PITCHES; j++) {
+            o.pitch = pitches[j];
+            uint64_t expected = answer(refusal_at(o.pitch, cases[i].refusal), 0, good_pitch(o.pitch) ? cases[i].count : 0);
+            EXPECT(judge(o, cases[i].bytes, cases[i].size, 6) == expected);
+            EXPECT(judge(o, cases[i].bytes, cases[i].size, 9) == expected);
+        }
 }
 
 /* Every pair on panels up to 5 by 5: what is drawn is judged good with the bound's count. */
@@ -280,8 +358,8 @@ static void pairs(void)
         for (uint32_t n = 1; n <= 5; n++)
             for (uint32_t s = 0; s < m * n; s++)
                 for (uint32_t t = 0; t < m * n; t++) {
-                    struct order o = {m, n, s % m + 1, s / m + 1, t % m + 1, t / m + 1};
-                    uint64_t bound = foil_bound(SIX(o));
+                    struct order o = {m, n, USUAL, s % m + 1, s / m + 1, t % m + 1, t / m + 1};
+                    uint64_t bound = foil_bound(SEVEN(o));
                     if (s == t)
                         bad(o, FOIL_SAME_CELL);
                     else
@@ -297,6 +375,7 @@ int main(void)
     table();
     run_only();
     hostile();
+    faults_at_every_pitch();
     lists();
     pairs();
     printf("%lu checks, %lu faults\n", checks, faults);

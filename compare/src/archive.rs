@@ -4,10 +4,11 @@ use crate::order::Order;
 
 mod c {
     extern "C" {
-        pub fn foil_bound(m: u32, n: u32, sx: u32, sy: u32, tx: u32, ty: u32) -> u64;
+        pub fn foil_bound(m: u32, n: u32, pitch: u32, sx: u32, sy: u32, tx: u32, ty: u32) -> u64;
         pub fn foil_draw(
             m: u32,
             n: u32,
+            pitch: u32,
             sx: u32,
             sy: u32,
             tx: u32,
@@ -18,6 +19,7 @@ mod c {
         pub fn foil_judge(
             m: u32,
             n: u32,
+            pitch: u32,
             sx: u32,
             sy: u32,
             tx: u32,
@@ -49,26 +51,26 @@ impl Answer {
 }
 
 pub fn bound(order: &Order) -> Answer {
-    let Order { width, height, entry, exit } = *order;
+    let Order { width, height, pitch, entry, exit } = *order;
     // SAFETY: numbers only.
-    Answer::of(unsafe { c::foil_bound(width, height, entry.0, entry.1, exit.0, exit.1) })
+    Answer::of(unsafe { c::foil_bound(width, height, pitch, entry.0, entry.1, exit.0, exit.1) })
 }
 
 pub fn draw(order: &Order, buffer: &mut [u8]) -> Answer {
-    let Order { width, height, entry, exit } = *order;
+    let Order { width, height, pitch, entry, exit } = *order;
     // SAFETY: the buffer is the slice's, and the call writes within its length.
     Answer::of(unsafe {
         let (at, len) = (buffer.as_mut_ptr(), buffer.len());
-        c::foil_draw(width, height, entry.0, entry.1, exit.0, exit.1, at, len)
+        c::foil_draw(width, height, pitch, entry.0, entry.1, exit.0, exit.1, at, len)
     })
 }
 
 pub fn judge(order: &Order, list: &[u8], scratch: &mut [u8]) -> Answer {
-    let Order { width, height, entry, exit } = *order;
+    let Order { width, height, pitch, entry, exit } = *order;
     // SAFETY: both buffers are slices, which do not overlap, and the call stays within their lengths.
     Answer::of(unsafe {
         let (at, len) = (list.as_ptr(), list.len());
         let (marks, room) = (scratch.as_mut_ptr(), scratch.len());
-        c::foil_judge(width, height, entry.0, entry.1, exit.0, exit.1, at, len, marks, room)
+        c::foil_judge(width, height, pitch, entry.0, entry.1, exit.0, exit.1, at, len, marks, room)
     })
 }

@@ -1,18 +1,21 @@
 //! Orders, and the refusals that every call tests first.
 
+use std::ops::RangeInclusive;
+
 /// A cell: column from the left and row from the top, both from 1.
 pub type Cell = (u32, u32);
 
-/// A panel of `width` columns and `height` rows with its two terminals.
+/// A panel of `width` columns and `height` rows, its cells' pitch in micrometres, and its two terminals.
 #[derive(Clone, Copy, Debug, PartialEq, Eq)]
 pub struct Order {
     pub width: u32,
     pub height: u32,
+    pub pitch: u32,
     pub entry: Cell,
     pub exit: Cell,
 }
 
-/// Why a call refuses, with document 01's number.
+/// Why a call refuses, with document 01's number, or a later request's.
 #[derive(Clone, Copy, Debug, PartialEq, Eq)]
 #[repr(u32)]
 pub enum Refusal {
@@ -27,6 +30,7 @@ pub enum Refusal {
     Repeated = 9,
     TooManyCells = 10,
     WrongEnds = 11,
+    Pitch = 18,
 }
 
 /// What Bound gives where it does not refuse.
@@ -37,10 +41,16 @@ pub struct Bounded {
 }
 
 pub const MAX_SIDE: u32 = 128;
+pub const PITCH_RANGE: RangeInclusive<u32> = 1_000..=10_000;
 
 impl Order {
-    pub fn new(width: u32, height: u32, entry: Cell, exit: Cell) -> Self {
-        Order { width, height, entry, exit }
+    pub fn new(width: u32, height: u32, pitch: u32, entry: Cell, exit: Cell) -> Self {
+        Order { width, height, pitch, entry, exit }
+    }
+
+    /// The same order at another pitch.
+    pub fn at(&self, pitch: u32) -> Self {
+        Order { pitch, ..*self }
     }
 
     pub fn holds(&self, (x, y): Cell) -> bool {
@@ -52,11 +62,14 @@ impl Order {
         self.width as usize * self.height as usize
     }
 
-    /// Refusals 1 to 4, in order.
+    /// Refusals 1, 18, 2, 3 and 4, in order.
     pub fn check(&self) -> Result<(), Refusal> {
         let sides = 1..=MAX_SIDE;
         if !sides.contains(&self.width) || !sides.contains(&self.height) {
             return Err(Refusal::Side);
+        }
+        if !PITCH_RANGE.contains(&self.pitch) {
+            return Err(Refusal::Pitch);
         }
         if !self.holds(self.entry) {
             return Err(Refusal::EntryOff);

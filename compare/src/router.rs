@@ -29,10 +29,10 @@ struct View {
 }
 
 impl View {
-    fn whole(order: &Order) -> View {
+    fn whole(width: u32, height: u32) -> View {
         View {
-            columns: order.width,
-            rows: order.height,
+            columns: width,
+            rows: height,
             origin: (0, 0),
             right: (1, 0),
             down: (0, 1),
@@ -92,8 +92,8 @@ fn turn((x, y): Cell) -> Cell {
 }
 
 impl Links {
-    fn new(order: &Order) -> Links {
-        Links { width: order.width, of: vec![[NONE; 2]; order.area() + 1] }
+    fn new(width: u32, height: u32) -> Links {
+        Links { width, of: vec![[NONE; 2]; (width * height) as usize + 1] }
     }
 
     fn place(&self, view: View, c: Cell) -> u16 {
@@ -318,21 +318,27 @@ fn complete(view: View, t: Cell, count: u32, track: &mut Vec<Cell>, used: &mut [
     false
 }
 
-/// The call Draw.
-pub fn draw(order: &Order, buffer: &mut [u8]) -> Result<u32, Refusal> {
-    order.check()?;
-    let count = class_count(order.width, order.height, order.entry, order.exit).count;
-    let track = buffer.get_mut(..2 * count as usize).ok_or(Refusal::ShortBuffer)?;
-    let view = View::whole(order);
-    let mut links = Links::new(order);
-    route(&mut links, view, order.entry, order.exit);
-    let (mut before, mut at) = (NONE, links.place(view, order.entry));
+/// Writes a longest track, whose cells fill `track`. No track depends on the pitch, so it is not given here.
+fn write_track(width: u32, height: u32, entry: Cell, exit: Cell, track: &mut [u8]) {
+    let view = View::whole(width, height);
+    let mut links = Links::new(width, height);
+    route(&mut links, view, entry, exit);
+    let (mut before, mut at) = (NONE, links.place(view, entry));
     for cell in track.chunks_exact_mut(2) {
         let place = u32::from(at) - 1;
-        cell[0] = (place % order.width + 1) as u8;
-        cell[1] = (place / order.width + 1) as u8;
+        cell[0] = (place % width + 1) as u8;
+        cell[1] = (place / width + 1) as u8;
         let [a, b] = links.of[usize::from(at)];
         (before, at) = (at, if a == before { b } else { a });
     }
+}
+
+/// The call Draw.
+pub fn draw(order: &Order, buffer: &mut [u8]) -> Result<u32, Refusal> {
+    order.check()?;
+    let Order { width, height, entry, exit, .. } = *order;
+    let count = class_count(width, height, entry, exit).count;
+    let track = buffer.get_mut(..2 * count as usize).ok_or(Refusal::ShortBuffer)?;
+    write_track(width, height, entry, exit, track);
     Ok(count)
 }

@@ -1,8 +1,13 @@
-//! The archive's calls beside the independent implementation: every pair up to 8 by 8, and more than a
-//! million random and hostile calls, fixed by their seeds.
+//! The archive's calls beside the independent implementation: every pair up to 8 by 8, every fault beside
+//! every pitch, and more than a million random and hostile calls, fixed by their seeds.
 
 use compare::archive::{self, Answer};
 use compare::{bound, draw, judge, random::Random, Cell, Order, Refusal};
+
+const USUAL: u32 = 4_000;
+
+/// The ends of the pitch's range and of the type, the numbers just outside the range, and the usual pitch.
+const PITCHES: [u32; 7] = [0, 999, 1_000, USUAL, 10_000, 10_001, u32::MAX];
 
 fn packed<T>(answer: &Result<T, Refusal>, class_count: impl Fn(&T) -> (u32, u32)) -> Answer {
     match answer {
@@ -38,49 +43,176 @@ fn compare_draw(order: &Order, buffer: &mut [u8]) -> Answer {
 }
 
 fn compare_judge(order: &Order, list: &[u8], scratch: &mut [u8]) -> Answer {
-    let mut own = scratch.to_vec();
+    let before = scratch.to_vec();
+    let mut own = before.clone();
     let expected = packed(&judge(order, list, &mut own), |&count| (0, count));
     let answer = archive::judge(order, list, scratch);
     assert_eq!(answer, expected, "{order:?} {list:?}, scratch of {}", own.len());
     assert!(*scratch == own[..], "{order:?} {list:?}: scratch");
+    // What is tested before the cells leaves the scratch, 18 too.
+    let cells_looked_at = matches!(answer.refusal, 0 | 7..=11);
+    assert!(cells_looked_at || *scratch == before[..], "{order:?} {list:?}: scratch touched");
     answer
 }
 
 /// How often each refusal was met, 0 being none: a test that never meets one tests less than it says.
-struct Met([u32; 18]);
+struct Met([u32; 19]);
 
 impl Met {
     fn new() -> Met {
-        Met([0; 18])
+        Met([0; 19])
     }
 
     fn note(&mut self, answer: Answer) {
         self.0[answer.refusal as usize] += 1;
     }
 
-    fn all_of(&self, refusals: &[usize]) {
+    fn at_least(&self, times: u32, refusals: &[usize]) {
         for &refusal in refusals {
-            assert!(self.0[refusal] >= 100, "refusal {refusal} is met {} times", self.0[refusal]);
+            assert!(self.0[refusal] >= times, "refusal {refusal} is met {} times", self.0[refusal]);
+        }
+    }
+}
+
+/// Calls for every two cells, equal or not, of every panel up to `side` by `side`.
+fn every_pair(side: u32, mut call: impl FnMut(&Order)) {
+    for (width, height) in (1..=side).flat_map(|m| (1..=side).map(move |n| (m, n))) {
+        let cells = || (1..=height).flat_map(move |y| (1..=width).map(move |x| (x, y)));
+        for (entry, exit) in cells().flat_map(|s| cells().map(move |t| (s, t))) {
+            call(&Order::new(width, height, USUAL, entry, exit));
         }
     }
 }
 
 #[test]
 fn every_pair_up_to_eight_by_eight() {
-    for (width, height) in (1..=8).flat_map(|m| (1..=8).map(move |n| (m, n))) {
-        let cells = || (1..=height).flat_map(move |y| (1..=width).map(move |x| (x, y)));
-        for (entry, exit) in cells().flat_map(|s| cells().map(move |t| (s, t))) {
-            let order = Order::new(width, height, entry, exit);
-            compare_bound(&order);
-            let mut buffer = [0xA5; 2 * 64 + 2];
-            let count = compare_draw(&order, &mut buffer).count as usize;
-            if count > 0 {
-                compare_draw(&order, &mut [0x5A; 2 * 64][..2 * count]);
-                compare_draw(&order, &mut [0x5A; 2 * 64][..2 * count - 1]);
+    every_pair(8, |order| {
+        compare_bound(order);
+        let mut buffer = [0xA5; 2 * 64 + 2];
+        let count = compare_draw(order, &mut buffer).count as usize;
+        if count > 0 {
+            compare_draw(order, &mut [0x5A; 2 * 64][..2 * count]);
+            compare_draw(order, &mut [0x5A; 2 * 64][..2 * count - 1]);
+        }
+        let mut scratch = [0xA5; 66];
+        compare_judge(order, &buffer[..2 * count], &mut scratch);
+        compare_judge(order, &buffer[..2 * count], &mut scratch[..order.area() - 1]);
+    });
+}
+
+/// What stands first among the refusals, told without either implementation: 1, then 18.
+fn first_refusal(order: &Order) -> Option<u32> {
+    let good_side = |side: u32| side != 0 && side <= 128;
+    if !good_side(order.width) || !good_side(order.height) {
+        Some(1)
+    } else if order.pitch < 1_000 || order.pitch > 10_000 {
+        Some(18)
+    } else {
+        None
+    }
+}
+
+/// The answer of a call begins with those two, and gives them nowhere else.
+fn in_order(order: &Order, answer: Answer) -> Answer {
+    let met = Some(answer.refusal).filter(|refusal| [1, 18].contains(refusal));
+    assert_eq!(met, first_refusal(order), "{order:?}");
+    answer
+}
+
+/// Every fault of an order, alone and with others, on a panel of 4 by 3; the pitch is the usual one.
+fn faulty_orders() -> Vec<Order> {
+    let cells = [(1, 1), (4, 2), (0, 1), (4, 0), (5, 1), (1, 4), (u32::MAX, 2)];
+    let mut orders = Vec::new();
+    for width in [4, 0, 129, u32::MAX] {
+        for height in [3, 0, 129, u32::MAX] {
+            for entry in cells {
+                orders.extend(cells.map(|exit| Order::new(width, height, USUAL, entry, exit)));
             }
-            let mut scratch = [0xA5; 66];
-            compare_judge(&order, &buffer[..2 * count], &mut scratch);
-            compare_judge(&order, &buffer[..2 * count], &mut scratch[..order.area() - 1]);
+        }
+    }
+    orders
+}
+
+/// Calls for every faulty order, at the seven pitches and at random ones.
+fn at_every_pitch(seed: u64, mut call: impl FnMut(&Order)) {
+    let mut random = Random::new(seed);
+    for order in faulty_orders() {
+        PITCHES.into_iter().for_each(|pitch| call(&order.at(pitch)));
+        (0..4).for_each(|_| call(&order.at(random.next() as u32)));
+        (0..4).for_each(|_| call(&order.at(random.within(1_000, 10_000))));
+    }
+}
+
+#[test]
+fn every_fault_beside_every_pitch_in_bound() {
+    let mut met = Met::new();
+    at_every_pitch(0x5EED_0004, |order| met.note(in_order(order, compare_bound(order))));
+    met.at_least(10, &[0, 1, 18, 2, 3, 4]);
+}
+
+#[test]
+fn every_fault_beside_every_pitch_in_draw() {
+    let mut met = Met::new();
+    at_every_pitch(0x5EED_0005, |order| {
+        let enough = bound(&order.at(USUAL)).map_or(24, |b| 2 * b.count) as usize;
+        for length in [0, 1, enough - 1, enough, enough + 5] {
+            met.note(in_order(order, compare_draw(order, &mut vec![0xA5; length])));
+        }
+    });
+    met.at_least(10, &[0, 1, 18, 2, 3, 4, 5]);
+}
+
+#[test]
+fn every_fault_beside_every_pitch_in_judge() {
+    // A track from (1, 1) to (4, 2), its reverse, and a list for each of 6, 7, 8 and 9.
+    let lists: [&[u8]; 7] = [
+        &[1, 1, 2, 1, 3, 1, 4, 1, 4, 2],
+        &[4, 2, 4, 1, 3, 1, 2, 1, 1, 1],
+        &[],
+        &[1, 1, 2],
+        &[1, 1, 0, 1, 1, 1],
+        &[1, 1, 3, 1, 4, 2],
+        &[1, 1, 2, 1, 1, 1],
+    ];
+    let mut met = Met::new();
+    at_every_pitch(0x5EED_0006, |order| {
+        for (list, room) in lists.into_iter().flat_map(|list| [0, 11, 12, 17].map(|room| (list, room))) {
+            met.note(in_order(order, compare_judge(order, list, &mut vec![0xA5; room])));
+        }
+    });
+    met.at_least(10, &[0, 1, 18, 2, 3, 4, 5, 6, 7, 8, 9, 11]);
+}
+
+/// What the archive's calls answer, and their whole buffers after.
+fn everything(order: &Order) -> ([Answer; 3], [Vec<u8>; 2]) {
+    let room = 2 * order.area() + 5;
+    let (mut buffer, mut scratch) = (vec![0xA5; room], vec![0x5A; room]);
+    let drawn = archive::draw(order, &mut buffer);
+    let judged = archive::judge(order, &buffer[..2 * drawn.count as usize], &mut scratch);
+    ([archive::bound(order), drawn, judged], [buffer, scratch])
+}
+
+/// A good order gets the same at every pitch of the range.
+fn same_at_every_pitch(order: &Order, random: &mut Random) {
+    let usual = everything(&order.at(USUAL));
+    assert_eq!(usual.0.map(|answer| answer.refusal), [0; 3], "{order:?}");
+    for pitch in [1_000, 10_000, random.within(1_000, 10_000), random.within(1_000, 10_000)] {
+        assert!(everything(&order.at(pitch)) == usual, "{order:?}: another answer or track at {pitch}");
+    }
+}
+
+#[test]
+fn a_pitch_in_the_range_changes_nothing() {
+    let mut random = Random::new(0x5EED_0007);
+    every_pair(6, |order| {
+        if order.entry != order.exit {
+            same_at_every_pitch(order, &mut random);
+        }
+    });
+    for _ in 0..1_000 {
+        let order = order(&mut random, 2);
+        if order.at(USUAL).check().is_ok() {
+            same_at_every_pitch(&order, &mut random);
         }
     }
 }
@@ -110,6 +242,15 @@ fn number(random: &mut Random, largest: u32) -> u32 {
     }
 }
 
+/// A pitch within the range, or, now and then, one of those above or any number.
+fn pitch(random: &mut Random) -> u32 {
+    match random.below(32) {
+        0 => PITCHES[random.below(7) as usize],
+        1 => random.next() as u32,
+        _ => random.within(1_000, 10_000),
+    }
+}
+
 /// An order on a panel that is small, middling, or, once in `rarely`, of any size.
 fn order(random: &mut Random, rarely: u32) -> Order {
     let largest = match random.below(rarely) {
@@ -120,7 +261,8 @@ fn order(random: &mut Random, rarely: u32) -> Order {
     let (width, height) = (number(random, largest), number(random, largest));
     let mut cell = || (number(random, width), number(random, height));
     let (entry, exit) = (cell(), cell());
-    Order::new(width, height, entry, if random.below(64) == 0 { entry } else { exit })
+    let exit = if random.below(64) == 0 { entry } else { exit };
+    Order::new(width, height, pitch(random), entry, exit)
 }
 
 fn dirty(random: &mut Random, length: usize) -> Vec<u8> {
@@ -146,7 +288,7 @@ fn random_and_hostile_bounds() {
     for _ in 0..1_000_000 {
         met.note(compare_bound(&order(&mut random, 4)));
     }
-    met.all_of(&[0, 1, 2, 3, 4]);
+    met.at_least(100, &[0, 1, 18, 2, 3, 4]);
 }
 
 #[test]
@@ -155,11 +297,12 @@ fn random_and_hostile_draws() {
     let mut met = Met::new();
     for _ in 0..250_000 {
         let order = order(&mut random, 400);
-        let enough = bound(&order).map_or(random.below(20), |b| 2 * b.count) as usize;
+        // As for the usual pitch, so that 18 meets every length too.
+        let enough = bound(&order.at(USUAL)).map_or(random.below(20), |b| 2 * b.count) as usize;
         let length = length(&mut random, enough);
         met.note(compare_draw(&order, &mut dirty(&mut random, length)));
     }
-    met.all_of(&[0, 1, 2, 3, 4, 5]);
+    met.at_least(100, &[0, 1, 18, 2, 3, 4, 5]);
 }
 
 /// A walk of neighbours, on the panel or off it, which may come back to its own cells.
@@ -213,7 +356,9 @@ fn random_and_hostile_judgements() {
     let mut met = Met::new();
     for _ in 0..400_000 {
         let order = order(&mut random, 400);
-        let mut list = match (bound(&order), random.below(8)) {
+        // List and scratch are made for the usual pitch, so that 18 meets every list too.
+        let usual = order.at(USUAL);
+        let mut list = match (bound(&usual), random.below(8)) {
             (_, 0) => {
                 let length = random.below(24) as usize;
                 dirty(&mut random, length)
@@ -224,7 +369,7 @@ fn random_and_hostile_judgements() {
             }
             (Ok(found), _) => {
                 let mut track = vec![0; 2 * found.count as usize];
-                assert_eq!(archive::draw(&order, &mut track).count, found.count);
+                assert_eq!(archive::draw(&usual, &mut track).count, found.count);
                 track
             }
             (Err(_), _) => vec![1, 1, 2, 1],
@@ -232,10 +377,10 @@ fn random_and_hostile_judgements() {
         if random.below(3) != 0 {
             damage(&mut random, &mut list);
         }
-        let enough = if order.check().is_ok() { order.area() } else { 9 };
+        let enough = if usual.check().is_ok() { order.area() } else { 9 };
         let length = length(&mut random, enough);
         met.note(compare_judge(&order, &list, &mut dirty(&mut random, length)));
     }
     // 10 is never met: more than mn cells of the panel have one twice, which is 9.
-    met.all_of(&[0, 1, 2, 3, 4, 5, 6, 7, 8, 9, 11]);
+    met.at_least(100, &[0, 1, 18, 2, 3, 4, 5, 6, 7, 8, 9, 11]);
 }

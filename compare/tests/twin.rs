@@ -1,14 +1,17 @@
 //! The independent implementation on its own: its router reaches the count, its judge accepts what it
-//! draws, and the count is the longest track's wherever a full search is short enough.
+//! draws, the count is the longest track's wherever a full search is short enough, and the pitch is refused
+//! where it must be and changes nothing elsewhere.
 
 use compare::{bound, draw, judge, random::Random, search, Order, Refusal};
+
+const USUAL: u32 = 4_000;
 
 fn orders(width: u32, height: u32) -> impl Iterator<Item = Order> {
     let cells = move || (1..=height).flat_map(move |y| (1..=width).map(move |x| (x, y)));
     cells().flat_map(move |entry| {
         cells()
             .filter(move |&exit| exit != entry)
-            .map(move |exit| Order::new(width, height, entry, exit))
+            .map(move |exit| Order::new(width, height, USUAL, entry, exit))
     })
 }
 
@@ -49,7 +52,7 @@ fn random_orders() {
     for _ in 0..4_000 {
         let (width, height) = (random.within(1, 128), random.within(1, 128));
         let mut cell = || (random.within(1, width), random.within(1, height));
-        let order = Order::new(width, height, cell(), cell());
+        let order = Order::new(width, height, USUAL, cell(), cell());
         if order.entry != order.exit {
             draws_and_accepts(&order);
         }
@@ -58,7 +61,57 @@ fn random_orders() {
 
 #[test]
 fn a_buffer_one_byte_short() {
-    let order = Order::new(128, 128, (1, 1), (1, 128));
+    let order = Order::new(128, 128, USUAL, (1, 1), (1, 128));
     assert_eq!(draw(&order, &mut vec![0; 32_768]), Ok(16_384));
     assert_eq!(draw(&order, &mut vec![0; 32_767]), Err(Refusal::ShortBuffer));
+}
+
+/// All three calls refuse the order so, whatever the buffers, and write no byte.
+fn all_refuse(order: &Order, refusal: Refusal) {
+    assert_eq!(bound(order), Err(refusal), "{order:?}");
+    for room in [0, 200] {
+        let mut bytes = vec![0xA5; room];
+        assert_eq!(draw(order, &mut bytes), Err(refusal), "{order:?}");
+        for list in [&[][..], &[1], &[1, 1, 2, 1], &[0, 0]] {
+            assert_eq!(judge(order, list, &mut bytes), Err(refusal), "{order:?}");
+        }
+        assert!(bytes.iter().all(|&b| b == 0xA5), "{order:?}");
+    }
+}
+
+#[test]
+fn the_pitch_is_refused_right_after_the_sides() {
+    let faults = [
+        (Order::new(0, 3, USUAL, (1, 1), (2, 1)), Refusal::Side),
+        (Order::new(4, 129, USUAL, (9, 9), (9, 9)), Refusal::Side),
+        (Order::new(4, 3, USUAL, (5, 1), (5, 1)), Refusal::EntryOff),
+        (Order::new(4, 3, USUAL, (1, 1), (2, 0)), Refusal::ExitOff),
+        (Order::new(4, 3, USUAL, (1, 1), (1, 1)), Refusal::SameCell),
+    ];
+    for (order, refusal) in faults {
+        for pitch in [1_000, USUAL, 10_000] {
+            all_refuse(&order.at(pitch), refusal);
+        }
+        let first = if refusal == Refusal::Side { refusal } else { Refusal::Pitch };
+        for pitch in [0, 999, 10_001, u32::MAX] {
+            all_refuse(&order.at(pitch), first);
+        }
+    }
+    let good = Order::new(4, 3, USUAL, (1, 1), (2, 1));
+    assert_eq!(good.check(), Ok(()));
+    for pitch in [0, 999, 10_001, u32::MAX] {
+        all_refuse(&good.at(pitch), Refusal::Pitch);
+    }
+}
+
+#[test]
+fn the_same_track_at_every_pitch() {
+    let drawn = |order: &Order| {
+        let mut buffer = vec![0xA5; 2 * order.area() + 6];
+        (bound(order), draw(order, &mut buffer), buffer)
+    };
+    for order in orders(6, 5).chain(orders(5, 5)).chain(orders(3, 8)) {
+        let usual = drawn(&order);
+        assert!([1_000, 10_000].iter().all(|&pitch| drawn(&order.at(pitch)) == usual), "{order:?}");
+    }
 }

@@ -8,6 +8,9 @@ use compare::{bound, draw, judge, Order};
 use std::hint::black_box;
 use std::time::Instant;
 
+/// The pitch of every order here: the usual one.
+const PITCH: u32 = 4_000;
+
 /// A straight line of a track, as c/loops.c takes it.
 #[repr(C)]
 #[derive(Clone, Copy)]
@@ -210,7 +213,7 @@ fn mix(seed: u64, jobs: usize, sides: impl Fn(&mut Random) -> (u32, u32)) -> Vec
         let mut cell = || (random.within(1, width), random.within(1, height));
         let (entry, exit) = (cell(), cell());
         if entry != exit {
-            found.push(Job::new(Order::new(width, height, entry, exit)));
+            found.push(Job::new(Order::new(width, height, PITCH, entry, exit)));
         }
     }
     found
@@ -219,7 +222,7 @@ fn mix(seed: u64, jobs: usize, sides: impl Fn(&mut Random) -> (u32, u32)) -> Vec
 fn main() {
     let square = |side: u32| mix(0x5EED, 64, move |_| (side, side));
     let any = mix(0x5EED, 256, |r| (r.within(1, 128), r.within(1, 128)));
-    let one = |entry, exit| vec![Job::new(Order::new(128, 128, entry, exit))];
+    let one = |entry, exit| vec![Job::new(Order::new(128, 128, PITCH, entry, exit))];
     let sizes: Vec<(String, Vec<Job>)> = [8, 32, 128]
         .map(|side| (format!("64 orders, {side} by {side}"), square(side)))
         .into_iter()

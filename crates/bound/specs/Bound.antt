@@ -10,7 +10,7 @@ use Rattle.bound.specs.declared.BoundAnswer.{BoundAnswer}
 use Rattle.bound.specs.declared.BoundAnswer.the-variants.{Refused, Given}
 use Rattle.bound.specs.declared.BoundValues.{BoundValues}
 
--- refused, in order, 1 to 4; else class and count
+-- refused, in order, 1, 18, 2, 3, 4; else class and count
 abbrev pub boundOf : Panel → Cell → Cell → BoundAnswer
 boundOf p s t = answer (checkOrder p s t) Refused (Given (classCount p s t))
 

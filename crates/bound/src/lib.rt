@@ -15,7 +15,7 @@ pub enum BoundAnswer {
     Given(ClassCount),
 }
 
-// Document 01's number of the refusal, 0 where nothing is refused, and class and count, 0 where refused.
+// The number of the refusal, 0 where nothing is refused, and class and count, 0 where refused.
 pub struct BoundValues {
     pub refusal: u32,
     pub class: u32,

@@ -13,7 +13,7 @@ use grid::turn_cell;
 use grid::turn_panel;
 ghost use mathlib.Core.Path.{_≡_};
 ghost use Prim.Native.Nat.{_≤_, min};
-ghost use Rattle.grid.specs.Panel.{GoodPanel, OnPanel};
+ghost use Rattle.grid.specs.Panel.{GoodSides, OnPanel};
 ghost use Rattle.count.specs.Count.{decided, named, classCount};
 ghost use Rattle.cases.specs.Placed.{Placed};
 
@@ -81,7 +81,7 @@ fn shorter_side(p: Panel) -> u32
 // Class and count of two cells on a good panel. With more than 3 rows and columns only the colours
 // matter, which are the same turned and in either order.
 pub fn class_count(p: Panel, s: Cell, t: Cell) -> ClassCount
-    requires { ⌜ GoodPanel p ⌝ }
+    requires { ⌜ GoodSides p ⌝ }
     requires { ⌜ OnPanel p s ⌝ }
     requires { ⌜ OnPanel p t ⌝ }
     ensures { λ r. ⌜ r ≡ classCount p s t ⌝ }

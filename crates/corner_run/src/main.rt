@@ -3,6 +3,7 @@
 // tracks and cells there were and how many tracks were wrong. The rectangles begin at column 2 and row 3.
 use grid::Cell;
 use grid::panel_of;
+use trial::PITCH;
 use trial::cells::Order;
 use trial::cells::filled;
 use trial::cells::is_track;
@@ -22,7 +23,7 @@ struct Tally {
 // row `bottom`, and the bytes behind them are as they were.
 fn good(buf: &[u8], k: u32, s: Cell, t: Cell, right: u32, bottom: u32) -> bool {
     let o = Order {
-        panel: panel_of(right, bottom),
+        panel: panel_of(right, bottom, PITCH),
         entry: s,
         exit: t,
     };

@@ -1,5 +1,6 @@
 pub mod Laws
 pub mod Table
+pub mod Sides
 pub mod Pigeon
 pub mod Colour
 pub mod Strip

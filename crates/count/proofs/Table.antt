@@ -1,4 +1,4 @@
--- Document 01, "Table of orders": all twelve rows, by one test that computes over the list of them.
+-- Document 01, "Table of orders": all twelve rows, for every pitch, by one test that computes over the list of them.
 use Prim.Native.Nat.{ℕ}
 use mathlib.Core.Path.{_≡_, refl}
 use mathlib.Core.Bool.{Bool, true, _&&_}
@@ -19,31 +19,31 @@ pub record Row : Type 0 where
   pub itsClass : ℕ
   pub itsCount : ℕ
 
--- m by n, (sx, sy), (tx, ty): class, count
-abbrev row : (m n sx sy tx ty cl co : ℕ) → Row
-row m n sx sy tx ty cl co =
+-- pitch q, m by n, (sx, sy), (tx, ty): class, count
+abbrev row : (q m n sx sy tx ty cl co : ℕ) → Row
+row q m n sx sy tx ty cl co =
     record {
-      itsPanel = panel m n;
+      itsPanel = panel m n q;
       entry = cell sx sy;
       exit = cell tx ty;
       itsClass = cl;
       itsCount = co;
     }
 
-abbrev pub table : List Row
-table =
-    row 5 1 5 1 1 1 3 5
-    ∷ row 5 1 2 1 4 1 1 3
-    ∷ row 6 2 2 1 2 2 2 10
-    ∷ row 6 2 3 1 4 2 2 7
-    ∷ row 6 2 3 1 4 1 3 12
-    ∷ row 4 3 2 1 3 1 3 12
-    ∷ row 4 3 2 2 3 2 3 12
-    ∷ row 4 3 1 2 2 2 5 10
-    ∷ row 3 4 2 1 2 4 5 10
-    ∷ row 3 3 2 2 1 2 4 8
-    ∷ row 3 3 1 2 3 2 5 7
-    ∷ row 128 128 1 1 128 128 4 16383
+abbrev pub table : ℕ → List Row
+table q =
+    row q 5 1 5 1 1 1 3 5
+    ∷ row q 5 1 2 1 4 1 1 3
+    ∷ row q 6 2 2 1 2 2 2 10
+    ∷ row q 6 2 3 1 4 2 2 7
+    ∷ row q 6 2 3 1 4 1 3 12
+    ∷ row q 4 3 2 1 3 1 3 12
+    ∷ row q 4 3 2 2 3 2 3 12
+    ∷ row q 4 3 1 2 2 2 5 10
+    ∷ row q 3 4 2 1 2 4 5 10
+    ∷ row q 3 3 2 2 1 2 4 8
+    ∷ row q 3 3 1 2 3 2 5 7
+    ∷ row q 128 128 1 1 128 128 4 16383
     ∷ []
 
 -- every row has its class and its count
@@ -64,6 +64,6 @@ tested (r ∷ l) e =
     let later = and-right a (b && holds l) e in
     (eqb-true _ _ (and-left a (b && holds l) e), eqb-true _ _ (and-left b (holds l) later), tested l (and-right b (holds l) later))
 
-pub table-holds : Holds table
+pub table-holds : (q : ℕ) → Holds (table q)
 unfolding f1 f2 f3 c2 c0 decided named classCount
-table-holds = tested table refl
+table-holds q = tested (table q) refl

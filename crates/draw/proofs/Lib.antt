@@ -1,2 +1,3 @@
 pub mod Drawing
 pub mod Answer
+pub mod Sides

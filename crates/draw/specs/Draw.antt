@@ -35,7 +35,8 @@ abbrev pub Leaves : Panel → Cell → Cell → List ℕ → List ℕ → CellsA
 Leaves p s t old new (Refused r) = new ≡ old
 Leaves p s t old new (Given k) = LongestAtFront p s t (k .0) old new
 
--- Draw's promise: the count, or what the check refuses; and the buffer begins with a longest track and is otherwise as it was
+-- Draw's promise: the count, or what the check refuses; and the buffer begins with a longest track and is otherwise as it was.
+-- A pitch in its range changes neither promise nor answer (proofs/Sides.antt), nor the track: what chooses and draws is given the sides alone
 pub record Draws (p : Panel) (s t : Cell) (old new : List ℕ) (r : CellsAnswer) : Type 0 where
   pub gives : GivesCells (drawCheck p s t (length old)) (count p s t) r
   pub leaves : Leaves p s t old new r

@@ -9,12 +9,11 @@ use grid::Refusal;
 use legs::draw_leg;
 use legs::draw_legs;
 use plan::Plan;
-ghost use Rattle.grid.specs.Panel.{OnPanel};
-ghost use Rattle.line.specs.Drawn.{Drawn};
-ghost use Rattle.count.specs.Count.{count};
+ghost use Prim.Native.Nat.{ℕ};
+ghost use Rattle.grid.specs.Panel.{panel};
 ghost use Rattle.plan.specs.Leg.{legs};
 ghost use Rattle.plan.specs.Drawing.{Room, Written};
-ghost use Rattle.table.specs.Order.{ReadyOrder};
+ghost use Rattle.table.specs.Order.{ReadyOrder, OrderDrawn};
 ghost use Rattle.draw.specs.Draw.{Draws};
 
 // Gives the number of cells written.
@@ -30,18 +29,19 @@ fn draw_plan(p: Plan, buf: &mut [u8]) -> Cells
     }
 }
 
-// Draws a longest track between two different cells of a panel, where there is room for it.
-fn draw_longest(p: Panel, s: Cell, t: Cell, buf: &mut [u8])
-    requires { ⌜ ReadyOrder p s t (now buf) ⌝ }
-    ensures { λ _. ⌜ Drawn (OnPanel p) s t (count p s t) (now (buf .entry)) (now (buf .exit)) ⌝ }
+// Draws a longest track between two different cells, where there is room for it. Like all that
+// chooses and draws, it is given the sides and no pitch: one track serves every panel of these sides.
+fn draw_longest(width: u32, height: u32, s: Cell, t: Cell, buf: &mut [u8])
+    requires { ⌜ ((pitch : ℕ) → ReadyOrder (panel width height pitch) s t (now buf)) ⌝ }
+    ensures { λ _. ⌜ ((pitch : ℕ) → OrderDrawn (panel width height pitch) s t (now (buf .entry)) (now (buf .exit))) ⌝ }
 {
-    if p.width == 3 {
-        if p.height == 3 {
-            table::draw_small(p, s, t, buf);
+    if width == 3 {
+        if height == 3 {
+            table::draw_small(s, t, buf);
             return;
         }
     }
-    let chosen = choice::plan_of(p.width, p.height, s, t);
+    let chosen = choice::plan_of(width, height, s, t);
     draw_plan(chosen, buf);
 }
 
@@ -58,6 +58,6 @@ pub fn draw(p: Panel, entry: Cell, exit: Cell, buf: &mut [u8]) -> CellsAnswer
     if buf.len() < 2 * (cells.0 as usize) {
         return CellsAnswer::Refused(Refusal::ShortBuffer);
     }
-    draw_longest(p, entry, exit, buf);
+    draw_longest(p.width, p.height, entry, exit, buf);
     CellsAnswer::Given(cells)
 }

@@ -1,18 +1,26 @@
 // Draws every order on panels up to 6 by 6, off-panel terminals included, into a filled buffer, and
 // checks each answer and each byte by a plain look at them; then the order of document 01 that
-// needs 32,768 bytes, with that many and with one fewer.
+// needs 32,768 bytes, with that many and with one fewer; then pitches in and out of their range. A line
+// of these gives the order (sides, entry, exit and pitch) and the buffer's size and, behind the colon,
+// the refusal's number (0: none), the count and what all bytes of the buffer say: `a track`, the cells
+// are one and the bytes behind are as before; `untouched`, all bytes are as before; else `FAULT`.
 use bound::bound_values;
 use grid::Cell;
 use grid::cells_values;
 use grid::panel_of;
+use trial::PITCH;
 use trial::cells::Order;
 use trial::cells::filled;
 use trial::cells::is_track;
 use trial::print::named;
+use trial::print::row;
 use trial::print::text;
 
 // What the buffers are filled with.
 const FILL: u8 = 170;
+
+// The largest number of 32 bits.
+const MAX: u32 = 4294967295;
 
 struct Totals {
     orders: u32,
@@ -50,10 +58,10 @@ fn right(o: Order, buf: &mut [u8]) -> bool {
     is_track(buf, o, first(), k)
 }
 
-// The order of number `code`: six numbers from 1 to 6.
+// The order of number `code`: six numbers from 1 to 6, and in turn every pitch of the range.
 fn order_of(code: u32) -> Order {
     Order {
-        panel: panel_of(code % 6 + 1, code / 6 % 6 + 1),
+        panel: panel_of(code % 6 + 1, code / 6 % 6 + 1, code % 9001 + 1000),
         entry: Cell {
             x: code / 36 % 6 + 1,
             y: code / 216 % 6 + 1,
@@ -78,7 +86,7 @@ fn count_one(code: u32, t: Totals) -> Totals {
     }
 }
 
-// The orders whose six numbers are from 1 to 6.
+// The orders whose first six numbers are from 1 to 6.
 fn every_order() -> Totals {
     let mut t = Totals {
         orders: 0,
@@ -101,22 +109,88 @@ fn small_panels() {
     text(b"\n");
 }
 
+// What the buffer holds after a call that gave k cells.
+fn found(buf: &[u8], o: Order, k: u32) {
+    if !filled(buf, 2 * (k as usize), FILL) {
+        text(b"FAULT\n");
+        return;
+    }
+    if k == 0 {
+        text(b"untouched\n");
+        return;
+    }
+    if is_track(buf, o, first(), k) {
+        text(b"a track\n");
+        return;
+    }
+    text(b"FAULT\n");
+}
+
+// One order into the buffer, which is filled: its line.
+fn show(o: Order, buf: &mut [u8]) {
+    let p = o.panel;
+    let s = o.entry;
+    let t = o.exit;
+    let size = (buf.len() % 65536) as u32;
+    let a = cells_values(draw::draw(p, s, t, buf));
+    row(&[p.width, p.height, s.x, s.y, t.x, t.y, p.pitch], b" in ");
+    row(&[size], b" bytes: ");
+    row(&[a.refusal, a.cells.0], b" ");
+    found(buf, o, a.cells.0);
+}
+
 // The largest panel, along its left edge.
 fn large(buf: &mut [u8]) {
-    let panel = panel_of(128, 128);
-    let entry = first();
-    let exit = Cell { x: 1, y: 128 };
-    let size = (buf.len() % 65536) as u32;
-    let a = cells_values(draw::draw(panel, entry, exit, buf));
-    let k = a.cells.0;
-    named(b"128 128 1 1 1 128 in ", size);
-    named(b" bytes: ", a.refusal);
-    named(b" ", k);
-    let o = Order { panel, entry, exit };
-    if is_track(buf, o, first(), k) {
-        text(b" a track");
-    }
-    text(b"\n");
+    let o = Order {
+        panel: panel_of(128, 128, PITCH),
+        entry: first(),
+        exit: Cell { x: 1, y: 128 },
+    };
+    show(o, buf);
+}
+
+// A panel of 6 columns, in a buffer for 12 cells and one more.
+fn six_wide(height: u32, sx: u32, sy: u32, tx: u32, ty: u32, pitch: u32) {
+    let o = Order {
+        panel: panel_of(6, height, pitch),
+        entry: Cell { x: sx, y: sy },
+        exit: Cell { x: tx, y: ty },
+    };
+    let mut buf = [FILL; 26];
+    show(o, &mut buf);
+}
+
+// An order of 12 cells in a buffer that is one byte too short for them.
+fn too_short(pitch: u32) {
+    let o = Order {
+        panel: panel_of(6, 2, pitch),
+        entry: Cell { x: 3, y: 1 },
+        exit: Cell { x: 4, y: 1 },
+    };
+    let mut buf = [FILL; 23];
+    show(o, &mut buf);
+}
+
+// Pitches at the ends of their range and outside it.
+fn pitches() {
+    six_wide(2, 3, 1, 4, 1, 999);
+    six_wide(2, 3, 1, 4, 1, 1000);
+    six_wide(2, 3, 1, 4, 1, 10000);
+    six_wide(2, 3, 1, 4, 1, 10001);
+    six_wide(2, 3, 1, 4, 1, 0);
+    six_wide(2, 3, 1, 4, 1, MAX);
+}
+
+// A bad pitch behind a bad side, then before each fault that is tested after it; then the last of these
+// with a good pitch.
+fn pitch_and_more() {
+    six_wide(129, 3, 1, 4, 1, 999);
+    six_wide(0, 3, 1, 4, 1, MAX);
+    six_wide(2, 0, 1, 4, 1, 999);
+    six_wide(2, 3, 1, 4, 3, 10001);
+    six_wide(2, 3, 1, 3, 1, 0);
+    too_short(10001);
+    too_short(10000);
 }
 
 fn main() {
@@ -125,4 +199,6 @@ fn main() {
     large(&mut short);
     let mut whole = [FILL; 32768];
     large(&mut whole);
+    pitches();
+    pitch_and_more();
 }

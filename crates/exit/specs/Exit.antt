@@ -2,7 +2,7 @@
 use Prim.Native.Nat.{ℕ, zero, suc, _≤_}
 use mathlib.Core.Path.{_≡_}
 use mathlib.Core.Logic.{_≢_}
-use mathlib.Core.Bool.{Bool, true, false, cond, not, _&&_, _||_}
+use mathlib.Core.Bool.{Bool, false, cond, not, _&&_, _||_}
 use mathlib.Core.List.{List, [], _∷_, _++_}
 use lib.Dec.{leb}
 use lib.ListN.{length}
@@ -45,7 +45,7 @@ any f (c ∷ l) = f c || any f l
 abbrev pub fits : Panel → Cell → Cells → Cell → Bool
 fits p s w c = not (sameCell s c) && leb (w .0) (count p s c)
 
--- 1; 2; then 12, no such cell exists
+-- 1; 18; 2; then 12, no such cell exists
 abbrev pub exitCheck : Panel → Cell → Cells → Check
 exitCheck p s w = after (checkEntry p s) (expect (any (fits p s w) (reading p)) NoExit Good)
 

@@ -6,7 +6,7 @@ use grid::Panel;
 use grid::Refusal;
 ghost use mathlib.Core.Path.{_≡_};
 ghost use Prim.Native.Nat.{_≤_};
-ghost use Rattle.grid.specs.Panel.{OnPanel, GoodPanel};
+ghost use Rattle.grid.specs.Panel.{OnPanel, GoodSides};
 ghost use Rattle.exit.specs.Exit.{row, reading, fits, Exits, first};
 
 // What Exit answers.
@@ -23,7 +23,7 @@ pub enum Search {
 
 // Whether the cell is not the entry and a track to it has at least the wanted number of cells.
 fn is_fit(p: Panel, entry: Cell, wanted: Cells, c: Cell) -> bool
-    requires { ⌜ GoodPanel p ⌝ }
+    requires { ⌜ GoodSides p ⌝ }
     requires { ⌜ OnPanel p entry ⌝ }
     requires { ⌜ OnPanel p c ⌝ }
     ensures { λ r. ⌜ r ≡ fits p entry wanted c ⌝ }
@@ -37,7 +37,7 @@ fn is_fit(p: Panel, entry: Cell, wanted: Cells, c: Cell) -> bool
 
 // The first fit in row y.
 fn in_row(p: Panel, entry: Cell, wanted: Cells, y: u32) -> Search
-    requires { ⌜ GoodPanel p ⌝ }
+    requires { ⌜ GoodSides p ⌝ }
     requires { ⌜ OnPanel p entry ⌝ }
     requires { ⌜ (1 ≤ y) × (y ≤ p .height) ⌝ }
     ensures { λ r. ⌜ r ≡ first (fits p entry wanted) (row p y) ⌝ }
@@ -56,7 +56,7 @@ fn in_row(p: Panel, entry: Cell, wanted: Cells, y: u32) -> Search
 
 // The first fit, rows from the top, each from the left.
 fn in_panel(p: Panel, entry: Cell, wanted: Cells) -> Search
-    requires { ⌜ GoodPanel p ⌝ }
+    requires { ⌜ GoodSides p ⌝ }
     requires { ⌜ OnPanel p entry ⌝ }
     ensures { λ r. ⌜ r ≡ first (fits p entry wanted) (reading p) ⌝ }
 {

@@ -1,20 +1,26 @@
-// Answers Exit for a list of panels, entries and wanted counts. A line gives these and, behind the
-// colon, the refusal's number (0: none) and the cell.
+// Answers Exit for a list of panels, entries and wanted counts. A line gives the sides, the entry, the
+// wanted count and the pitch and, behind the colon, the refusal's number (0: none) and the cell.
 use exit::ExitAnswer;
 use grid::Cell;
 use grid::Cells;
+use trial::PITCH;
 use trial::print::row;
 
 // The largest number of 32 bits.
 const MAX: u32 = 4294967295;
 
-fn answer(m: u32, n: u32, x: u32, y: u32, wanted: u32) {
-    row(&[m, n, x, y, wanted], b": ");
-    let panel = grid::panel_of(m, n);
+fn answer_at(m: u32, n: u32, x: u32, y: u32, wanted: u32, pitch: u32) {
+    row(&[m, n, x, y, wanted, pitch], b": ");
+    let panel = grid::panel_of(m, n, pitch);
     match exit::find_exit(panel, Cell { x, y }, Cells(wanted)) {
         ExitAnswer::Refused(r) => row(&[grid::number_of(r), 0, 0], b"\n"),
         ExitAnswer::Given(c) => row(&[0, c.x, c.y], b"\n"),
     }
+}
+
+// A panel of the usual pitch.
+fn answer(m: u32, n: u32, x: u32, y: u32, wanted: u32) {
+    answer_at(m, n, x, y, wanted, PITCH);
 }
 
 // Cells found: in one row, two rows, three rows and on large panels.
@@ -44,13 +50,37 @@ fn refused() {
     answer(0, 3, 1, 2, 1);
     answer(129, 3, 1, 2, 1);
     answer(3, 129, 0, 0, MAX);
-    answer(MAX, MAX, MAX, MAX, MAX);
+    answer_at(MAX, MAX, MAX, MAX, MAX, MAX);
     answer(4, 3, 0, 1, 1);
     answer(4, 3, 1, 4, 1);
     answer(4, 3, MAX, 1, MAX);
 }
 
+// Pitches at the ends of their range and outside it.
+fn pitches() {
+    answer_at(4, 3, 1, 2, 12, 999);
+    answer_at(4, 3, 1, 2, 12, 1000);
+    answer_at(4, 3, 1, 2, 12, 10000);
+    answer_at(4, 3, 1, 2, 12, 10001);
+    answer_at(4, 3, 1, 2, 12, 0);
+    answer_at(4, 3, 1, 2, 12, MAX);
+}
+
+// A bad pitch behind a bad side, then before an entry off the panel and before a count that no cell
+// has; then these two with a good pitch.
+fn pitch_and_more() {
+    answer_at(0, 3, 1, 2, 1, 999);
+    answer_at(4, 129, 1, 2, 1, MAX);
+    answer_at(4, 3, 0, 1, 1, 999);
+    answer_at(4, 3, 1, 2, 13, 10001);
+    answer_at(1, 1, 2, 1, MAX, 0);
+    answer_at(4, 3, 0, 1, 1, 1000);
+    answer_at(4, 3, 1, 2, 13, 10000);
+}
+
 fn main() {
     found();
     refused();
+    pitches();
+    pitch_and_more();
 }

@@ -44,10 +44,10 @@ fn read_line(bytes: &mut [u8]) -> usize
     n
 }
 
-// The buffer has one byte more than any good line: six numbers of ten digits, five blanks, a line
+// The buffer has one byte more than any good line: seven numbers of ten digits, six blanks, a line
 // feed. A line that fills it is refused.
 fn main() {
-    let mut input = [0u8; 67];
+    let mut input = [0u8; 78];
     let n = read_line(&mut input);
     let mut text = [0u8; 16512];
     let k = order::answer(&input[..n], &mut text);

@@ -9,7 +9,8 @@ use lib.Dec.{leb, eqb}
 use borrow.Author.Tests.{leb-true, le-leb, eqb-true, eqb-false, eq-eqb}
 use Rattle.grid.specs.declared.Panel.{Panel}
 use Rattle.grid.specs.declared.Cell.{Cell}
-use Rattle.grid.specs.Panel.{maxSide, upTo, goodPanel, GoodPanel, area, onPanel, OnPanel, sameCell, dist, apart, Neighbours, neighbours}
+use Rattle.grid.specs.Panel.{minPitch, maxPitch, maxSide, between, upTo, goodSides, goodPitch, goodPanel, GoodSides, GoodPanel}
+use Rattle.grid.specs.Panel.{area, onPanel, OnPanel, sameCell, dist, apart, Neighbours, neighbours}
 
 -- ---- what cannot be
 
@@ -40,37 +41,47 @@ or-cases false b e = inr e
 
 -- ---- panels
 
+-- a number in a range
+in-range : (low high a : ℕ) → between low high a ≡ true → (low ≤ a) × (a ≤ high)
+in-range low high a e =
+    let (l, h) = and-parts (leb low a) (leb a high) e in
+    (leb-true low a l, leb-true a high h)
+
+is-in-range : {low high a : ℕ} → low ≤ a → a ≤ high → between low high a ≡ true
+is-in-range l h = and-both (le-leb _ _ l) (le-leb _ _ h)
+
+pub sides : (p : Panel) → goodSides p ≡ true → GoodSides p
+sides p e =
+    let (w, h) = and-parts (upTo maxSide (p .width)) (upTo maxSide (p .height)) e in
+    let (wide, widest) = in-range 1 maxSide (p .width) w in
+    let (high, highest) = in-range 1 maxSide (p .height) h in
+    record { wide = wide; widest = widest; high = high; highest = highest }
+
+pub is-sides : {p : Panel} → GoodSides p → goodSides p ≡ true
+is-sides g = and-both (is-in-range (g .wide) (g .widest)) (is-in-range (g .high) (g .highest))
+
 pub good : (p : Panel) → goodPanel p ≡ true → GoodPanel p
 good p e =
-    let w = and-left (upTo maxSide (p .width)) (upTo maxSide (p .height)) e in
-    let h = and-right (upTo maxSide (p .width)) (upTo maxSide (p .height)) e in
-    record {
-      wide = leb-true 1 (p .width) (and-left (leb 1 (p .width)) (leb (p .width) maxSide) w);
-      widest = leb-true (p .width) maxSide (and-right (leb 1 (p .width)) (leb (p .width) maxSide) w);
-      high = leb-true 1 (p .height) (and-left (leb 1 (p .height)) (leb (p .height) maxSide) h);
-      highest = leb-true (p .height) maxSide (and-right (leb 1 (p .height)) (leb (p .height) maxSide) h);
-    }
+    let (s, q) = and-parts (goodSides p) (goodPitch p) e in
+    let (finest, coarsest) = in-range minPitch maxPitch (p .pitch) q in
+    record { sides = sides p s; finest = finest; coarsest = coarsest }
 
 pub is-good : {p : Panel} → GoodPanel p → goodPanel p ≡ true
-is-good g = and-both (and-both (le-leb _ _ (g .wide)) (le-leb _ _ (g .widest))) (and-both (le-leb _ _ (g .high)) (le-leb _ _ (g .highest)))
+is-good g = and-both (is-sides (g .sides)) (is-in-range (g .finest) (g .coarsest))
 
 -- it has at most 128 by 128 cells
-pub area-small : {p : Panel} → GoodPanel p → area p ≤ 16384
+pub area-small : {p : Panel} → GoodSides p → area p ≤ 16384
 area-small g = mul-le-mul (g .widest) (g .highest)
 
 pub on : (p : Panel) (c : Cell) → onPanel p c ≡ true → OnPanel p c
 on p c e =
-    let w = and-left (upTo (p .width) (c .x)) (upTo (p .height) (c .y)) e in
-    let h = and-right (upTo (p .width) (c .x)) (upTo (p .height) (c .y)) e in
-    record {
-      left = leb-true 1 (c .x) (and-left (leb 1 (c .x)) (leb (c .x) (p .width)) w);
-      right = leb-true (c .x) (p .width) (and-right (leb 1 (c .x)) (leb (c .x) (p .width)) w);
-      top = leb-true 1 (c .y) (and-left (leb 1 (c .y)) (leb (c .y) (p .height)) h);
-      bottom = leb-true (c .y) (p .height) (and-right (leb 1 (c .y)) (leb (c .y) (p .height)) h);
-    }
+    let (w, h) = and-parts (upTo (p .width) (c .x)) (upTo (p .height) (c .y)) e in
+    let (left, right) = in-range 1 (p .width) (c .x) w in
+    let (top, bottom) = in-range 1 (p .height) (c .y) h in
+    record { left = left; right = right; top = top; bottom = bottom }
 
 pub is-on : {p : Panel} {c : Cell} → OnPanel p c → onPanel p c ≡ true
-is-on o = and-both (and-both (le-leb _ _ (o .left)) (le-leb _ _ (o .right))) (and-both (le-leb _ _ (o .top)) (le-leb _ _ (o .bottom)))
+is-on o = and-both (is-in-range (o .left) (o .right)) (is-in-range (o .top) (o .bottom))
 
 -- ---- equal cells
 

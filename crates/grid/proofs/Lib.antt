@@ -4,4 +4,5 @@ pub mod Passed
 pub mod Answers
 pub mod Track
 pub mod Moves
+pub mod Sides
 pub mod Bytes

@@ -6,13 +6,13 @@ use borrow.Author.Tests.{not-true}
 use Rattle.grid.specs.declared.Panel.{Panel}
 use Rattle.grid.specs.declared.Cell.{Cell}
 use Rattle.grid.specs.declared.Refusal.{Refusal}
-use Rattle.grid.specs.declared.Refusal.the-variants.{Side, EntryOff, ExitOff, SameCell}
+use Rattle.grid.specs.declared.Refusal.the-variants.{Side, Pitch, EntryOff, ExitOff, SameCell}
 use Rattle.grid.specs.declared.Check.{Check}
 use Rattle.grid.specs.declared.Check.the-variants.{Good, Refused}
-use Rattle.grid.specs.Panel.{goodPanel, onPanel, OnPanel, sameCell, GoodPanel}
+use Rattle.grid.specs.Panel.{goodSides, goodPitch, goodPanel, onPanel, OnPanel, sameCell, GoodPanel}
 use Rattle.grid.specs.Check.{expect, after, checkPanel, checkEntry, checkOrder}
 use Rattle.grid.proofs.Tests.{expect-yes, after-good}
-use Rattle.grid.proofs.Facts.{good, is-good, on, is-on, same-ne, ne-same}
+use Rattle.grid.proofs.Facts.{and-parts, and-both, good, is-good, on, is-on, same-ne, ne-same}
 
 abbrev IsFine : Check → Type 0
 IsFine Good = Unit {0}
@@ -34,15 +34,26 @@ pub after-rest : (c k : Check) → after c k ≡ Good → k ≡ Good
 after-rest Good k e = e
 after-rest (Refused r) k e = absurd (subst IsFine (sym e) tt)
 
+-- both tests of a panel, as one
+pub panel-passed : (p : Panel) → checkPanel p ≡ Good → goodPanel p ≡ true
+panel-passed p e =
+    let pitch = expect (goodPitch p) Pitch Good in
+    and-both (expect-passed (goodSides p) Side pitch e) (expect-passed (goodPitch p) Pitch Good (expect-rest (goodSides p) Side pitch e))
+
+pub panel-passes : (p : Panel) → goodPanel p ≡ true → checkPanel p ≡ Good
+panel-passes p e =
+    let (s, q) = and-parts (goodSides p) (goodPitch p) e in
+    sym (expect-yes _ _ s (expect-yes _ _ q refl))
+
 pub good-panel : (p : Panel) → checkPanel p ≡ Good → GoodPanel p
-good-panel p e = good p (expect-passed (goodPanel p) Side Good e)
+good-panel p e = good p (panel-passed p e)
 
 pub good-entry : (p : Panel) (s : Cell) → checkEntry p s ≡ Good → GoodPanel p × OnPanel p s
 good-entry p s e =
     let here = expect (onPanel p s) EntryOff Good in
     (good-panel p (after-passed (checkPanel p) here e), on p s (expect-passed (onPanel p s) EntryOff Good (after-rest (checkPanel p) here e)))
 
--- an order whose panel is good and whose terminals are two different cells of it: tests 1 to 4
+-- an order whose panel is good and whose terminals are two different cells of it: tests 1, 18, 2 to 4
 pub record GoodOrder (p : Panel) (s t : Cell) : Type 0 where
   pub panel : GoodPanel p
   pub entry : OnPanel p s
@@ -64,5 +75,5 @@ good-order p s t e =
 
 pub is-order : {p : Panel} {s t : Cell} → GoodOrder p s t → Good ≡ checkOrder p s t
 is-order {p} {s} {t} o =
-    after-good _ (sym (after-good _ (sym (expect-yes _ _ (is-good (o .panel)) refl)) (expect-yes _ _ (is-on (o .entry)) refl)))
+    after-good _ (sym (after-good _ (panel-passes p (is-good (o .panel))) (expect-yes _ _ (is-on (o .entry)) refl)))
     (expect-yes _ _ (is-on (o .exit)) (expect-yes _ _ (ap not (ne-same s t (o .differ))) refl))

@@ -1,4 +1,4 @@
--- What the calls answer: document 01's number and values for each case, and the promise of a call that gives one value. A refusal gives 0 for all.
+-- What the calls answer: the number and the values of each case, and the promise of a call that gives one value. A refusal gives 0 for all.
 use Prim.Native.Nat.{ℕ}
 use mathlib.Core.Path.{_≡_}
 use Rattle.grid.specs.declared.Check.{Check}

@@ -1,12 +1,12 @@
--- The tests that the calls share, in document 01's order: the first that fails gives the refusal.
+-- The tests that the calls share, in the documents' order: the first that fails gives the refusal.
 use mathlib.Core.Bool.{Bool, true, false, not}
 use Rattle.grid.specs.declared.Panel.{Panel}
 use Rattle.grid.specs.declared.Cell.{Cell}
 use Rattle.grid.specs.declared.Refusal.{Refusal}
-use Rattle.grid.specs.declared.Refusal.the-variants.{Side, EntryOff, ExitOff, SameCell}
+use Rattle.grid.specs.declared.Refusal.the-variants.{Side, Pitch, EntryOff, ExitOff, SameCell}
 use Rattle.grid.specs.declared.Check.{Check}
 use Rattle.grid.specs.declared.Check.the-variants.{Good, Refused}
-use Rattle.grid.specs.Panel.{goodPanel, onPanel, sameCell}
+use Rattle.grid.specs.Panel.{goodSides, goodPitch, onPanel, sameCell}
 
 -- a test that passes goes on to the tests behind it, a test that fails refuses
 abbrev pub expect : Bool → Refusal → Check → Check
@@ -18,15 +18,15 @@ abbrev pub after : Check → Check → Check
 after Good k = k
 after (Refused r) k = Refused r
 
--- 1, a side is 0 or above 128
+-- 1, a side is 0 or above 128; 18, the pitch is below 1,000 or above 10,000
 abbrev pub checkPanel : Panel → Check
-checkPanel p = expect (goodPanel p) Side Good
+checkPanel p = expect (goodSides p) Side (expect (goodPitch p) Pitch Good)
 
--- 1; 2, entry off the panel
+-- 1; 18; 2, entry off the panel
 abbrev pub checkEntry : Panel → Cell → Check
 checkEntry p s = after (checkPanel p) (expect (onPanel p s) EntryOff Good)
 
--- 1; 2; 3, exit off the panel; 4, entry equals exit
+-- 1; 18; 2; 3, exit off the panel; 4, entry equals exit
 abbrev pub checkOrder : Panel → Cell → Cell → Check
 checkOrder p s t = after (checkEntry p s) (expect (onPanel p t) ExitOff (expect (not (sameCell s t)) SameCell Good))
 

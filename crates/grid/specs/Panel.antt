@@ -6,28 +6,54 @@ use lib.Dec.{leb, eqb}
 use Rattle.grid.specs.declared.Panel.{Panel}
 use Rattle.grid.specs.declared.Cell.{Cell}
 
--- a panel of m columns and n rows
-abbrev pub panel : ℕ → ℕ → Panel
-panel m n = record { width = m; height = n }
+-- a panel of m columns and n rows; q is its pitch, from centre to centre of neighbouring cells, in micrometres
+abbrev pub panel : ℕ → ℕ → ℕ → Panel
+panel m n q = record { width = m; height = n; pitch = q }
 
 -- the largest side
 abbrev pub maxSide : ℕ
 maxSide = 128
 
+-- the smallest pitch
+abbrev pub minPitch : ℕ
+minPitch = 1000
+
+-- the largest pitch
+abbrev pub maxPitch : ℕ
+maxPitch = 10000
+
+-- a number from low to high
+abbrev pub between : ℕ → ℕ → ℕ → Bool
+between low high a = leb low a && leb a high
+
 -- a number from 1 to k
 abbrev pub upTo : ℕ → ℕ → Bool
-upTo k a = leb 1 a && leb a k
+upTo k a = between 1 k a
 
 -- a panel has width and height, each 1 to 128
-abbrev pub goodPanel : Panel → Bool
-goodPanel p = upTo maxSide (p .width) && upTo maxSide (p .height)
+abbrev pub goodSides : Panel → Bool
+goodSides p = upTo maxSide (p .width) && upTo maxSide (p .height)
 
--- the same, as a proposition
-pub record GoodPanel (p : Panel) : Type 0 where
+-- and a pitch of 1,000 to 10,000
+abbrev pub goodPitch : Panel → Bool
+goodPitch p = between minPitch maxPitch (p .pitch)
+
+-- both, which every call asks for
+abbrev pub goodPanel : Panel → Bool
+goodPanel p = goodSides p && goodPitch p
+
+-- the same, as propositions: the sides, which are all that cells, tracks, classes and counts go by
+pub record GoodSides (p : Panel) : Type 0 where
   pub wide : 1 ≤ p .width
   pub widest : p .width ≤ maxSide
   pub high : 1 ≤ p .height
   pub highest : p .height ≤ maxSide
+
+-- sides and pitch
+pub record GoodPanel (p : Panel) : Type 0 where
+  pub sides : GoodSides p
+  pub finest : minPitch ≤ p .pitch
+  pub coarsest : p .pitch ≤ maxPitch
 
 -- mn, the number of a panel's cells
 abbrev pub area : Panel → ℕ
@@ -73,9 +99,9 @@ neighbours a b = eqb (apart a b) 1
 abbrev pub black : Cell → Bool
 black c = eqb ((c .x + c .y) % 2) 1
 
--- the turned panel: m exchanged with n (the transposed grid)
+-- the turned panel: m exchanged with n (the transposed grid), the pitch as it was
 abbrev pub turned : Panel → Panel
-turned p = panel (p .height) (p .width)
+turned p = panel (p .height) (p .width) (p .pitch)
 
 -- a cell of the turned panel: x exchanged with y
 abbrev pub turnedCell : Cell → Cell

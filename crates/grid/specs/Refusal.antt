@@ -1,4 +1,4 @@
--- Document 01's numbers of the refusals.
+-- The numbers of the refusals: 1 to 17 are document 01's, 18 is R-1's.
 use Prim.Native.Nat.{ℕ}
 use Rattle.grid.specs.declared.Refusal.{Refusal}
 use Rattle.grid.specs.declared.Refusal.the-variants as refusal
@@ -22,3 +22,4 @@ number refusal.Mark = 14
 number refusal.StepCount = 15
 number refusal.UnknownByte = 16
 number refusal.CutShort = 17
+number refusal.Pitch = 18

@@ -2,7 +2,7 @@
 // the calls share.
 ghost use mathlib.Core.Path.{_≡_};
 ghost use Prim.Native.Nat.{_≤_, _+_};
-ghost use Rattle.grid.specs.Panel.{upTo, panel, goodPanel, area, onPanel, sameCell, dist, turned, turnedCell};
+ghost use Rattle.grid.specs.Panel.{between, panel, goodSides, goodPitch, area, onPanel, sameCell, dist, turned, turnedCell};
 ghost use Rattle.grid.specs.Refusal.{number};
 ghost use Rattle.grid.specs.Check.{expect, after, checkPanel, checkEntry, checkOrder};
 ghost use Rattle.grid.specs.Answer.{cellsValues};
@@ -10,10 +10,17 @@ ghost use Rattle.grid.specs.Answer.{cellsValues};
 // The largest side of a panel.
 pub const MAX_SIDE: u32 = 128;
 
-// A panel of `width` columns (m) and `height` rows (n).
+// The smallest and the largest pitch, in micrometres.
+const MIN_PITCH: u32 = 1000;
+
+const MAX_PITCH: u32 = 10000;
+
+// A panel of `width` columns (m) and `height` rows (n); the centres of neighbouring cells are `pitch`
+// micrometres apart.
 pub struct Panel {
     pub width: u32,
     pub height: u32,
+    pub pitch: u32,
 }
 
 // A cell: column x from the left and row y from the top, both from 1.
@@ -28,7 +35,7 @@ pub struct Cells(pub u32);
 // A number of steps, as document 001 measures a track: one fewer.
 pub struct Steps(pub u32);
 
-// Why a call refuses; `number` gives document 01's number.
+// Why a call refuses; `number` gives its number, which is document 01's or a request's.
 pub enum Refusal {
     Side,
     EntryOff,
@@ -47,6 +54,7 @@ pub enum Refusal {
     StepCount,
     UnknownByte,
     CutShort,
+    Pitch,
 }
 
 // What a test of the input finds.
@@ -61,7 +69,7 @@ pub enum CellsAnswer {
     Given(Cells),
 }
 
-// Document 01's number of the refusal, 0 where nothing is refused, and the cells, 0 where refused.
+// The number of the refusal, 0 where nothing is refused, and the cells, 0 where refused.
 pub struct CellsValues {
     pub refusal: u32,
     pub cells: Cells,
@@ -117,27 +125,32 @@ pub fn number_of(r: Refusal) -> u32
         Refusal::StepCount => 15,
         Refusal::UnknownByte => 16,
         Refusal::CutShort => 17,
+        Refusal::Pitch => 18,
     }
 }
 
-// Whether a is a number from 1 to k.
-fn up_to(k: u32, a: u32) -> bool
-    ensures { λ r. ⌜ r ≡ upTo k a ⌝ }
+// Whether a is a number from low to high.
+fn between(low: u32, high: u32, a: u32) -> bool
+    ensures { λ r. ⌜ r ≡ between low high a ⌝ }
 {
-    if 1 <= a { a <= k } else { false }
+    if low <= a { a <= high } else { false }
 }
 
 // The one way that a panel is made.
-pub fn panel_of(width: u32, height: u32) -> Panel
-    ensures { λ r. ⌜ r ≡ panel width height ⌝ }
+pub fn panel_of(width: u32, height: u32, pitch: u32) -> Panel
+    ensures { λ r. ⌜ r ≡ panel width height pitch ⌝ }
 {
-    Panel { width, height }
+    Panel {
+        width,
+        height,
+        pitch,
+    }
 }
 
 pub fn turn_panel(p: Panel) -> Panel
     ensures { λ r. ⌜ r ≡ turned p ⌝ }
 {
-    panel_of(p.height, p.width)
+    panel_of(p.height, p.width, p.pitch)
 }
 
 pub fn turn_cell(c: Cell) -> Cell
@@ -153,14 +166,20 @@ pub fn distance(a: u32, b: u32) -> u32
     if a <= b { b - a } else { a - b }
 }
 
-pub fn good_panel(p: Panel) -> bool
-    ensures { λ r. ⌜ r ≡ goodPanel p ⌝ }
+fn good_sides(p: Panel) -> bool
+    ensures { λ r. ⌜ r ≡ goodSides p ⌝ }
 {
-    if up_to(MAX_SIDE, p.width) {
-        up_to(MAX_SIDE, p.height)
+    if between(1, MAX_SIDE, p.width) {
+        between(1, MAX_SIDE, p.height)
     } else {
         false
     }
+}
+
+fn good_pitch(p: Panel) -> bool
+    ensures { λ r. ⌜ r ≡ goodPitch p ⌝ }
+{
+    between(MIN_PITCH, MAX_PITCH, p.pitch)
 }
 
 // mn, the number of cells of the panel.
@@ -173,8 +192,8 @@ pub fn area_of(p: Panel) -> usize
 pub fn on_panel(p: Panel, c: Cell) -> bool
     ensures { λ r. ⌜ r ≡ onPanel p c ⌝ }
 {
-    if up_to(p.width, c.x) {
-        up_to(p.height, c.y)
+    if between(1, p.width, c.x) {
+        between(1, p.height, c.y)
     } else {
         false
     }
@@ -206,7 +225,10 @@ pub fn after(first: Check, rest: Check) -> Check
 pub fn check_panel(p: Panel) -> Check
     ensures { λ r. ⌜ r ≡ checkPanel p ⌝ }
 {
-    expect(good_panel(p), Refusal::Side, Check::Good)
+    let sides = good_sides(p);
+    let pitch = good_pitch(p);
+    let rest = expect(pitch, Refusal::Pitch, Check::Good);
+    expect(sides, Refusal::Side, rest)
 }
 
 pub fn check_entry(p: Panel, s: Cell) -> Check

@@ -1,7 +1,7 @@
 -- What the calls answer fits into its place of the packed number: a class is at most 5, and a count at most mn.
 use Prim.Native.Nat.{ℕ, _*_, _≤_, _<_, _^_}
 use native.Mathlib.Omega.{arith}
-use mathlib.Core.Path.{_≡_, refl, sym, ap, _∙_}
+use mathlib.Core.Path.{_≡_, refl, _∙_}
 use mathlib.Core.List.{List}
 use lib.Dec.{leb}
 use lib.ListN.{length}
@@ -32,7 +32,7 @@ module _ (p : Panel) (s t : Cell) where
   pub order-small : checkOrder p s t ≡ Good → count p s t ≤ 16384
   order-small e =
       let g = good-order p s t e in
-      omega (arith, bounds p s t (g .entry) (g .exit) (g .differ) .1, area-small (g .panel))
+      omega (arith, bounds p s t (g .entry) (g .exit) (g .differ) .1, area-small (g .panel .sides))
 
   pub class-fits : given (checkOrder p s t) (class p s t) < 2 ^ 8
   class-fits = omega (arith, given-most (checkOrder p s t) (class p s t) 5 (λ e. class-small p s t))
@@ -45,7 +45,7 @@ module _ (p : Panel) (s t : Cell) where
       let sizes = sizesCheck p s t (length list) room in
       let cells = cellsCheck p s t (cellsIn list) in
       let z = sized p s t (length list) room (after-passed sizes cells e) in
-      omega (arith, few p s t (cellsIn list) (after-rest sizes cells e), area-small (z .ordered .panel))
+      omega (arith, few p s t (cellsIn list) (after-rest sizes cells e), area-small (z .ordered .panel .sides))
 
 pub count-fits : (c : Check) (k : ℕ) → (c ≡ Good → k ≤ 16384) → given c k < 2 ^ 24
 count-fits c k h = omega (arith, given-most c k 16384 h)

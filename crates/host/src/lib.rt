@@ -16,18 +16,18 @@ const REFUSAL_UNIT: u64 = 4294967296;
 
 const CLASS_UNIT: u64 = 16777216;
 
-// An order's six numbers.
+// An order's seven numbers.
 struct Order {
     panel: Panel,
     entry: Cell,
     exit: Cell,
 }
 
-fn order_of(m: u32, n: u32, sx: u32, sy: u32, tx: u32, ty: u32) -> Order
-    ensures { λ r. ⌜ r ≡ record { panel = panel m n; entry = cell sx sy; exit = cell tx ty } ⌝ }
+fn order_of(m: u32, n: u32, pitch: u32, sx: u32, sy: u32, tx: u32, ty: u32) -> Order
+    ensures { λ r. ⌜ r ≡ record { panel = panel m n pitch; entry = cell sx sy; exit = cell tx ty } ⌝ }
 {
     Order {
-        panel: panel_of(m, n),
+        panel: panel_of(m, n, pitch),
         entry: Cell { x: sx, y: sy },
         exit: Cell { x: tx, y: ty },
     }
@@ -52,10 +52,10 @@ fn pack_cells(a: CellsAnswer) -> u64
 
 // Bound: refusal · 2^32 + class · 2^24 + count.
 #[no_mangle]
-pub extern "C" fn foil_bound(m: u32, n: u32, sx: u32, sy: u32, tx: u32, ty: u32) -> u64
-    ensures { λ r. ⌜ PacksBound (panel m n) (cell sx sy) (cell tx ty) r ⌝ }
+pub extern "C" fn foil_bound(m: u32, n: u32, pitch: u32, sx: u32, sy: u32, tx: u32, ty: u32) -> u64
+    ensures { λ r. ⌜ PacksBound (panel m n pitch) (cell sx sy) (cell tx ty) r ⌝ }
 {
-    let o = order_of(m, n, sx, sy, tx, ty);
+    let o = order_of(m, n, pitch, sx, sy, tx, ty);
     let v = bound::bound_values(bound::bound(o.panel, o.entry, o.exit));
     pack(v.refusal, v.class, v.count)
 }
@@ -65,15 +65,16 @@ pub extern "C" fn foil_bound(m: u32, n: u32, sx: u32, sy: u32, tx: u32, ty: u32)
 pub extern "C" fn foil_draw(
     m: u32,
     n: u32,
+    pitch: u32,
     sx: u32,
     sy: u32,
     tx: u32,
     ty: u32,
     buffer: &mut [u8],
 ) -> u64
-    ensures { λ r. ⌜ PacksDraw (panel m n) (cell sx sy) (cell tx ty) (now (buffer .entry)) (now (buffer .exit)) r ⌝ }
+    ensures { λ r. ⌜ PacksDraw (panel m n pitch) (cell sx sy) (cell tx ty) (now (buffer .entry)) (now (buffer .exit)) r ⌝ }
 {
-    let o = order_of(m, n, sx, sy, tx, ty);
+    let o = order_of(m, n, pitch, sx, sy, tx, ty);
     pack_cells(draw::draw(o.panel, o.entry, o.exit, buffer))
 }
 
@@ -82,6 +83,7 @@ pub extern "C" fn foil_draw(
 pub extern "C" fn foil_judge(
     m: u32,
     n: u32,
+    pitch: u32,
     sx: u32,
     sy: u32,
     tx: u32,
@@ -89,8 +91,8 @@ pub extern "C" fn foil_judge(
     list: &[u8],
     scratch: &mut [u8],
 ) -> u64
-    ensures { λ r. ⌜ PacksJudge (panel m n) (cell sx sy) (cell tx ty) (now (list .entry)) (now (scratch .entry)) (now (scratch .exit)) r ⌝ }
+    ensures { λ r. ⌜ PacksJudge (panel m n pitch) (cell sx sy) (cell tx ty) (now (list .entry)) (now (scratch .entry)) (now (scratch .exit)) r ⌝ }
 {
-    let o = order_of(m, n, sx, sy, tx, ty);
+    let o = order_of(m, n, pitch, sx, sy, tx, ty);
     pack_cells(judge::judge(o.panel, o.entry, o.exit, list, scratch))
 }

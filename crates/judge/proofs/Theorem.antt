@@ -28,7 +28,7 @@ use Rattle.judge.proofs.Checks.{Sized, sized, is-sized, passed, is-pass
 
 -- the bytes hold a track between two different cells of a good panel, and nothing else
 pub record TrackBytes (p : Panel) (s t : Cell) (list : List ℕ) : Type 0 where
-  pub sides : goodPanel p ≡ true
+  pub panel : goodPanel p ≡ true
   pub different : s ≢ t
   pub even : length list % 2 ≡ 0
   pub track : Track p s t (cellsIn list)
@@ -41,7 +41,7 @@ module _ (p : Panel) (s t : Cell) (list : List ℕ) (room : ℕ) where
       let sizes = sizesCheck p s t (length list) room in
       let z = sized p s t (length list) room (after-passed sizes _ g) in
       record {
-        sides = is-good (z .ordered .panel);
+        panel = is-good (z .ordered .panel);
         different = z .ordered .differ;
         even = whole (length list) (z .whole) .1;
         track = tests-track (passed p s t (cellsIn list) (after-rest sizes _ g));
@@ -54,7 +54,7 @@ module _ (p : Panel) (s t : Cell) (list : List ℕ) (room : ℕ) where
       let a = b .track .within in
       let some : 1 ≤ length list = omega (arith, some-cell w, length-cells list) in
       let z : Sized p s t (length list) room = record {
-        ordered = record { panel = good p (b .sides); entry = first-in w a; exit = last-in w a; differ = b .different };
+        ordered = record { panel = good p (b .panel); entry = first-in w a; exit = last-in w a; differ = b .different };
         whole = is-whole (length list) some (b .even);
         enough = h;
       } in
@@ -76,5 +76,5 @@ pub drawn : (p : Panel) (s t : Cell) (k : ℕ) (buffer : List ℕ) (room : ℕ)
 drawn p s t k buffer room g d n track h =
     let e : length (take (2 * k) buffer) ≡ 2 * k = length-take-le (2 * k) buffer n in
     let f : length (cellsIn (take (2 * k) buffer)) ≡ k = omega (arith, length-cells (take (2 * k) buffer)) in
-    accepts p s t (take (2 * k) buffer) room h (record { sides = g; different = d; even = omega arith; track = track })
+    accepts p s t (take (2 * k) buffer) room h (record { panel = g; different = d; even = omega arith; track = track })
     ∙ ap (λ (j : ℕ). Given (record { 0 = j })) f

@@ -20,7 +20,7 @@ ghost use mathlib.Core.Path.{_≡_};
 ghost use mathlib.Core.Bool.{true};
 ghost use Prim.Native.Nat.{_≤_};
 ghost use lib.ListN.{length};
-ghost use Rattle.grid.specs.Panel.{goodPanel, area};
+ghost use Rattle.grid.specs.Panel.{goodSides, area};
 ghost use Rattle.grid.specs.Bytes.{cellsIn};
 ghost use Rattle.list.specs.List.{wholeCells, runs};
 ghost use Rattle.scratch.specs.Scratch.{cleared};
@@ -64,7 +64,7 @@ fn check_ends(p: Panel, entry: Cell, exit: Cell, list: &[u8]) -> Check
 
 // The refusals of the cells. Scratch is cleared first, so that it is clean whichever test fails.
 fn check_cells(p: Panel, entry: Cell, exit: Cell, list: &[u8], scratch: &mut [u8]) -> Check
-    requires good { ⌜ goodPanel p ≡ true ⌝ }
+    requires good { ⌜ goodSides p ≡ true ⌝ }
     requires whole { ⌜ wholeCells (length (now list)) ≡ true ⌝ }
     requires room { ⌜ area p ≤ length (now scratch) ⌝ }
     ensures told { λ r. ⌜ r ≡ cellsCheck p entry exit (cellsIn (now (list .entry))) ⌝ }

@@ -4,9 +4,13 @@
 use grid::Cell;
 use grid::Panel;
 use grid::panel_of;
+use trial::PITCH;
 use trial::cells::snake;
 use trial::print::row;
 use trial::print::text;
+
+// The largest number of 32 bits.
+const MAX: u32 = 4294967295;
 
 fn fill(s: &mut [u8]) {
     let mut i = 0;
@@ -38,28 +42,44 @@ fn try_order(p: Panel, entry: Cell, exit: Cell, list: &[u8], scratch: &mut [u8])
 }
 
 // A list on the panel of 3 by 2, from (1,1) to (1,2), with 8 bytes of scratch.
-fn try_list(list: &[u8]) {
+fn try_list_at(list: &[u8], pitch: u32) {
     let mut scratch = [0u8; 8];
-    let p = panel_of(3, 2);
+    let p = panel_of(3, 2, pitch);
     let entry = Cell { x: 1, y: 1 };
     let exit = Cell { x: 1, y: 2 };
     try_order(p, entry, exit, list, &mut scratch);
 }
 
+// The same with the usual pitch.
+fn try_list(list: &[u8]) {
+    try_list_at(list, PITCH);
+}
+
 // The list of two cells (1,1) and (1,2), with some of the order's numbers and of scratch changed.
-fn try_sides(width: u32, height: u32, scratch: &mut [u8]) {
-    let p = panel_of(width, height);
+fn try_panel(p: Panel, scratch: &mut [u8]) {
     let entry = Cell { x: 1, y: 1 };
     let exit = Cell { x: 1, y: 2 };
     try_order(p, entry, exit, b"\x01\x01\x01\x02", scratch);
 }
 
-fn try_ends(ex: u32, ey: u32, tx: u32, ty: u32) {
+fn try_sides(width: u32, height: u32, scratch: &mut [u8]) {
+    try_panel(panel_of(width, height, PITCH), scratch);
+}
+
+fn try_pitch(pitch: u32, scratch: &mut [u8]) {
+    try_panel(panel_of(3, 2, pitch), scratch);
+}
+
+fn try_ends_at(ex: u32, ey: u32, tx: u32, ty: u32, pitch: u32) {
     let mut scratch = [0u8; 8];
-    let p = panel_of(3, 2);
+    let p = panel_of(3, 2, pitch);
     let entry = Cell { x: ex, y: ey };
     let exit = Cell { x: tx, y: ty };
     try_order(p, entry, exit, b"\x01\x01\x01\x02", &mut scratch);
+}
+
+fn try_ends(ex: u32, ey: u32, tx: u32, ty: u32) {
+    try_ends_at(ex, ey, tx, ty, PITCH);
 }
 
 // 1 to 5, where the list is good but for what is named.
@@ -69,15 +89,43 @@ fn orders() {
     try_sides(3, 2, &mut enough);
     try_sides(0, 2, &mut enough);
     try_sides(3, 129, &mut enough);
-    try_sides(4294967295, 4294967295, &mut enough);
+    try_sides(MAX, MAX, &mut enough);
     let mut short = [0u8; 5];
     try_sides(3, 2, &mut short);
     let mut exact = [0u8; 6];
     try_sides(3, 2, &mut exact);
     try_ends(4, 1, 1, 2);
     try_ends(1, 0, 1, 3);
-    try_ends(1, 1, 4294967295, 2);
+    try_ends(1, 1, MAX, 2);
     try_ends(1, 1, 1, 1);
+}
+
+// 18: pitches at the ends of their range and outside it; then with a bad side, which is tested before.
+fn pitches() {
+    text(b"18:\n");
+    let mut scratch = [0u8; 8];
+    try_pitch(999, &mut scratch);
+    try_pitch(1000, &mut scratch);
+    try_pitch(10000, &mut scratch);
+    try_pitch(10001, &mut scratch);
+    try_pitch(0, &mut scratch);
+    try_pitch(MAX, &mut scratch);
+    try_panel(panel_of(0, 2, 999), &mut scratch);
+    try_panel(panel_of(3, 129, MAX), &mut scratch);
+}
+
+// 18 with each fault that is tested after it: 2, 3, 4, 6, 5, 7, 8, 9 and 11.
+fn pitch_and_more() {
+    try_ends_at(4, 1, 1, 2, 999);
+    try_ends_at(1, 1, 1, 3, 10001);
+    try_ends_at(1, 1, 1, 1, 0);
+    try_list_at(b"", 999);
+    let mut short = [0u8; 5];
+    try_pitch(10001, &mut short);
+    try_list_at(b"\x01\x01\x01\x02\x01\x03", 999);
+    try_list_at(b"\x01\x01\x02\x02\x01\x02", 10001);
+    try_list_at(b"\x01\x01\x02\x01\x01\x01\x01\x02", 0);
+    try_list_at(b"\x01\x02\x01\x01", MAX);
 }
 
 // Accepted lists, and 6.
@@ -145,7 +193,7 @@ fn try_snake(
     scratch: &mut [u8],
     room: usize,
 ) {
-    let p = panel_of(128, 128);
+    let p = panel_of(128, 128, PITCH);
     let entry = Cell { x: 1, y: 1 };
     snake(list);
     if 2 <= bytes {
@@ -180,6 +228,8 @@ fn large() {
 
 fn main() {
     orders();
+    pitches();
+    pitch_and_more();
     lengths();
     off_panel();
     not_neighbours();

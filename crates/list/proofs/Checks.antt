@@ -9,15 +9,14 @@ use lib.ListN.{length}
 use borrow.Author.Tests.{leb-true, le-leb}
 use Rattle.grid.specs.declared.Cell.{Cell}
 use Rattle.grid.specs.declared.Panel.{Panel}
-use Rattle.grid.specs.declared.Check.{Check}
 use Rattle.grid.specs.declared.Check.the-variants.{Good}
 use Rattle.grid.specs.declared.Refusal.the-variants.{StepCount}
 use Rattle.grid.specs.Panel.{area, goodPanel}
 use Rattle.grid.specs.Check.{checkPanel}
 use Rattle.grid.specs.Bytes.{bytes, cellsIn}
 use Rattle.grid.proofs.Bytes.{length-bytes, cells-bytes}
-use Rattle.grid.proofs.Facts.{is-good, and-parts, and-both}
-use Rattle.grid.proofs.Passed.{expect-passed, expect-rest, after-passed, after-rest, good-panel}
+use Rattle.grid.proofs.Facts.{and-parts, and-both}
+use Rattle.grid.proofs.Passed.{expect-passed, expect-rest, after-passed, after-rest, panel-passed, panel-passes}
 use Rattle.grid.proofs.Tests.{expect-yes, after-good}
 use Rattle.list.specs.List.{wholeCells, allOn, allSteps}
 use Rattle.list.specs.Check.{checkWalk, goodCount, checkList}
@@ -49,7 +48,7 @@ module _ (p : Panel) (list : List ℕ) (e : checkList p list ≡ Good) where
       let (o, n) = walk-good p l (after-passed (checkWalk p l) _ w) in
       let k = and-parts (leb 2 (length l)) (leb (length l) (area p)) (expect-passed (goodCount p (length l)) _ _ (after-rest (checkWalk p l) _ w)) in
       record {
-        panel = is-good (good-panel p (after-passed (checkPanel p) _ e));
+        panel = panel-passed p (after-passed (checkPanel p) _ e);
         on = o;
         next = n;
         some = leb-true _ _ (k .0);
@@ -63,7 +62,7 @@ is-list-good p l g =
     let whole : wholeCells (length (bytes l)) ≡ true = is-whole (length (bytes l)) (omega (arith, g .some, length-bytes l)) (omega (arith, length-bytes l)) in
     let walk = is-walk-good p (cellsIn (bytes l)) (ap (allOn p) back ∙ g .on) (ap allSteps back ∙ g .next) in
     let count : goodCount p (length l) ≡ true = and-both (le-leb 2 (length l) (g .some)) (le-leb (length l) (area p) (g .few)) in
-    sym (after-good _ (sym (expect-yes _ _ (g .panel) refl))
+    sym (after-good _ (panel-passes p (g .panel))
     (expect-yes _ _ whole
     (after-good _ walk
     (expect-yes StepCount _ (ap (λ (k : List Cell). goodCount p (length k)) back ∙ count) refl))))

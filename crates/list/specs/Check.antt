@@ -22,7 +22,7 @@ checkWalk p l = expect (allOn p l) CellOff (expect (allSteps l) NotNeighbours Go
 unfoldable pub goodCount : Panel → ℕ → Bool
 goodCount p k = leb 2 k && leb k (area p)
 
--- 1; 6, the list is empty or has an odd number of bytes; 7; 8; 15, one cell only or more than mn
+-- 1; 18; 6, the list is empty or has an odd number of bytes; 7; 8; 15, one cell only or more than mn
 abbrev pub checkList : Panel → List ℕ → Check
 checkList p list =
     after (checkPanel p)

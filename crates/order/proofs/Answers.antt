@@ -43,7 +43,7 @@ module _ (p : Panel) (s t : Cell) (q : checkOrder p s t ≡ Good) (n : ℕ) (e :
   count-bounds =
       let o = good-order p s t q in
       let (some, few) = bounds p s t (o .entry) (o .exit) (o .differ) in
-      (omega arith, omega (arith, area-small (o .panel)))
+      (omega arith, omega (arith, area-small (o .panel .sides)))
 
   module _ {old new : List ℕ} (size : 32768 ≡ length old) {r : CellsAnswer} (d : Draws p s t old new r) where
     drawn : r ≡ cells.Given (record { 0 = n })

@@ -12,13 +12,14 @@ use Rattle.text.specs.Field.{blank, lineFeed, largestNumber, fieldOf, Parsed, f
 use Rattle.text.specs.Field.Parsed.{nothing, value}
 use Rattle.text.proofs.Numbers.{reads-field, field-read}
 use Rattle.order.specs.declared.Line.{Line}
-use Rattle.order.specs.declared.Line.the-variants.{Other, Order}
+use Rattle.order.specs.declared.Line.the-variants.{Order}
 use Rattle.order.specs.Line.{lineOf, andThen, lineIn}
 
--- the six numbers of an order are not too large
+-- the seven numbers of an order are not too large
 pub record NotTooLarge (p : Panel) (s t : Cell) : Type 0 where
   pub width : p .width ≤ largestNumber
   pub height : p .height ≤ largestNumber
+  pub pitch : p .pitch ≤ largestNumber
   pub sx : s .x ≤ largestNumber
   pub sy : s .y ≤ largestNumber
   pub tx : t .x ≤ largestNumber
@@ -34,7 +35,8 @@ next n e l k q h f = f ∙ ap (λ (r : Parsed). andThen r k) (reads-field n e l 
 -- every order's line is read as the order, whatever is behind it
 pub reads-line : (p : Panel) (s t : Cell) (rest : List ℕ) → NotTooLarge p s t → lineIn (lineOf p s t rest) ≡ Order p s t
 reads-line p s t rest h =
-    let from-ty = fieldOf (t .y) lineFeed rest in
+    let from-q = fieldOf (p .pitch) lineFeed rest in
+    let from-ty = fieldOf (t .y) blank from-q in
     let from-tx = fieldOf (t .x) blank from-ty in
     let from-sy = fieldOf (s .y) blank from-tx in
     let from-sx = fieldOf (s .x) blank from-sy in
@@ -45,7 +47,8 @@ reads-line p s t rest h =
     (next (s .x) blank from-sy _ refl (h .sx)
     (next (s .y) blank from-tx _ refl (h .sy)
     (next (t .x) blank from-ty _ refl (h .tx)
-    (next (t .y) lineFeed rest _ refl (h .ty) refl))))) in
+    (next (t .y) blank from-q _ refl (h .ty)
+    (next (p .pitch) lineFeed rest _ refl (h .pitch) refl)))))) in
     sym read
 
 -- ---- what is read is written so
@@ -72,33 +75,38 @@ goes-on e l k {p} {s} {t} q = go (field e l) refl
         let w = field-read e l n r f in
         record { number = n; rest = r; bytes = w .0; small = w .1; on = read f }
 
+-- equal orders have equal parts
+same-parts : {p q : Panel} {s t u v : Cell} → Order p s t ≡ Order q u v → (p ≡ q) × (s ≡ u) × (t ≡ v)
+same-parts e = (cc, cc, cc)
+
 -- an input that is read as an order begins with the order's line, and its numbers are not too large
 pub is-line : (l : List ℕ) (p : Panel) (s t : Cell) → lineIn l ≡ Order p s t → (rest : List ℕ) × (l ≡ lineOf p s t rest) × NotTooLarge p s t
-is-line l p s t q =
-    let m = goes-on blank l _ q in
+is-line l p s t e =
+    let m = goes-on blank l _ e in
     let n = goes-on blank (m .rest) _ (m .on) in
     let sx = goes-on blank (n .rest) _ (n .on) in
     let sy = goes-on blank (sx .rest) _ (sx .on) in
     let tx = goes-on blank (sy .rest) _ (sy .on) in
-    let ty = goes-on lineFeed (tx .rest) _ (tx .on) in
-    let made = panel (m .number) (n .number) in
+    let ty = goes-on blank (tx .rest) _ (tx .on) in
+    let q = goes-on lineFeed (ty .rest) _ (ty .on) in
+    let made = panel (m .number) (n .number) (q .number) in
     let entry = cell (sx .number) (sy .number) in
     let exit = cell (tx .number) (ty .number) in
-    let same : Order made entry exit ≡ Order p s t = ty .on in
-    let is-p : made ≡ p = cc in
-    let is-s : entry ≡ s = cc in
-    let is-t : exit ≡ t = cc in
-    let from-tx = tx .bytes ∙ ap (fieldOf (tx .number) blank) (ty .bytes) in
+    let same : Order made entry exit ≡ Order p s t = q .on in
+    let (is-p, is-s, is-t) = same-parts same in
+    let from-ty = ty .bytes ∙ ap (fieldOf (ty .number) blank) (q .bytes) in
+    let from-tx = tx .bytes ∙ ap (fieldOf (tx .number) blank) from-ty in
     let from-sy = sy .bytes ∙ ap (fieldOf (sy .number) blank) from-tx in
     let from-sx = sx .bytes ∙ ap (fieldOf (sx .number) blank) from-sy in
     let from-n = n .bytes ∙ ap (fieldOf (n .number) blank) from-sx in
-    let line : l ≡ lineOf made entry exit (ty .rest) = m .bytes ∙ ap (fieldOf (m .number) blank) from-n in
+    let line : l ≡ lineOf made entry exit (q .rest) = m .bytes ∙ ap (fieldOf (m .number) blank) from-n in
     let small : NotTooLarge made entry exit = record {
       width = m .small;
       height = n .small;
+      pitch = q .small;
       sx = sx .small;
       sy = sy .small;
       tx = tx .small;
       ty = ty .small;
     } in
-    (ty .rest, line ∙ (λ i. lineOf (is-p i) (is-s i) (is-t i) (ty .rest)), subst₃ NotTooLarge is-p is-s is-t small)
+    (q .rest, line ∙ (λ i. lineOf (is-p i) (is-s i) (is-t i) (q .rest)), subst₃ NotTooLarge is-p is-s is-t small)

@@ -13,19 +13,19 @@ use Rattle.order.specs.declared.Line.{Line}
 use Rattle.order.specs.declared.Line.the-variants.{Other, Order}
 use Rattle.order.specs.Line.{andThen}
 
--- the order whose first five numbers stand in v
+-- the order whose first six numbers stand in v
 abbrev pub orderOf : List ℕ → ℕ → Line
-orderOf v ty = Order (panel (getD v 0 0) (getD v 1 0)) (cell (getD v 2 0) (getD v 3 0)) (cell (getD v 4 0) ty)
+orderOf v q = Order (panel (getD v 0 0) (getD v 1 0) q) (cell (getD v 2 0) (getD v 3 0)) (cell (getD v 4 0) (getD v 5 0))
 
--- the same with a panel that was made of the first two
-pub order-made : (v : List ℕ) (ty : ℕ) {p : Panel} → p ≡ panel (getD v 0 0) (getD v 1 0)
-    → Order p (cell (getD v 2 0) (getD v 3 0)) (cell (getD v 4 0) ty) ≡ orderOf v ty
-order-made v ty e = ap (λ (p : Panel). Order p (cell (getD v 2 0) (getD v 3 0)) (cell (getD v 4 0) ty)) e
+-- the same with a panel that was made of the first two and the last
+pub order-made : (v : List ℕ) (q : ℕ) {p : Panel} → p ≡ panel (getD v 0 0) (getD v 1 0) q
+    → Order p (cell (getD v 2 0) (getD v 3 0)) (cell (getD v 4 0) (getD v 5 0)) ≡ orderOf v q
+order-made v q e = ap (λ (p : Panel). Order p (cell (getD v 2 0) (getD v 3 0)) (cell (getD v 4 0) (getD v 5 0))) e
 
--- what is read where k numbers with a blank behind them are still to come; the five of the line stand in v
+-- what is read where k numbers with a blank behind them are still to come; the six of the line stand in v
 abbrev pub lineFrom : ℕ → List ℕ → List ℕ → Line
-lineFrom zero v l = andThen (field lineFeed l) (λ ty l. orderOf v ty)
-lineFrom (suc k) v l = andThen (field blank l) (λ n l. lineFrom k (set v (4 - k) n) l)
+lineFrom zero v l = andThen (field lineFeed l) (λ q l. orderOf v q)
+lineFrom (suc k) v l = andThen (field blank l) (λ n l. lineFrom k (set v (5 - k) n) l)
 
 -- what reading a number at a position goes on to
 module _ (input : List ℕ) (e i : ℕ) (k : ℕ → List ℕ → Line) {r : Number} (f : parsed input r ≡ field e (drop i input)) where
@@ -35,22 +35,22 @@ module _ (input : List ℕ) (e i : ℕ) (k : ℕ → List ℕ → Line) {r : Num
   pub reads-on : {v j : ℕ} → r ≡ Until v j → k v (drop j input) ≡ andThen (field e (drop i input)) k
   reads-on q = ap (λ (p : Parsed). andThen p k) (ap (parsed input) (sym q) ∙ f)
 
--- number i of the first five
-module _ (input v : List ℕ) (from i : ℕ) (h : i < 5) where
+-- number i of the first six
+module _ (input v : List ℕ) (from i : ℕ) (h : i < 6) where
   abbrev more : ℕ → List ℕ → Line
-  more n l = lineFrom (4 - i) (set v (4 - (4 - i)) n) l
+  more n l = lineFrom (5 - i) (set v (5 - (5 - i)) n) l
 
-  one-more : andThen (field blank (drop from input)) more ≡ lineFrom (5 - i) v (drop from input)
+  one-more : andThen (field blank (drop from input)) more ≡ lineFrom (6 - i) v (drop from input)
   one-more =
-      let e : suc (4 - i) ≡ 5 - i = omega arith in
+      let e : suc (5 - i) ≡ 6 - i = omega arith in
       ap (λ (k : ℕ). lineFrom k v (drop from input)) e
 
   module _ {r : Number} (f : parsed input r ≡ field blank (drop from input)) where
-    pub first-none : r ≡ Bad → Other ≡ lineFrom (5 - i) v (drop from input)
+    pub first-none : r ≡ Bad → Other ≡ lineFrom (6 - i) v (drop from input)
     first-none q = reads-none input blank from more f q ∙ one-more
 
-    pub first-on : (n j : ℕ) → r ≡ Until n j → lineFrom (5 - (i + 1)) (set v i n) (drop j input) ≡ lineFrom (5 - i) v (drop from input)
+    pub first-on : (n j : ℕ) → r ≡ Until n j → lineFrom (6 - (i + 1)) (set v i n) (drop j input) ≡ lineFrom (6 - i) v (drop from input)
     first-on n j q =
-        let e : 5 - (i + 1) ≡ 4 - i = omega arith in
-        let g : i ≡ 4 - (4 - i) = omega arith in
+        let e : 6 - (i + 1) ≡ 5 - i = omega arith in
+        let g : i ≡ 5 - (5 - i) = omega arith in
         (λ t. lineFrom (e t) (set v (g t) n) (drop j input)) ∙ reads-on input blank from more f q ∙ one-more

@@ -1,4 +1,4 @@
--- Document 01, "Program foil": the form of an order's line, and how it is read.
+-- Document 01, "Program foil", with R-1's pitch: the form of an order's line, and how it is read.
 use Prim.Native.Nat.{ℕ}
 use mathlib.Core.List.{List}
 use Rattle.grid.specs.declared.Panel.{Panel}
@@ -9,12 +9,13 @@ use Rattle.text.specs.Field.Parsed.{nothing, value}
 use Rattle.order.specs.declared.Line.{Line}
 use Rattle.order.specs.declared.Line.the-variants.{Other, Order}
 
--- an order's line, and the rest: m, n, entry x, entry y, exit x, exit y, one blank between, a line feed after
+-- an order's line, and the rest: m, n, entry x, entry y, exit x, exit y, pitch, one blank between, a line feed after
 abbrev pub lineOf : Panel → Cell → Cell → List ℕ → List ℕ
 lineOf p s t rest =
     fieldOf (p .width) blank (fieldOf (p .height) blank
     (fieldOf (s .x) blank (fieldOf (s .y) blank
-    (fieldOf (t .x) blank (fieldOf (t .y) lineFeed rest)))))
+    (fieldOf (t .x) blank (fieldOf (t .y) blank
+    (fieldOf (p .pitch) lineFeed rest))))))
 
 -- what a number at the front goes on to; nothing is no order
 abbrev pub andThen : Parsed → (ℕ → List ℕ → Line) → Line
@@ -26,5 +27,6 @@ abbrev pub lineIn : List ℕ → Line
 lineIn l =
     andThen (field blank l) (λ m l. andThen (field blank l) (λ n l.
     andThen (field blank l) (λ sx l. andThen (field blank l) (λ sy l.
-    andThen (field blank l) (λ tx l. andThen (field lineFeed l) (λ ty l.
-    Order (panel m n) (cell sx sy) (cell tx ty)))))))
+    andThen (field blank l) (λ tx l. andThen (field blank l) (λ ty l.
+    andThen (field lineFeed l) (λ q l.
+    Order (panel m n q) (cell sx sy) (cell tx ty))))))))

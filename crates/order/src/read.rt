@@ -1,4 +1,4 @@
-// Reads an order's line: six numbers in base ten.
+// Reads an order's line: seven numbers in base ten.
 use crate::Line;
 use grid::Cell;
 use grid::panel_of;
@@ -9,14 +9,14 @@ use text::read_field;
 ghost use mathlib.Core.Path.{_≡_};
 ghost use Rattle.order.specs.Line.{lineIn};
 
-// Five numbers with a blank behind each, and the last with a line feed.
+// Six numbers with a blank behind each, and the pitch with a line feed.
 pub fn read_line(input: &[u8]) -> Line
     ensures { λ r. ⌜ r ≡ lineIn (now (input .entry)) ⌝ }
 {
-    let mut first = [0u32; 5];
+    let mut first = [0u32; 6];
     let mut from = 0;
     let mut i = 0;
-    while i < 5 {
+    while i < 6 {
         let a = read_field(input, from, BLANK);
         let Number::Until(v, next) = a else {
             return Line::Other;
@@ -26,18 +26,18 @@ pub fn read_line(input: &[u8]) -> Line
         i += 1;
     }
     let b = read_field(input, from, LINE_FEED);
-    let Number::Until(last, _) = b else {
+    let Number::Until(pitch, _) = b else {
         return Line::Other;
     };
     Line::Order(
-        panel_of(first[0], first[1]),
+        panel_of(first[0], first[1], pitch),
         Cell {
             x: first[2],
             y: first[3],
         },
         Cell {
             x: first[4],
-            y: last,
+            y: first[5],
         },
     )
 }

@@ -26,10 +26,11 @@ abbrev offFrom : Panel → Cell → ℕ
 offFrom p s = panelWeight (off p s) p
 
 -- From an entry on panels of one to four rows none does. `plan-good` (Wide.antt) says it of every order; here a wrong plan shows as a number.
-plans-counted : offFrom (panel 5 1) (cell 2 1) + offFrom (panel 6 2) (cell 2 1) + offFrom (panel 4 3) (cell 1 2) + offFrom (panel 4 4) (cell 1 2) ≡ 0
+plans-counted : (q : ℕ)
+    → offFrom (panel 5 1 q) (cell 2 1) + offFrom (panel 6 2 q) (cell 2 1) + offFrom (panel 4 3 q) (cell 1 2) + offFrom (panel 4 4 q) (cell 1 2) ≡ 0
 unfolding columnsWeight f1 f2 f3 c2 c0 decided named classCount dist trackCount cornerCount
     split bridge wrap round zigzag middle twoRows threeRowsApart threeRows wrapped crossing innerSplit edgeSplit atEdge bridged fourRows wide planOf
-plans-counted = refl
+plans-counted q = refl
 
 -- ---- blocks
 

@@ -67,6 +67,7 @@ module _ (file old : List ℕ) {r : ReadAnswer} (e : r ≡ readAnswer file old) 
     number = part (λ a. (readValues a) .refusal);
     width = part (λ a. (readValues a) .panel .width);
     height = part (λ a. (readValues a) .panel .height);
+    pitch = part (λ a. (readValues a) .panel .pitch);
     count = part (λ a. (readValues a) .cells .0);
     bytes = part (λ a. (readValues a) .length);
     buffer = b;

@@ -16,12 +16,12 @@ use borrow.Author.Tests.{le-leb, lt-leb}
 use Rattle.grid.specs.declared.Cell.{Cell}
 use Rattle.grid.specs.declared.Panel.{Panel}
 use Rattle.grid.specs.declared.Refusal.{Refusal}
-use Rattle.grid.specs.declared.Refusal.the-variants.{Mark, CutShort, Side, EntryOff, StepCount, UnknownByte, CellOff, ShortBuffer}
+use Rattle.grid.specs.declared.Refusal.the-variants.{Mark, CutShort, Side, Pitch, EntryOff, StepCount, UnknownByte, CellOff, ShortBuffer}
 use Rattle.grid.specs.declared.Check.{Check}
 use Rattle.grid.specs.declared.Check.the-variants.{Good}
 use Rattle.grid.specs.declared.BytesAnswer.{BytesAnswer}
 use Rattle.grid.specs.Refusal.{number}
-use Rattle.grid.specs.Panel.{area, onPanel, goodPanel}
+use Rattle.grid.specs.Panel.{area, onPanel, goodSides, goodPitch}
 use Rattle.grid.specs.Bytes.{bytes, cellsIn}
 use Rattle.grid.specs.Check.{checkPanel, checkEntry, expect, after, answer}
 use Rattle.grid.specs.Answer.{bytesValues}
@@ -206,7 +206,8 @@ never-five f =
     (expect-not (leb headLength (length f)) CutShort _ (omega arith)
     (after-not (checkEntry (panelIn f) (entryIn f)) _
     (after-not (checkPanel (panelIn f)) _
-    (expect-not (goodPanel (panelIn f)) Side Good (omega arith) good-not)
+    (expect-not (goodSides (panelIn f)) Side _ (omega arith)
+    (expect-not (goodPitch (panelIn f)) Pitch Good (omega arith) good-not))
     (expect-not (onPanel (panelIn f) (entryIn f)) EntryOff Good (omega arith) good-not))
     (expect-not (goodSteps (panelIn f) (stepsIn f)) StepCount _ (omega arith)
     (expect-not (leb (headLength + stepsIn f) (length f)) CutShort Good (omega arith) good-not)))))

@@ -22,7 +22,7 @@ use Rattle.step_letters.proofs.Lists.{bytes-more, put-byte}
 
 pub on-largest : (p : Panel) (c : Cell) → goodPanel p ≡ true → onPanel p c ≡ true → OnPanel largestPanel c
 on-largest p c g o =
-    let s = good p g in
+    let s = good p g .sides in
     let h = on p c o in
     record { left = h .left; right = omega arith; top = h .top; bottom = omega arith }
 

@@ -39,7 +39,7 @@ checkSteps p s l = expect (allOn p (walkFrom s l)) CellOff Good
 abbrev pub checkLetters : Panel → Cell → List ℕ → Check
 checkLetters p s l = after (checkKnown l) (checkSteps p s l)
 
--- the refusals of Letters: 14; 17; 1; 2; 15; 17; 16; 7
+-- the refusals of Letters: 14; 17; 1; 18; 2; 15; 17; 16; 7
 abbrev pub checkRecord : List ℕ → Check
 checkRecord f = after (checkHead f) (checkLetters (panelIn f) (entryIn f) (lettersIn f))
 
@@ -72,7 +72,7 @@ pub record ReadValues : Type 0 where
   pub length : ℕ
 
 abbrev pub readValues : ReadAnswer → ReadValues
-readValues (Refused r) = record { refusal = number r; panel = panel 0 0; cells = record { 0 = 0 }; length = 0 }
+readValues (Refused r) = record { refusal = number r; panel = panel 0 0 0; cells = record { 0 = 0 }; length = 0 }
 readValues (Given p n k) = record { refusal = 0; panel = p; cells = n; length = k }
 
 -- what Read promises of its answer r and of the buffer, old before the call and new after it
@@ -81,6 +81,7 @@ pub record Reads (file old new : List ℕ) (r : ReadAnswer) : Type 0 where
   pub number : (readValues r) .refusal ≡ refusalNumber (checkRead file old)
   pub width : (readValues r) .panel .width ≡ given (checkRead file old) ((panelIn file) .width)
   pub height : (readValues r) .panel .height ≡ given (checkRead file old) ((panelIn file) .height)
+  pub pitch : (readValues r) .panel .pitch ≡ given (checkRead file old) ((panelIn file) .pitch)
   pub count : (readValues r) .cells .0 ≡ given (checkRead file old) (length (cellsRead file))
   pub bytes : (readValues r) .length ≡ given (checkRead file old) (headLength + stepsIn file)
   pub buffer : new ≡ readBuffer file old

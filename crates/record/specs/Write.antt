@@ -22,11 +22,11 @@ abbrev pub recordOf : Panel → List Cell → List ℕ
 recordOf p [] = []
 recordOf p (s ∷ l) = headOf p s (length l) ++ lettersFrom s l
 
--- its length: 8 bytes plus one for each step
+-- its length: 10 bytes plus one for each step
 abbrev pub recordLength : List Cell → ℕ
 recordLength l = headLength + stepsOf l
 
--- 1; 6; 7; 8; 15; 5, the buffer is shorter than the record
+-- 1; 18; 6; 7; 8; 15; 5, the buffer is shorter than the record
 abbrev pub checkWrite : Panel → List ℕ → List ℕ → Check
 checkWrite p list out =
     after (checkList p list) (expect (leb (recordLength (cellsIn list)) (length out)) ShortBuffer Good)

@@ -2,7 +2,7 @@
 -- what it says, and what the check says where it refuses nothing. Only these laws know which byte of the head holds what.
 use Prim.Native.Nat.{ℕ, zero, suc, _+_, _-_, _*_, _/_, _%_, _≤_, _<_}
 use mathlib.Core.Path.{_≡_, refl, sym, ap, _∙_}
-use mathlib.Core.Bool.{Bool, true, false}
+use mathlib.Core.Bool.{Bool, true, false, _&&_}
 use mathlib.Core.List.{List, [], _∷_, _++_}
 use native.Mathlib.Omega.{arith}
 use lib.Dec.{leb, ltb, eqb}
@@ -11,13 +11,14 @@ use lib.Seq.{drop-cons}
 use borrow.Author.Tests.{lt-ltb, le-ltb, le-leb, leb-true, leb-false, eqb-true}
 use Rattle.grid.specs.declared.Cell.{Cell}
 use Rattle.grid.specs.declared.Panel.{Panel}
-use Rattle.grid.specs.declared.Check.the-variants.{Good}
-use Rattle.grid.specs.Panel.{area, onPanel, goodPanel}
+use Rattle.grid.specs.declared.Refusal.the-variants.{Mark}
+use Rattle.grid.specs.declared.Check.the-variants.{Good, Refused}
+use Rattle.grid.specs.Panel.{panel, area, onPanel, goodPanel}
 use Rattle.grid.specs.Check.{checkEntry}
 use Rattle.grid.proofs.Facts.{good, is-good, is-on, area-small, and-parts, and-both}
-use Rattle.grid.proofs.Passed.{expect-passed, expect-rest, after-passed, after-rest, good-entry}
-use Rattle.grid.proofs.Tests.{expect-yes, after-good}
-use Rattle.record_head.specs.Head.{markHigh, markLow, headOf, headLength, stepsAt, hasMark}
+use Rattle.grid.proofs.Passed.{expect-passed, expect-rest, after-passed, after-rest, good-entry, panel-passes}
+use Rattle.grid.proofs.Tests.{expect-yes, expect-no, after-good}
+use Rattle.record_head.specs.Head.{markHigh, markLow, headOf, headLength, pitchAt, stepsAt, hasMark, hasHead}
 use Rattle.record_head.specs.Head.{panelIn, entryIn, stepsIn, lettersIn, goodSteps, checkHead}
 
 -- ---- numbers
@@ -33,11 +34,8 @@ below-last k n h = by-case (leb k (n - 1)) refl
 high-and-low : (k : ℕ) → 256 * (k / 256) + k % 256 ≡ k
 high-and-low k = omega arith
 
-high-of : (h l : ℕ) → l < 256 → (256 * h + l) / 256 ≡ h
-high-of h l b = omega arith
-
-low-of : (h l : ℕ) → l < 256 → (256 * h + l) % 256 ≡ l
-low-of h l b = omega arith
+pair-of : (h l : ℕ) → l < 256 → ((256 * h + l) / 256 ≡ h) × ((256 * h + l) % 256 ≡ l)
+pair-of h l b = (omega arith, omega arith)
 
 -- ---- a check that refuses nothing
 
@@ -55,7 +53,7 @@ pub head-good : (f : List ℕ) → checkHead f ≡ Good → GoodHead f
 unfolding goodSteps
 head-good f e =
     let e₁ = expect-rest (hasMark f) _ _ e in
-    let e₂ = expect-rest (leb headLength (length f)) _ _ e₁ in
+    let e₂ = expect-rest (hasHead f) _ _ e₁ in
     let e₃ = after-rest (checkEntry (panelIn f) (entryIn f)) _ e₂ in
     let e₄ = expect-rest (goodSteps (panelIn f) (stepsIn f)) _ _ e₃ in
     let front = good-entry (panelIn f) (entryIn f) (after-passed _ _ e₂) in
@@ -63,7 +61,7 @@ head-good f e =
     let low = leb-true 1 (stepsIn f) (k .0) in
     record {
       mark = expect-passed (hasMark f) _ _ e;
-      long = leb-true _ _ (expect-passed (leb headLength (length f)) _ _ e₁);
+      long = leb-true _ _ (expect-passed (hasHead f) _ _ e₁);
       panel = is-good (front .0);
       entry = is-on (front .1);
       some = low;
@@ -77,7 +75,7 @@ head-good f e =
 pub is-head-good : (f : List ℕ) → GoodHead f → checkHead f ≡ Good
 unfolding goodSteps
 is-head-good f g =
-    let entry = sym (after-good _ (sym (expect-yes _ _ (g .panel) refl)) (expect-yes _ _ (g .entry) refl)) in
+    let entry = sym (after-good _ (panel-passes (panelIn f) (g .panel)) (expect-yes _ _ (g .entry) refl)) in
     let steps = and-both (le-leb 1 (stepsIn f) (g .some)) (le-leb (stepsIn f) (area (panelIn f) - 1) (omega (arith, g .few))) in
     sym (expect-yes _ _ (g .mark)
     (expect-yes _ _ (le-leb _ _ (g .long))
@@ -87,7 +85,15 @@ is-head-good f g =
 
 -- the step count of a good head has two bytes to spare
 pub steps-bound : (f : List ℕ) → GoodHead f → stepsIn f < 16384
-steps-bound f h = omega (arith, h .few, area-small (good (panelIn f) (h .panel)))
+steps-bound f h = omega (arith, h .few, area-small (good (panelIn f) (h .panel) .sides))
+
+-- ---- the old mark, 46 54, under which records had no pitch
+
+pub old-mark : (rest : List ℕ) → checkHead (0x46 ∷ 0x54 ∷ rest) ≡ Refused Mark
+unfolding hasMark
+old-mark rest =
+    let long = le-leb 2 (length (0x46 ∷ 0x54 ∷ rest)) (omega arith) in
+    sym (expect-no _ _ (ap (λ (b : Bool). b && false) long))
 
 -- ---- a head in front of anything
 
@@ -96,7 +102,7 @@ module _ (p : Panel) (s : Cell) (k : ℕ) (rest : List ℕ) where
   file = headOf p s k ++ rest
 
   pub panel-back : panelIn file ≡ p
-  panel-back = refl
+  panel-back = ap (panel (p .width) (p .height)) (high-and-low (p .pitch))
 
   pub entry-back : entryIn file ≡ s
   entry-back = refl
@@ -113,7 +119,7 @@ module _ (p : Panel) (s : Cell) (k : ℕ) (rest : List ℕ) where
       is-head-good file record {
         mark = and-both (le-leb 2 (length file) (omega arith)) refl;
         long = omega arith;
-        panel = g;
+        panel = ap goodPanel panel-back ∙ g;
         entry = o;
         some = omega (arith, steps-back);
         few = omega (arith, steps-back);
@@ -138,6 +144,6 @@ head-is f g byte =
     let m = and-parts (eqb (getD f 0 0) markHigh) (eqb (getD f 1 0) markLow) (and-parts (leb 2 (length f)) _ (g .mark) .1) in
     let first = eqb-true (getD f 0 0) markHigh (m .0) in
     let second = eqb-true (getD f 1 0) markLow (m .1) in
-    let high = high-of (getD f stepsAt 0) (getD f (stepsAt + 1) 0) (byte (stepsAt + 1)) in
-    let low = low-of (getD f stepsAt 0) (getD f (stepsAt + 1) 0) (byte (stepsAt + 1)) in
+    let (pitch-high, pitch-low) = pair-of (getD f pitchAt 0) (getD f (pitchAt + 1) 0) (byte (pitchAt + 1)) in
+    let (steps-high, steps-low) = pair-of (getD f stepsAt 0) (getD f (stepsAt + 1) 0) (byte (stepsAt + 1)) in
     bytes-from headLength 0 f (g .long) ∙ cc

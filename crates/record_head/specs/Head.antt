@@ -1,4 +1,4 @@
--- Document 01, "Record": the head of a record, byte by byte, and "Read": what is refused of it, in order.
+-- Document 01, "Record", with R-1's pitch: the head of a record, byte by byte, and "Read": what is refused of it, in order.
 use Prim.Native.Nat.{ℕ, _+_, _-_, _*_, _/_, _%_}
 use mathlib.Core.Bool.{Bool, _&&_}
 use mathlib.Core.List.{List, [], _∷_}
@@ -14,17 +14,18 @@ use Rattle.grid.specs.Check.{checkEntry, expect, after}
 use Rattle.list.specs.List.{cellAt}
 use Rattle.record_head.specs.declared.Head.{Head}
 
--- the mark (a magic number), 46 54: its first byte
+-- the mark (a magic number), 46 55: its first byte
 abbrev pub markHigh : ℕ
 markHigh = 0x46
 
 -- its second byte
 abbrev pub markLow : ℕ
-markLow = 0x54
+markLow = 0x55
 
--- the head: mark, m, n, entry x, entry y, the step count in two bytes, high first
+-- the head: mark, m, n, the pitch in two bytes, high first, entry x, entry y, the step count in two bytes, high first
 abbrev pub headOf : Panel → Cell → ℕ → List ℕ
-headOf p s k = markHigh ∷ markLow ∷ p .width ∷ p .height ∷ s .x ∷ s .y ∷ (k / 256) ∷ (k % 256) ∷ []
+headOf p s k =
+    markHigh ∷ markLow ∷ p .width ∷ p .height ∷ (p .pitch / 256) ∷ (p .pitch % 256) ∷ s .x ∷ s .y ∷ (k / 256) ∷ (k % 256) ∷ []
 
 -- where its fields stand, each behind the one before: m
 abbrev pub widthAt : ℕ
@@ -34,9 +35,13 @@ widthAt = 2
 abbrev pub heightAt : ℕ
 heightAt = widthAt + 1
 
+-- the high byte of the pitch, and the low one behind it
+abbrev pub pitchAt : ℕ
+pitchAt = heightAt + 1
+
 -- entry x, and entry y behind it
 abbrev pub entryAt : ℕ
-entryAt = heightAt + 1
+entryAt = pitchAt + 2
 
 -- the high byte of the step count, and the low one behind it
 abbrev pub stepsAt : ℕ
@@ -50,13 +55,17 @@ headLength = stepsAt + 2
 unfoldable pub hasMark : List ℕ → Bool
 hasMark f = leb 2 (length f) && (eqb (getD f 0 0) markHigh && eqb (getD f 1 0) markLow)
 
--- the number in two bytes from i on, high first
-abbrev pub pairAt : List ℕ → ℕ → ℕ
-pairAt f i = 256 * getD f i 0 + getD f (i + 1) 0
+-- bytes enough for a head
+abbrev pub hasHead : List ℕ → Bool
+hasHead f = leb headLength (length f)
+
+-- the number in two bytes, by the places of its high byte and of its low one
+abbrev pub pairAt : List ℕ → ℕ → ℕ → ℕ
+pairAt f high low = 256 * getD f high 0 + getD f low 0
 
 -- the panel in the head
 abbrev pub panelIn : List ℕ → Panel
-panelIn f = panel (getD f widthAt 0) (getD f heightAt 0)
+panelIn f = panel (getD f widthAt 0) (getD f heightAt 0) (pairAt f pitchAt (pitchAt + 1))
 
 -- the entry in the head
 abbrev pub entryIn : List ℕ → Cell
@@ -64,7 +73,7 @@ entryIn f = cellAt f entryAt
 
 -- the step count in the head
 abbrev pub stepsIn : List ℕ → ℕ
-stepsIn f = pairAt f stepsAt
+stepsIn f = pairAt f stepsAt (stepsAt + 1)
 
 -- the three together
 abbrev pub headIn : List ℕ → Head
@@ -78,11 +87,11 @@ lettersIn f = take (stepsIn f) (drop headLength f)
 unfoldable pub goodSteps : Panel → ℕ → Bool
 goodSteps p k = upTo (area p - 1) k
 
--- 14, the mark is missing or other; 17, fewer than 8 bytes; 1; 2; 15, step count 0 or above mn − 1; 17, letters cut short
+-- 14, the mark is missing or other; 17, fewer than 10 bytes; 1; 18; 2; 15, step count 0 or above mn − 1; 17, letters cut short
 abbrev pub checkHead : List ℕ → Check
 checkHead f =
     expect (hasMark f) Mark
-    (expect (leb headLength (length f)) CutShort
+    (expect (hasHead f) CutShort
     (after (checkEntry (panelIn f) (entryIn f))
     (expect (goodSteps (panelIn f) (stepsIn f)) StepCount
     (expect (leb (headLength + stepsIn f) (length f)) CutShort Good))))

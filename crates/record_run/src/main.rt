@@ -1,10 +1,12 @@
 // Tries Write, Read and Letters. A line `write` gives the refusal's number (0: none) and the bytes written; a line
-// `read` the number, the panel, the cells and the record's length; a line `letters` what Letters hands back; a
-// line `bytes` a buffer after a call.
+// `read` the number, the panel (sides and pitch), the cells and the record's length; a line `letters` what Letters
+// hands back; a line `bytes` a buffer after a call.
 use grid::BytesAnswer;
+use grid::Panel;
 use grid::number_of;
 use grid::panel_of;
 use record::ReadAnswer;
+use trial::PITCH;
 use trial::cells::snake;
 use trial::cells::wide;
 use trial::print::named;
@@ -12,6 +14,9 @@ use trial::print::row;
 use trial::print::text;
 ghost use Prim.Native.Nat.{_≤_, _<_};
 ghost use lib.ListN.{length};
+
+// The largest number of 32 bits.
+const MAX: u32 = 4294967295;
 
 fn show_bytes(s: &[u8]) {
     text(b"bytes");
@@ -23,9 +28,9 @@ fn show_bytes(s: &[u8]) {
     text(b"\n");
 }
 
-fn show_write(m: u32, n: u32, list: &[u8], out: &mut [u8]) {
+fn show_write(p: Panel, list: &[u8], out: &mut [u8]) {
     text(b"write ");
-    match record::write(panel_of(m, n), list, out) {
+    match record::write(p, list, out) {
         BytesAnswer::Refused(r) => row(&[number_of(r), 0], b"\n"),
         BytesAnswer::Given(k) => row(&[0, k], b"\n"),
     }
@@ -34,8 +39,8 @@ fn show_write(m: u32, n: u32, list: &[u8], out: &mut [u8]) {
 fn show_read(file: &[u8], list: &mut [u8]) {
     text(b"read ");
     match record::read(file, list) {
-        ReadAnswer::Refused(r) => row(&[number_of(r), 0, 0, 0, 0], b"\n"),
-        ReadAnswer::Given(p, n, k) => row(&[0, p.width, p.height, n.0, k], b"\n"),
+        ReadAnswer::Refused(r) => row(&[number_of(r), 0, 0, 0, 0, 0], b"\n"),
+        ReadAnswer::Given(p, n, k) => row(&[0, p.width, p.height, p.pitch, n.0, k], b"\n"),
     }
 }
 
@@ -54,9 +59,9 @@ fn show_letters(file: &[u8]) {
 }
 
 // A record of the list, its letters, and the list again; the bytes behind both stay as they were.
-fn there_and_back(m: u32, n: u32, list: &[u8]) {
+fn there_and_back(p: Panel, list: &[u8]) {
     let mut out = [170u8; 20];
-    show_write(m, n, list, &mut out);
+    show_write(p, list, &mut out);
     show_bytes(&out);
     show_letters(&out);
     let mut back = [85u8; 20];
@@ -66,27 +71,35 @@ fn there_and_back(m: u32, n: u32, list: &[u8]) {
 
 fn round_trips() {
     text(b"round trips\n");
-    there_and_back(5, 1, &[2, 1, 3, 1, 4, 1]);
+    // The pitch is the bytes 15 and 160.
+    there_and_back(panel_of(5, 1, 0x0FA0), &[2, 1, 3, 1, 4, 1]);
     there_and_back(
-        3,
-        3,
+        panel_of(3, 3, PITCH),
         &[3, 3, 3, 2, 3, 1, 2, 1, 2, 2, 2, 3, 1, 3, 1, 2, 1, 1],
     );
     // A list may revisit cells.
-    there_and_back(2, 2, &[1, 1, 1, 2, 1, 1, 2, 1]);
+    there_and_back(panel_of(2, 2, PITCH), &[1, 1, 1, 2, 1, 1, 2, 1]);
+    // The smallest pitch, 3 and 232, and the largest, 39 and 16.
+    there_and_back(panel_of(1, 2, 0x03E8), &[1, 2, 1, 1]);
+    there_and_back(panel_of(2, 1, 0x2710), &[2, 1, 1, 1]);
 }
 
-// A list that is not written: the buffer stays as it was.
-fn not_written(m: u32, n: u32, list: &[u8]) {
-    let mut out = [170u8; 10];
-    show_write(m, n, list, &mut out);
+// A list into a filled buffer of 12 bytes: one that is not written leaves it as it was.
+fn try_write(p: Panel, list: &[u8]) {
+    let mut out = [170u8; 12];
+    show_write(p, list, &mut out);
     show_bytes(&out);
+}
+
+// A list that is not written, for a panel of the usual pitch.
+fn not_written(m: u32, n: u32, list: &[u8]) {
+    try_write(panel_of(m, n, PITCH), list);
 }
 
 fn bad_sides() {
     not_written(0, 5, &[1, 1, 1, 2]);
     not_written(5, 129, &[1, 1, 1, 2]);
-    not_written(5, 4294967295, &[1, 1, 1, 2]);
+    not_written(5, MAX, &[1, 1, 1, 2]);
 }
 
 fn bad_lengths() {
@@ -123,48 +136,118 @@ fn write_refusals() {
     not_written(2, 2, &[1, 1, 2, 2, 3, 3]);
 }
 
-// What Read and Letters say of a file.
+// A list of three cells on a panel of this pitch.
+fn write_pitch(pitch: u32) {
+    try_write(panel_of(5, 1, pitch), &[2, 1, 3, 1, 4, 1]);
+}
+
+// Pitches at the ends of their range and outside it; the last has the two low bytes of 4000.
+fn write_pitches() {
+    text(b"pitches in Write\n");
+    write_pitch(999);
+    write_pitch(1000);
+    write_pitch(10000);
+    write_pitch(10001);
+    write_pitch(0);
+    write_pitch(MAX);
+    write_pitch(69536);
+}
+
+// A bad pitch behind a bad side, then before each fault that is tested after it: 6, 7, 8, 15 and 5.
+fn write_pitch_and_more() {
+    try_write(panel_of(0, 5, 999), &[1, 1, 1, 2]);
+    try_write(panel_of(5, 129, MAX), &[]);
+    try_write(panel_of(2, 2, 999), &[]);
+    try_write(panel_of(2, 2, 10001), &[1, 1, 1, 3]);
+    try_write(panel_of(3, 2, 0), &[1, 1, 3, 1]);
+    try_write(panel_of(2, 2, MAX), &[1, 1]);
+    try_write(panel_of(4, 1, 999), &[1, 1, 2, 1, 3, 1, 4, 1]);
+}
+
+// What Read and Letters say of a file, and the list's buffer after.
 fn try_file(file: &[u8]) {
     let mut list = [85u8; 8];
     show_read(file, &mut list);
     show_letters(file);
+    show_bytes(&list);
 }
 
+// The third file is a record as it was without a pitch, the fourth a record with the mark of those.
 fn bad_marks() {
     try_file(&[]);
     try_file(&[0x46]);
-    try_file(&[0x46, 0x55, 5, 1, 2, 1, 0, 2, 0x45, 0x45]);
-    try_file(&[0x54, 0x46, 5, 1, 2, 1, 0, 2, 0x45, 0x45]);
+    try_file(&[0x46, 0x54, 5, 1, 2, 1, 0, 2, 0x45, 0x45]);
+    try_file(&[0x46, 0x54, 5, 1, 0x0F, 0xA0, 2, 1, 0, 2, 0x45, 0x45]);
+    try_file(&[0x55, 0x46, 5, 1, 0x0F, 0xA0, 2, 1, 0, 2, 0x45, 0x45]);
+}
+
+// Files of 8, 9 and 10 bytes: the last is a whole head, whose step count is then looked at. A head cut
+// short before a bad side.
+fn short_heads() {
+    try_file(&[0x46, 0x55, 5, 1, 0x0F, 0xA0, 2, 1]);
+    try_file(&[0x46, 0x55, 5, 1, 0x0F, 0xA0, 2, 1, 0]);
+    try_file(&[0x46, 0x55, 5, 1, 0x0F, 0xA0, 2, 1, 0, 0]);
+    try_file(&[0x46, 0x55, 0, 1, 0x0F, 0xA0, 2, 1, 0]);
 }
 
 fn bad_heads() {
-    try_file(&[0x46, 0x54, 5, 1, 2, 1, 0]);
-    try_file(&[0x46, 0x54, 0, 1, 2, 1, 0, 2, 0x45, 0x45]);
-    try_file(&[0x46, 0x54, 5, 129, 2, 1, 0, 2, 0x45, 0x45]);
-    try_file(&[0x46, 0x54, 5, 1, 6, 1, 0, 2, 0x45, 0x45]);
-    try_file(&[0x46, 0x54, 5, 1, 2, 0, 0, 2, 0x45, 0x45]);
+    try_file(&[0x46, 0x55, 0, 1, 0x0F, 0xA0, 2, 1, 0, 2, 0x45, 0x45]);
+    try_file(&[0x46, 0x55, 5, 129, 0x0F, 0xA0, 2, 1, 0, 2, 0x45, 0x45]);
+    try_file(&[0x46, 0x55, 5, 1, 0x0F, 0xA0, 6, 1, 0, 2, 0x45, 0x45]);
+    try_file(&[0x46, 0x55, 5, 1, 0x0F, 0xA0, 2, 0, 0, 2, 0x45, 0x45]);
 }
 
 fn bad_step_counts() {
-    try_file(&[0x46, 0x54, 5, 1, 2, 1, 0, 0, 0x45, 0x45]);
-    try_file(&[0x46, 0x54, 2, 1, 1, 1, 0, 2, 0x45, 0x57]);
-    try_file(&[0x46, 0x54, 5, 1, 2, 1, 1, 2, 0x45, 0x45]);
+    try_file(&[0x46, 0x55, 5, 1, 0x0F, 0xA0, 2, 1, 0, 0, 0x45, 0x45]);
+    try_file(&[0x46, 0x55, 2, 1, 0x0F, 0xA0, 1, 1, 0, 2, 0x45, 0x57]);
+    try_file(&[0x46, 0x55, 5, 1, 0x0F, 0xA0, 2, 1, 1, 2, 0x45, 0x45]);
 }
 
 fn bad_letters() {
-    try_file(&[0x46, 0x54, 5, 1, 2, 1, 0, 2, 0x45]);
-    try_file(&[0x46, 0x54, 5, 1, 2, 1, 0, 2, 0x45, 0x58]);
-    try_file(&[0x46, 0x54, 5, 1, 2, 1, 0, 3, 0x4E, 0x45, 0x65]);
-    try_file(&[0x46, 0x54, 5, 1, 2, 1, 0, 2, 0x57, 0x57]);
-    try_file(&[0x46, 0x54, 5, 1, 2, 1, 0, 2, 0x4E, 0x53]);
+    try_file(&[0x46, 0x55, 5, 1, 0x0F, 0xA0, 2, 1, 0, 2, 0x45]);
+    try_file(&[0x46, 0x55, 5, 1, 0x0F, 0xA0, 2, 1, 0, 2, 0x45, 0x58]);
+    try_file(&[0x46, 0x55, 5, 1, 0x0F, 0xA0, 2, 1, 0, 3, 0x4E, 0x45, 0x65]);
+    try_file(&[0x46, 0x55, 5, 1, 0x0F, 0xA0, 2, 1, 0, 2, 0x57, 0x57]);
+    try_file(&[0x46, 0x55, 5, 1, 0x0F, 0xA0, 2, 1, 0, 2, 0x4E, 0x53]);
 }
 
 fn read_refusals() {
     text(b"refusals of Read and Letters\n");
     bad_marks();
+    short_heads();
     bad_heads();
     bad_step_counts();
     bad_letters();
+}
+
+// A record of three cells whose pitch is these two bytes.
+fn read_pitch(high: u8, low: u8) {
+    try_file(&[0x46, 0x55, 5, 1, high, low, 2, 1, 0, 2, 0x45, 0x45]);
+}
+
+// 999, 1000, 10000, 10001, 0 and 65535; then the bytes of 4000 exchanged.
+fn read_pitches() {
+    text(b"pitches in Read and Letters\n");
+    read_pitch(0x03, 0xE7);
+    read_pitch(0x03, 0xE8);
+    read_pitch(0x27, 0x10);
+    read_pitch(0x27, 0x11);
+    read_pitch(0, 0);
+    read_pitch(0xFF, 0xFF);
+    read_pitch(0xA0, 0x0F);
+}
+
+// A bad pitch behind the other mark, a head cut short and a bad side, which are tested before; then
+// before each fault that is tested after it: 2, 15, 17, 16 and 7.
+fn read_pitch_and_more() {
+    try_file(&[0x46, 0x54, 5, 1, 0, 0, 2, 1, 0, 2, 0x45, 0x45]);
+    try_file(&[0x46, 0x55, 5, 1, 0x03, 0xE7, 2, 1, 0]);
+    try_file(&[0x46, 0x55, 0, 1, 0, 0, 2, 1, 0, 2, 0x45, 0x45]);
+    try_file(&[0x46, 0x55, 5, 1, 0x03, 0xE7, 6, 1, 0, 2, 0x45, 0x45]);
+    try_file(&[0x46, 0x55, 5, 1, 0x27, 0x11, 2, 1, 0, 0]);
+    try_file(&[0x46, 0x55, 5, 1, 0, 0, 2, 1, 0, 2, 0x45]);
+    try_file(&[0x46, 0x55, 5, 1, 0xFF, 0xFF, 2, 1, 0, 2, 0x45, 0x58]);
+    try_file(&[0x46, 0x55, 5, 1, 0x03, 0xE7, 2, 1, 0, 2, 0x57, 0x57]);
 }
 
 // Reads into the first k bytes of a buffer.
@@ -183,13 +266,31 @@ fn read_short(file: &[u8], k: usize)
 }
 
 // A buffer that is empty, one that is a byte too short, and one just long enough; bytes after the record.
+// Then an empty buffer behind a bad pitch.
 fn buffers() {
     text(b"buffers\n");
-    let file = [0x46, 0x54, 5, 1, 2, 1, 0, 2, 0x45, 0x45, 0x4E, 0x00];
+    let file = [
+        0x46,
+        0x55,
+        5,
+        1,
+        0x0F,
+        0xA0,
+        2,
+        1,
+        0,
+        2,
+        0x45,
+        0x45,
+        0x4E,
+        0x00,
+    ];
     read_short(&file, 0);
     read_short(&file, 5);
     read_short(&file, 6);
     show_letters(&file);
+    let other = [0x46, 0x55, 5, 1, 0x03, 0xE7, 2, 1, 0, 2, 0x45, 0x45];
+    read_short(&other, 0);
 }
 
 // The number that Read gives for the first n bytes of a file.
@@ -260,9 +361,11 @@ fn changed_bytes() {
     text(b"changed bytes\n");
     let mut file = [
         0x46,
-        0x54,
+        0x55,
         3,
         3,
+        0x0F,
+        0xA0,
         3,
         3,
         0,
@@ -276,7 +379,7 @@ fn changed_bytes() {
         0x4E,
         0x4E,
     ];
-    let mut tally = [0u32; 18];
+    let mut tally = [0u32; 19];
     try_bytes(&mut file, &mut tally);
     row(&tally, b" \n");
 }
@@ -285,7 +388,7 @@ fn changed_bytes() {
 fn write_into(list: &[u8], out: &mut [u8], k: usize)
     requires { ⌜ k ≤ length (now out) ⌝ }
 {
-    show_write(128, 128, list, &mut out[0..k]);
+    show_write(panel_of(128, 128, PITCH), list, &mut out[0..k]);
 }
 
 fn same(a: &[u8], b: &[u8]) -> bool {
@@ -307,9 +410,9 @@ fn largest() {
     text(b"128 by 128\n");
     let mut list = [0u8; 32768];
     snake(&mut list);
-    let mut out = [170u8; 16391];
-    write_into(&list, &mut out, 16390);
-    write_into(&list, &mut out, 16391);
+    let mut out = [170u8; 16393];
+    write_into(&list, &mut out, 16392);
+    write_into(&list, &mut out, 16393);
     let mut back = [85u8; 32768];
     read_into(&out, &mut back, 32767);
     read_into(&out, &mut back, 32768);
@@ -323,9 +426,15 @@ fn largest() {
 fn main() {
     round_trips();
     write_refusals();
+    write_pitches();
+    write_pitch_and_more();
     read_refusals();
+    read_pitches();
+    read_pitch_and_more();
     buffers();
-    prefixes(&[0x46, 0x54, 5, 1, 2, 1, 0, 2, 0x45, 0x45]);
+    prefixes(&[0x46, 0x55, 5, 1, 0x0F, 0xA0, 2, 1, 0, 2, 0x45, 0x45]);
+    // A bad pitch, which is looked at from 10 bytes on.
+    prefixes(&[0x46, 0x55, 5, 1, 0x03, 0xE7, 2, 1, 0, 2, 0x45, 0x45]);
     changed_bytes();
     largest();
 }

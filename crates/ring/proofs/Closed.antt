@@ -1,7 +1,7 @@
 -- A corner track from (1, 1) to a neighbour of it in the whole panel is a longest closed track: its count is mn, or mn − 1 if mn is odd, and a closed
 -- track has an even number of cells, at most mn.
 use Prim.Native.Nat.{ℕ, _+_, _-_, _*_, _/_, _%_, _≤_}
-use mathlib.Core.Path.{_≡_, refl, sym, ap, _∙_, subst}
+use mathlib.Core.Path.{_≡_, sym, ap, _∙_, subst}
 use mathlib.Core.Bool.{cond}
 use mathlib.Core.List.{List, _++_}
 use native.Mathlib.Omega.{arith}
@@ -78,7 +78,7 @@ module _ (p : Panel) (old : List ℕ) (fine : ringCheck p (length old) ≡ check
   pub ready : Ready first (far p) t old
   ready = record {
     corner = record { across = omega arith; down = omega arith };
-    opposite = record { across = omega (arith, g .panel .widest); down = omega (arith, g .panel .highest) };
+    opposite = record { across = omega (arith, g .sides .widest); down = omega (arith, g .sides .highest) };
     inside = inside (Between.up (o .left) (o .right)) (Between.up (o .top) (o .bottom));
     room = omega (arith, count-is, g .room);
   }

@@ -3,7 +3,7 @@ use Prim.Native.Nat.{ℕ, _*_, _≤_}
 use mathlib.Core.Path.{_≡_}
 use lib.Dec.{leb}
 use borrow.Author.Tests.{leb-true}
-use Rattle.grid.specs.Panel.{GoodPanel}
+use Rattle.grid.specs.Panel.{GoodSides}
 use Rattle.grid.specs.declared.Panel.{Panel}
 use Rattle.grid.specs.declared.Refusal.the-variants.{OneWide, ShortBuffer}
 use Rattle.grid.specs.declared.Check.the-variants.{Good}
@@ -13,7 +13,7 @@ use Rattle.grid.proofs.Passed.{expect-passed, expect-rest, after-passed, after-
 use Rattle.ring.specs.Ring.{twoWide, ringCount, ringCheck}
 
 pub record Passed (p : Panel) (size : ℕ) : Type 0 where
-  pub panel : GoodPanel p
+  pub sides : GoodSides p
   pub wide : 2 ≤ p .width
   pub high : 2 ≤ p .height
   pub room : 2 * ringCount p ≤ size
@@ -26,7 +26,7 @@ passed p size e =
     let rest = after-rest (checkPanel p) thin e in
     let two = and-parts (leb 2 (p .width)) (leb 2 (p .height)) (expect-passed (twoWide p) OneWide short rest) in
     record {
-      panel = good-panel p (after-passed (checkPanel p) thin e);
+      sides = good-panel p (after-passed (checkPanel p) thin e) .sides;
       wide = leb-true 2 (p .width) (two .0);
       high = leb-true 2 (p .height) (two .1);
       room = leb-true (2 * ringCount p) size (expect-passed fits ShortBuffer Good (expect-rest (twoWide p) OneWide short rest));

@@ -27,7 +27,7 @@ twoWide p = leb 2 (p .width) && leb 2 (p .height)
 abbrev pub ringCount : Panel → ℕ
 ringCount p = cond (odd (area p)) (area p - 1) (area p)
 
--- 1; 13, a side is 1; 5, the buffer is shorter than 2 bytes for each cell of the count
+-- 1; 18; 13, a side is 1; 5, the buffer is shorter than 2 bytes for each cell of the count
 abbrev pub ringCheck : Panel → ℕ → Check
 ringCheck p size = after (checkPanel p) (expect (twoWide p) OneWide (expect (leb (2 * ringCount p) size) ShortBuffer Good))
 

@@ -7,7 +7,7 @@ use grid::Check;
 use grid::Panel;
 use grid::Refusal;
 ghost use mathlib.Core.Path.{_≡_};
-ghost use Rattle.grid.specs.Panel.{GoodPanel};
+ghost use Rattle.grid.specs.Panel.{GoodSides};
 ghost use Rattle.ring.specs.Ring.{twoWide, ringCount, ringCheck, Rings};
 
 fn two_wide(p: Panel) -> bool
@@ -18,7 +18,7 @@ fn two_wide(p: Panel) -> bool
 
 // mn without its odd cell.
 fn ring_count(p: Panel) -> Cells
-    requires { ⌜ GoodPanel p ⌝ }
+    requires { ⌜ GoodSides p ⌝ }
     ensures { λ r. ⌜ r .0 ≡ ringCount p ⌝ }
 {
     Cells((grid::area_of(p) / 2 * 2) as u32)

@@ -1,5 +1,5 @@
-// Answers Ring for some panels and buffers. A line gives the panel and the buffer's size and, behind the
-// colon, the refusal's number (0: none), the count and the last cell, then what a plain look at all bytes
+// Answers Ring for some panels and buffers. A line gives the sides, the buffer's size and the pitch and, behind
+// the colon, the refusal's number (0: none), the count and the last cell, then what a plain look at all bytes
 // of a larger buffer, filled with 7 before, says: `closed`, the cells are a track from (1, 1) whose last
 // cell is a neighbour of its first, and the bytes behind are 7; a refusal has no cell, and `untouched`, all
 // bytes are 7; else `FAULT`.
@@ -7,6 +7,7 @@ use grid::Cell;
 use grid::Panel;
 use grid::cells_values;
 use grid::panel_of;
+use trial::PITCH;
 use trial::cells::Order;
 use trial::cells::byte_at;
 use trial::cells::filled;
@@ -17,6 +18,9 @@ use trial::print::text;
 
 // What the buffer is filled with.
 const FILL: u8 = 7;
+
+// The largest number of 32 bits.
+const MAX: u32 = 4294967295;
 
 // Whether the first k cells are a closed track from (1, 1), and the bytes behind are as before.
 fn closed(buf: &[u8], p: Panel, last: Cell, k: u32) -> bool {
@@ -57,18 +61,44 @@ fn report(buf: &[u8], p: Panel, number: u32, count: u32) {
 }
 
 // Ring in the first `size` bytes of a buffer that is filled.
-fn answer_in(width: u32, height: u32, size: usize, buf: &mut [u8]) {
+fn answer_in(p: Panel, size: usize, buf: &mut [u8]) {
     if size <= buf.len() {
-        let p = panel_of(width, height);
         let v = cells_values(ring::ring(p, &mut buf[0..size]));
         report(buf, p, v.refusal, v.cells.0);
     }
 }
 
-fn answer(width: u32, height: u32, size: u32) {
+fn answer_at(width: u32, height: u32, size: u32, pitch: u32) {
     let mut buf = [FILL; 40000];
-    row(&[width, height, size], b": ");
-    answer_in(width, height, size as usize, &mut buf);
+    row(&[width, height, size, pitch], b": ");
+    answer_in(panel_of(width, height, pitch), size as usize, &mut buf);
+}
+
+// A panel of the usual pitch.
+fn answer(width: u32, height: u32, size: u32) {
+    answer_at(width, height, size, PITCH);
+}
+
+// Pitches at the ends of their range and outside it.
+fn pitches() {
+    answer_at(4, 3, 24, 999);
+    answer_at(4, 3, 24, 1000);
+    answer_at(4, 3, 24, 10000);
+    answer_at(4, 3, 24, 10001);
+    answer_at(4, 3, 24, 0);
+    answer_at(4, 3, 24, MAX);
+}
+
+// A bad pitch behind a bad side, then before a side of 1 and before a short buffer; then these two with
+// a good pitch.
+fn pitch_and_more() {
+    answer_at(0, 5, 40000, 999);
+    answer_at(129, 1, 0, MAX);
+    answer_at(1, 128, 40000, 999);
+    answer_at(3, 3, 15, 10001);
+    answer_at(1, 1, 0, 0);
+    answer_at(1, 128, 40000, 1000);
+    answer_at(3, 3, 15, 10000);
 }
 
 fn main() {
@@ -91,5 +121,7 @@ fn main() {
     answer(0, 5, 40000);
     answer(5, 0, 0);
     answer(129, 2, 40000);
-    answer(2, 4294967295, 40000);
+    answer(2, MAX, 40000);
+    pitches();
+    pitch_and_more();
 }

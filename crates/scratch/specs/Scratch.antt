@@ -6,7 +6,7 @@ use mathlib.Core.List.{List, _++_}
 use lib.ListN.{length, take, drop, replicate}
 use Rattle.grid.specs.declared.Panel.{Panel}
 use Rattle.grid.specs.declared.Cell.{Cell}
-use Rattle.grid.specs.Panel.{area, goodPanel}
+use Rattle.grid.specs.Panel.{area, goodSides}
 use Rattle.grid.specs.Bytes.{cellsIn}
 use Rattle.list.specs.List.{allOn}
 
@@ -23,8 +23,8 @@ pub record Clean (p : Panel) (s : List ℕ) : Type 0 where
   pub room : area p ≤ length s
   pub zeros : take (area p) s ≡ replicate (area p) 0
 
--- what marking wants: a good panel, a list of cells that are all on it, and clean scratch
+-- what marking wants: a panel with good sides, a list of cells that are all on it, and clean scratch
 pub record Markable (p : Panel) (list s : List ℕ) : Type 0 where
-  pub panel : goodPanel p ≡ true
+  pub sides : goodSides p ≡ true
   pub on : allOn p (cellsIn list) ≡ true
   pub clean : Clean p s

@@ -7,7 +7,7 @@ ghost use mathlib.Core.Path.{_≡_};
 ghost use mathlib.Core.Bool.{true};
 ghost use Prim.Native.Nat.{_≤_};
 ghost use lib.ListN.{length, drop};
-ghost use Rattle.grid.specs.Panel.{goodPanel, area, onPanel};
+ghost use Rattle.grid.specs.Panel.{goodSides, area, onPanel};
 ghost use Rattle.grid.specs.Bytes.{cellsIn};
 ghost use Rattle.list.specs.List.{noneTwice};
 ghost use Rattle.scratch.specs.Scratch.{place, cleared, Markable};
@@ -15,7 +15,7 @@ ghost use Rattle.scratch.specs.Scratch.{place, cleared, Markable};
 // The place of a cell of the panel.
 pub fn place_of(p: Panel, c: Cell) -> usize
     requires on { ⌜ onPanel p c ≡ true ⌝ }
-    requires good { ⌜ goodPanel p ≡ true ⌝ }
+    requires good { ⌜ goodSides p ≡ true ⌝ }
     ensures { λ r. ⌜ r ≡ place p c ⌝ }
 {
     (c.y as usize - 1) * (p.width as usize) + (c.x as usize - 1)

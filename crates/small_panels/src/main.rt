@@ -6,6 +6,7 @@ use grid::Cell;
 use grid::Panel;
 use grid::cells_values;
 use grid::panel_of;
+use trial::PITCH;
 use trial::cells::Order;
 use trial::cells::is_track;
 use trial::cells::same;
@@ -186,7 +187,7 @@ fn all_panels() -> Totals {
     };
     for code in 0..25 {
         let far = nth(code);
-        t = add_entries(t, panel_of(far.x, far.y));
+        t = add_entries(t, panel_of(far.x, far.y, PITCH));
     }
     t
 }

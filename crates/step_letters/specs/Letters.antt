@@ -7,7 +7,7 @@ use lib.Dec.{ltb, eqb}
 use Rattle.grid.specs.declared.Panel.{Panel}
 use Rattle.grid.specs.declared.Cell.{Cell}
 use Rattle.grid.specs.declared.Refusal.the-variants.{UnknownByte}
-use Rattle.grid.specs.Panel.{panel, maxSide, cell}
+use Rattle.grid.specs.Panel.{panel, maxSide, maxPitch, cell}
 use Rattle.step_letters.specs.declared.Stepped.{Stepped}
 use Rattle.step_letters.specs.declared.Stepped.the-variants.{Refused, To}
 
@@ -77,9 +77,9 @@ walkOn c (b ∷ l) = stepped c b ∷ walkOn (stepped c b) l
 abbrev pub walkFrom : Cell → List ℕ → List Cell
 walkFrom c l = c ∷ walkOn c l
 
--- the largest panel: a byte holds each side, and each coordinate of its cells
+-- the largest panel, whose cells are asked for and nothing else: a byte holds each side, and each coordinate of its cells
 abbrev pub largestPanel : Panel
-largestPanel = panel maxSide maxSide
+largestPanel = panel maxSide maxSide maxPitch
 
 -- a buffer with the letters of a list of cells from a byte on, the other bytes as they were
 abbrev pub withLetters : ℕ → List Cell → List ℕ → List ℕ

@@ -5,22 +5,20 @@ use mathlib.Core.Bool.{Bool, true, false}
 use mathlib.Core.List.{List, [], _∷_, _++_, map, reverse, reverse-append}
 use native.Mathlib.Omega.{arith}
 use lib.ListN.{length, drop}
-use Rattle.grid.specs.declared.Panel.{Panel}
 use Rattle.grid.specs.declared.Cell.{Cell}
-use Rattle.grid.specs.Panel.{OnPanel, dist, apart}
+use Rattle.grid.specs.Panel.{panel, OnPanel, dist, apart}
 use Rattle.grid.specs.Track.{Track}
 use Rattle.grid.specs.Bytes.{bytes}
 use Rattle.grid.proofs.Facts.{cell-eq}
 use Rattle.grid.proofs.Track.{backwards}
 use Rattle.grid.proofs.Moves.{Move, moved, turning}
 use Rattle.line.specs.Line.{line}
-use Rattle.line.specs.Drawn.{Drawn}
 use Rattle.line.proofs.Line.{line-more, length-line}
 use Rattle.count.specs.Count.{count}
 use Rattle.table.specs.declared.Placing.{Placing}
-use Rattle.table.specs.Order.{ReadyOrder, ThreeByThree}
+use Rattle.table.specs.Order.{ReadyOrder, OrderDrawn}
 use Rattle.table.specs.Table.{rowSize, rowCell, turnIf, mirror, mirrorCell, place, position, placedCell, placing, UpToFour}
-use Rattle.table.proofs.Sides.{three, on-three, three-count, three-drawn}
+use Rattle.table.proofs.Sides.{three, drawn-same}
 use Rattle.table.proofs.Rows.{row-track, row-some, row-most, row-x, row-y, Found, found}
 
 abbrev On : Cell → Type 0
@@ -128,7 +126,7 @@ module _ {s t : Cell} {p : Placing} (f : Found s t p) where
 
   module _ {n : ℕ} (e : n ≡ rowSize (p .row)) where
     pub placed-drawn : {old new : List ℕ} → new ≡ bytes (line (placedCell p) n) ++ drop (2 * n) old
-        → Drawn (OnPanel three) s t (count three s t) old new
+        → OrderDrawn three s t old new
     placed-drawn {old} w =
         let q : n ≡ count three s t = e ∙ f .size in
         record {
@@ -140,19 +138,20 @@ module _ {s t : Cell} {p : Placing} (f : Found s t p) where
 
 -- ---- as the code has it
 
-module _ {p : Panel} {s t : Cell} {buf : List ℕ} (h : ThreeByThree p) (o : ReadyOrder p s t buf) where
+module _ {s t : Cell} {buf : List ℕ} (o : (q : ℕ) → ReadyOrder (panel 3 3 q) s t buf) where
   module _ {q : Placing} (e : q ≡ placing s t) where
     pub found-here : Found s t q
-    found-here = subst (λ (q : Placing). Found s t q) (sym e) (found s t (on-three h (o .entry)) (on-three h (o .exit)) (o .differ))
+    found-here = subst (λ (q : Placing). Found s t q) (sym e) (found s t (o 4000 .entry) (o 4000 .exit) (o 4000 .differ))
 
     module _ {n : ℕ} (g : n ≡ rowSize (q .row)) where
       pub row-fits : (n ≤ 9) × (2 * n ≤ length buf)
       row-fits =
           let f = found-here in
-          (omega (arith, row-most (q .row) (f .row)), omega (arith, f .size, o .room, three-count h s t))
+          (omega (arith, row-most (q .row) (f .row)), omega (arith, f .size, o 4000 .room))
 
-      pub drawn-here : {new : List ℕ} → new ≡ bytes (line (placedCell q) n) ++ drop (2 * n) buf → Drawn (OnPanel p) s t (count p s t) buf new
-      drawn-here w = three-drawn h (placed-drawn found-here g w)
+      pub drawn-here : {new : List ℕ} → new ≡ bytes (line (placedCell q) n) ++ drop (2 * n) buf
+          → (pitch : ℕ) → OrderDrawn (panel 3 3 pitch) s t buf new
+      drawn-here w pitch = drawn-same 3 3 4000 pitch (placed-drawn found-here g w)
 
 -- mirrored and turned cells stay small
 mirror-small : (on : Bool) (a : ℕ) → a ≤ 4 → mirror on a ≤ 4

@@ -1,18 +1,15 @@
 // The 3 by 3 panel: its longest tracks stand in a table, and a row of it is placed on the panel for
 // two terminals.
 use grid::Cell;
-use grid::Panel;
 use grid::turn_cell;
 ghost use mathlib.Core.Path.{_≡_};
 ghost use mathlib.Core.List.{_++_};
-ghost use Prim.Native.Nat.{_≤_, _<_, _*_};
+ghost use Prim.Native.Nat.{ℕ, _≤_, _<_, _*_};
 ghost use lib.ListN.{length, drop};
-ghost use Rattle.grid.specs.Panel.{OnPanel};
+ghost use Rattle.grid.specs.Panel.{panel};
 ghost use Rattle.grid.specs.Bytes.{bytes};
 ghost use Rattle.line.specs.Line.{line};
-ghost use Rattle.line.specs.Drawn.{Drawn};
-ghost use Rattle.count.specs.Count.{count};
-ghost use Rattle.table.specs.Order.{ReadyOrder, ThreeByThree};
+ghost use Rattle.table.specs.Order.{ReadyOrder, OrderDrawn};
 ghost use Rattle.table.specs.Table.{entryAt, rowSize, rowCell, turnIf, mirror, mirrorCell, place, position, placedCell};
 ghost use Rattle.table.specs.Table.{UpToFour, twos, toMirror, toTurn, rowOf, placingFrom, placing};
 
@@ -201,11 +198,10 @@ fn write_row(p: Placing, n: usize, buf: &mut [u8])
     }
 }
 
-// Draws a longest track of a panel of 3 by 3.
-pub fn draw_small(p: Panel, s: Cell, t: Cell, buf: &mut [u8])
-    requires { ⌜ ThreeByThree p ⌝ }
-    requires { ⌜ ReadyOrder p s t (now buf) ⌝ }
-    ensures { λ _. ⌜ Drawn (OnPanel p) s t (count p s t) (now (buf .entry)) (now (buf .exit)) ⌝ }
+// Draws a longest track of 3 by 3 cells, which serves every pitch.
+pub fn draw_small(s: Cell, t: Cell, buf: &mut [u8])
+    requires { ⌜ ((pitch : ℕ) → ReadyOrder (panel 3 3 pitch) s t (now buf)) ⌝ }
+    ensures { λ _. ⌜ ((pitch : ℕ) → OrderDrawn (panel 3 3 pitch) s t (now (buf .entry)) (now (buf .exit))) ⌝ }
 {
     let placed = placing_of(s, t);
     let row = placed.row;

@@ -2,3 +2,6 @@
 // here are proved safe and ending, and promise nothing.
 pub mod cells;
 pub mod print;
+
+// The usual pitch, in micrometres: for panels whose pitch does not matter.
+pub const PITCH: u32 = 4000;

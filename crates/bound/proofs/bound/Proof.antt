@@ -26,7 +26,7 @@ passed : (c : tie.After-enum-told) → let a = c .before .before .before .args i
 passed c = sym (c .before .before .check-order .ensures) ∙ c .enum-told .given .1
 
 class-count-requires : tie.Need-class-count-requires
-class-count-requires c κs = let g = good-order _ _ _ (passed c) in (g .panel, (g .entry, g .exit))
+class-count-requires c κs = let g = good-order _ _ _ (passed c) in (g .panel .sides, (g .entry, g .exit))
 
 returns-2 : tie.Need-returns-2
 returns-2 c = bounds-order _ _ _ (answer-good _ _ (passed (c .before)) (ap Given (c .class-count .ensures)))

@@ -11,7 +11,7 @@ area-of-requires : tie.Need-area-of-requires
 area-of-requires c κs = search needs
 
 cast-area : tie.Need-cast-area
-cast-area c = let h = area-small (c .before .pre .panel) in search needs
+cast-area c = let h = area-small (c .before .pre .sides) in search needs
 
 add-blacks : tie.Need-add-blacks
 add-blacks c = search needs

@@ -58,7 +58,7 @@ area-of-requires : tie.Need-area-of-requires
 area-of-requires c κs = search needs
 
 cast-t13 : tie.Need-cast-t13
-cast-t13 c = let h = area-small (start (c .before .before) .pre .0 .panel) in search needs
+cast-t13 c = let h = area-small (start (c .before .before) .pre .0 .sides) in search needs
 
 sub-t14 : tie.Need-sub-t14
 sub-t14 c =

@@ -4,7 +4,7 @@ use native.Mathlib.Omega.{arith}
 use mathlib.Core.Path.{_≡_, _∙_, subst⁻¹, sym, subst₂}
 use Rattle.grid.specs.declared.Panel.{Panel}
 use Rattle.grid.specs.declared.Cell.{Cell}
-use Rattle.grid.specs.Panel.{turned, turnedCell, GoodPanel}
+use Rattle.grid.specs.Panel.{turned, turnedCell, GoodSides}
 use Rattle.grid.proofs.Moves.{turn-on}
 use Rattle.grid.proofs.Tests.{cond-yes, cond-no}
 use Rattle.count.specs.Count.{named, classCount}
@@ -13,13 +13,13 @@ use borrow.Author.Needs.{needs}
 use Rattle.class.proofs.line_by_line.Statement.{statement}
 use Rattle.class.proofs.line_by_line.Tie as tie
 
-good-turned : {p : Panel} → GoodPanel p → GoodPanel (turned p)
+good-turned : {p : Panel} → GoodSides p → GoodSides (turned p)
 good-turned g = record { wide = g .high; widest = g .highest; high = g .wide; highest = g .widest }
 
 placed-turned : {p q : Panel} {s t u v : Cell} → q ≡ turned p → u ≡ turnedCell s → v ≡ turnedCell t → Placed p s t → Placed q u v
 placed-turned {v = v} e f h g =
     subst₂ (λ (p : Panel) (s : Cell). Placed p s v) (sym e) (sym f)
-    (subst⁻¹ (Placed _ _) h (record { panel = good-turned (g .panel); entry = turn-on (g .entry); exit = turn-on (g .exit) }))
+    (subst⁻¹ (Placed _ _) h (record { sides = good-turned (g .sides); entry = turn-on (g .entry); exit = turn-on (g .exit) }))
 
 abbrev start : tie.After-turn-cell2 → tie.Start
 start c = c .before .before .before .before .before

@@ -18,7 +18,7 @@ chosen : {p : Panel} {a b left right : Cell} → left ≡ a → right ≡ b → 
 chosen {p} e f g h = subst₂ (λ (l r : Cell). Placed p l r × (l .x ≤ r .x)) (sym e) (sym f) (g, h)
 
 exchanged : {p : Panel} {s t : Cell} → Placed p s t → Placed p t s
-exchanged g = record { panel = g .panel; entry = g .exit; exit = g .entry }
+exchanged g = record { sides = g .sides; entry = g .exit; exit = g .entry }
 
 decide-requires : tie.Need-decide-requires
 decide-requires c κs =

@@ -8,6 +8,7 @@ use Rattle.grid.specs.Check.{checkOrder}
 use Rattle.grid.proofs.Passed.{GoodOrder, good-order}
 use Rattle.count.specs.declared.ClassCount.{ClassCount}
 use Rattle.count.specs.Count.{count}
+use Rattle.draw.proofs.Drawing.{ready-same}
 use Rattle.draw.proofs.Answer.{refused, short, drawn, at-front}
 use Rattle.draw.proofs.draw.Statement.{statement}
 use Rattle.draw.proofs.draw.Tie as tie
@@ -37,7 +38,7 @@ enum-told : tie.Need-enum-told
 enum-told c = search needs
 
 class-count-requires : tie.Need-class-count-requires
-class-count-requires c κs = let g = good c in (g .panel, (g .entry, g .exit))
+class-count-requires c κs = let g = good c in (g .panel .sides, (g .entry, g .exit))
 
 cast-if1 : tie.Need-cast-if1
 cast-if1 c = search needs
@@ -61,13 +62,13 @@ draw-longest-requires c κs =
     let g = good (found .before) in
     let e = counted found in
     let h = c .before .if1 .left in
-    record { panel = g .panel; entry = g .entry; exit = g .exit; differ = g .differ; room = omega arith }
+    ready-same record { sides = g .panel .sides; entry = g .entry; exit = g .exit; differ = g .differ; room = omega arith }
 
 same-length : tie.Need-same-length
 same-length c = search needs
 
 returns-3 : tie.Need-returns-3
-returns-3 c = record { gives = drawn _ _ _ _ (cc) (cc) (omega arith); leaves = at-front (cc) (cc) (search needs) }
+returns-3 c = record { gives = drawn _ _ _ _ (cc) (cc) (omega arith); leaves = at-front (cc) (cc) (c .before .before .draw-longest .ensures _) }
 
 pub draw-spec : {M : Type 1} → statement M
 draw-spec =

@@ -25,7 +25,7 @@ passed : (c : tie.After-enum-told) → let a = c .before .before .before .args i
 passed c = sym (c .before .before .check-entry .ensures) ∙ c .enum-told .given .1
 
 in-panel-requires : tie.Need-in-panel-requires
-in-panel-requires c κs = good-entry _ _ (passed c)
+in-panel-requires c κs = let (g, o) = good-entry _ _ (passed c) in (g .sides, o)
 
 enum-known-found : tie.Need-enum-known-found
 enum-known-found c = search needs

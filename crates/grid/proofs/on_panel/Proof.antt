@@ -5,17 +5,17 @@ use Rattle.grid.proofs.Tests.{and-yes, and-no}
 use Rattle.grid.proofs.on_panel.Statement.{statement}
 use Rattle.grid.proofs.on_panel.Tie as tie
 
-up-to-requires : tie.Need-up-to-requires
-up-to-requires c κs = search needs
+between-requires : tie.Need-between-requires
+between-requires c κs = search needs
 
-up-to-requires-2 : tie.Need-up-to-requires-2
-up-to-requires-2 c κs = search needs
+between-requires-2 : tie.Need-between-requires-2
+between-requires-2 c κs = search needs
 
 returns : tie.Need-returns
-returns c = and-yes _ (sym (c .before .before .up-to .ensures) ∙ c .before .if1 .taken) (c .up-to2 .ensures)
+returns c = and-yes _ (sym (c .before .before .between .ensures) ∙ c .before .if1 .taken) (c .between2 .ensures)
 
 returns-2 : tie.Need-returns-2
-returns-2 c = and-no _ (sym (c .before .up-to .ensures) ∙ c .if1 .left)
+returns-2 c = and-no _ (sym (c .before .between .ensures) ∙ c .if1 .left)
 
 pub on-panel-spec : {M : Type 1} → statement M
-on-panel-spec = tie.close (tie.spec up-to-requires up-to-requires-2 returns returns-2)
+on-panel-spec = tie.close (tie.spec between-requires between-requires-2 returns returns-2)

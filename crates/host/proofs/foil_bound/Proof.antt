@@ -13,9 +13,9 @@ use Rattle.host.proofs.Answers.{class-fits, count-fits, order-small}
 use Rattle.host.proofs.foil_bound.Statement.{statement}
 use Rattle.host.proofs.foil_bound.Tie as tie
 
--- Bound's promise of the order's six numbers
+-- Bound's promise of the order's seven numbers
 bounded : (c : tie.After-bound) → let a = c .before .before .args in
-    Bounds (panel (a .m) (a .n)) (cell (a .sx) (a .sy)) (cell (a .tx) (a .ty)) (c .bound .result)
+    Bounds (panel (a .m) (a .n) (a .pitch)) (cell (a .sx) (a .sy)) (cell (a .tx) (a .ty)) (c .bound .result)
 bounded c = subst (λ (o : Order). Bounds (o .panel) (o .entry) (o .exit) (c .bound .result)) (c .before .order-of .ensures) (c .bound .ensures)
 
 order-of-requires : tie.Need-order-of-requires
@@ -30,7 +30,7 @@ bound-values-requires c κs = search needs
 pack-requires : tie.Need-pack-requires
 pack-requires c κs =
     let a = c .before .before .before .args in
-    let p = panel (a .m) (a .n) in
+    let p = panel (a .m) (a .n) (a .pitch) in
     let s = cell (a .sx) (a .sy) in
     let t = cell (a .tx) (a .ty) in
     let b = bounded (c .before) in

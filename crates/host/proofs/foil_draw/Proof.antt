@@ -10,9 +10,9 @@ use Rattle.host.proofs.Answers.{draw-small, cells-fit, cells-packed}
 use Rattle.host.proofs.foil_draw.Statement.{statement}
 use Rattle.host.proofs.foil_draw.Tie as tie
 
--- Draw's promise of the order's six numbers
+-- Draw's promise of the order's seven numbers
 drawn : (c : tie.After-draw) → let a = c .before .before .before .before .args in
-    Draws (panel (a .m) (a .n)) (cell (a .sx) (a .sy)) (cell (a .tx) (a .ty)) (a .buffer .now) (c .draw .last .1 .1 .1 .0) (c .draw .result)
+    Draws (panel (a .m) (a .n) (a .pitch)) (cell (a .sx) (a .sy)) (cell (a .tx) (a .ty)) (a .buffer .now) (c .draw .last .1 .1 .1 .0) (c .draw .result)
 drawn c =
     let old = c .before .before .before .before .args .buffer .now in
     subst (λ (o : Order). Draws (o .panel) (o .entry) (o .exit) old (c .draw .last .1 .1 .1 .0) (c .draw .result))
@@ -40,7 +40,7 @@ returns c =
     record {
       packs = cells-packed (d .gives) (c .pack-cells .ensures);
       leaves =
-          subst (λ (r : CellsAnswer). Leaves (panel (a .m) (a .n)) (cell (a .sx) (a .sy)) (cell (a .tx) (a .ty)) (a .buffer .now) new r)
+          subst (λ (r : CellsAnswer). Leaves (panel (a .m) (a .n) (a .pitch)) (cell (a .sx) (a .sy)) (cell (a .tx) (a .ty)) (a .buffer .now) new r)
           (d .gives .answers) (d .leaves);
     }
 

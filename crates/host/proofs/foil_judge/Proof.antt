@@ -9,9 +9,9 @@ use Rattle.host.proofs.Answers.{judge-small, cells-fit, cells-packed}
 use Rattle.host.proofs.foil_judge.Statement.{statement}
 use Rattle.host.proofs.foil_judge.Tie as tie
 
--- Judge's promise of the order's six numbers
+-- Judge's promise of the order's seven numbers
 judged : (c : tie.After-judge) → let a = c .before .before .before .before .before .args in
-    Judges (panel (a .m) (a .n)) (cell (a .sx) (a .sy)) (cell (a .tx) (a .ty)) (a .list .now) (a .scratch .now)
+    Judges (panel (a .m) (a .n) (a .pitch)) (cell (a .sx) (a .sy)) (cell (a .tx) (a .ty)) (a .list .now) (a .scratch .now)
     (c .judge .last .1 .1 .1 .1 .0) (c .judge .result)
 judged c =
     let a = c .before .before .before .before .before .args in
@@ -28,7 +28,7 @@ pack-cells-requires : tie.Need-pack-cells-requires
 pack-cells-requires c κs =
     let j = c .before .before in
     let a = j .before .before .before .before .before .args in
-    let small = judge-small (panel (a .m) (a .n)) (cell (a .sx) (a .sy)) (cell (a .tx) (a .ty)) (a .list .now) (length (a .scratch .now)) in
+    let small = judge-small (panel (a .m) (a .n) (a .pitch)) (cell (a .sx) (a .sy)) (cell (a .tx) (a .ty)) (a .list .now) (length (a .scratch .now)) in
     cells-fit (judged j .gives) small
 
 same-length : tie.Need-same-length

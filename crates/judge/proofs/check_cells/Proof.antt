@@ -46,7 +46,7 @@ all-once-requires c κs =
     let w = c .before .before .before in
     let s = begin w in
     let (on, next) = walk-good (s .args .p) (cellsIn (s .args .list .now)) (walks (c .before)) in
-    record { panel = s .pre .0; on = on; clean = clean _ _ (s .pre .1 .1) (cleared-at w .clear .ensures) }
+    record { sides = s .pre .0; on = on; clean = clean _ _ (s .pre .1 .1) (cleared-at w .clear .ensures) }
 
 same-length-2 : tie.Need-same-length-2
 same-length-2 c = search needs

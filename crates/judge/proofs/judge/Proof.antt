@@ -6,7 +6,7 @@ use lib.ListN.{length}
 use Rattle.grid.specs.declared.Check.{Check}
 use Rattle.grid.specs.declared.Check.the-variants.{Good}
 use Rattle.grid.specs.Bytes.{cellsIn}
-use Rattle.grid.proofs.Facts.{is-good, area-small}
+use Rattle.grid.proofs.Facts.{is-sides, area-small}
 use Rattle.list.proofs.Cells.{length-cells}
 use Rattle.judge.specs.Judge.{sizesCheck, cellsCheck}
 use Rattle.judge.proofs.Checks.{Sized, sized, few, sizes-refused, cells-refused, all-good}
@@ -51,7 +51,7 @@ enum-told c = search needs
 check-cells-requires : tie.Need-check-cells-requires
 check-cells-requires c κs =
     let z = sized-at (begin (c .before)) (sizes-good (c .before)) in
-    (is-good (z .ordered .panel), (z .whole, z .enough))
+    (is-sides (z .ordered .panel .sides), (z .whole, z .enough))
 
 enum-known-cells : tie.Need-enum-known-cells
 enum-known-cells c = search needs
@@ -73,7 +73,7 @@ cast-k c =
     let s = begin (d .before .before) in
     let z = sized-at s (sizes-good (d .before .before)) in
     let k = few (s .args .p) (s .args .entry) (s .args .exit) (cellsIn (s .args .list .now)) (cells-told d (c .enum-told2 .given .1)) in
-    record { fits = omega (arith, k, area-small (z .ordered .panel), length-cells (s .args .list .now)) }
+    record { fits = omega (arith, k, area-small (z .ordered .panel .sides), length-cells (s .args .list .now)) }
 
 same-length-2 : tie.Need-same-length-2
 same-length-2 c = search needs

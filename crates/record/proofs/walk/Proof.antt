@@ -82,7 +82,7 @@ returns : tie.Need-returns Inv-loop μ-loop
 returns c =
     let call = c .before .before in
     let in-loop = call .before .before in
-    off in-loop refl (refused-off _ (in-loop .before .loop .at) _ (sym (call .step-by .ensures) ∙ c .enum-told .given .1))
+    off in-loop refl (refused-off (P (in-loop .before)) (in-loop .before .loop .at) _ (sym (call .step-by .ensures) ∙ c .enum-told .given .1))
 
 on-panel-requires : tie.Need-on-panel-requires Inv-loop μ-loop
 on-panel-requires c κs = search needs

@@ -46,7 +46,7 @@ good : (c : tie.After-enum-told) → GoodList (P c) (cellsIn (L c))
 good c = list-good (P c) (L c) (passed c)
 
 few : (c : tie.After-enum-told) → length (cellsIn (L c)) ≤ 16384
-few c = omega (arith, good c .few, area-small (is-good-panel (P c) (good c .panel)))
+few c = omega (arith, good c .few, area-small (is-good-panel (P c) (good c .panel) .sides))
 
 -- the steps are those of the list
 counted : (c : tie.After-steps-of) → c .steps-of .result .0 ≡ stepsOf (cellsIn (L (c .before)))

@@ -1,8 +1,9 @@
 -- Each test that passes leaves the tests behind it: a lemma at each place says so, and each `return` gives the first that fails.
 use borrow.Author.Needs.{needs}
-use borrow.Author.Tests.{not-true, not-false, le-leb, lt-leb}
+use borrow.Author.Tests.{not-true, not-false, le-leb, lt-leb, leb-true}
 use Prim.Native.Nat.{ℕ, _+_}
 use mathlib.Core.Path.{_≡_, refl, sym, ap, _∙_}
+use mathlib.Core.Bool.{true}
 use mathlib.Core.List.{List}
 use lib.ListN.{length}
 use lib.Dec.{leb}
@@ -13,7 +14,7 @@ use Rattle.grid.specs.declared.Refusal.the-variants.{Mark, CutShort, StepCount}
 use Rattle.grid.specs.Check.{checkEntry, expect, after}
 use Rattle.record_head.specs.declared.Head.{Head}
 use Rattle.record_head.specs.Head.{headLength}
-use Rattle.record_head.specs.Head.{hasMark, panelIn, entryIn, stepsIn, goodSteps}
+use Rattle.record_head.specs.Head.{hasMark, hasHead, panelIn, entryIn, stepsIn, goodSteps}
 use Rattle.record_head.proofs.check_head.Statement.{statement}
 use Rattle.record_head.proofs.check_head.Tie as tie
 
@@ -22,7 +23,7 @@ abbrev atMark : List ℕ → Check → Check
 atMark f k = expect (hasMark f) Mark k
 
 abbrev atLength : List ℕ → Check → Check
-atLength f k = atMark f (expect (leb headLength (length f)) CutShort k)
+atLength f k = atMark f (expect (hasHead f) CutShort k)
 
 abbrev atEntry : List ℕ → Check → Check
 atEntry f k = atLength f (after (checkEntry (panelIn f) (entryIn f)) k)
@@ -36,11 +37,14 @@ F c = now (c .before .before .before .args .file)
 marked : (c : tie.Else1) (k : Check) {z : Check} → z ≡ k → z ≡ atMark (F c) k
 marked c k = expect-yes _ k (sym (c .before .has-mark .ensures) ∙ not-false _ (c .if1 .left))
 
-long : (c : tie.Else2) (k : Check) {z : Check} → z ≡ k → z ≡ atLength (F (c .before)) k
-long c k e = marked (c .before) _ (expect-yes _ k (le-leb _ _ (c .if2 .left)) e)
+headed : (c : tie.Else2) → hasHead (F (c .before .before)) ≡ true
+headed c = sym (c .before .has-head .ensures) ∙ not-false _ (c .if2 .left)
+
+long : (c : tie.Else2) (k : Check) {z : Check} → z ≡ k → z ≡ atLength (F (c .before .before)) k
+long c k e = marked (c .before .before) _ (expect-yes _ k (headed c) e)
 
 -- what the head says of panel and entry
-entered : (c : tie.After-check-entry) → let f = F (c .before .before .before .before .before .before) in
+entered : (c : tie.After-check-entry) → let f = F (c .before .before .before .before .before .before .before) in
     checkEntry (panelIn f) (entryIn f) ≡ c .check-entry .result
 entered c =
     sym (c .check-entry .ensures ∙ ap (λ (h : Head). checkEntry (h .panel) (h .entry)) (c .before .before .before .before .head-in .ensures))
@@ -49,7 +53,7 @@ abbrev at-head : tie.After-enum-told → tie.After-head-in
 at-head c = c .before .before .before .before .before .before
 
 abbrev G : tie.After-enum-told → List ℕ
-G c = F (at-head c .before .before)
+G c = F (at-head c .before .before .before)
 
 entry-on : (c : tie.After-enum-told) (k : Check) {z : Check} → z ≡ k → z ≡ atEntry (G c) k
 entry-on c k e = long (at-head c .before) _ (after-good k (entered (c .before .before) ∙ c .enum-told .given .1) e)
@@ -73,10 +77,13 @@ returns : tie.Need-returns
 returns c = expect-no _ _ (sym (c .before .has-mark .ensures) ∙ not-true _ (c .if1 .taken))
 
 returns-2 : tie.Need-returns-2
-returns-2 c = marked (c .before) _ (expect-no _ _ (lt-leb _ _ (c .if2 .taken)))
+returns-2 c = marked (c .before .before) _ (expect-no _ _ (sym (c .before .has-head .ensures) ∙ not-true _ (c .if2 .taken)))
+
+has-head-requires : tie.Need-has-head-requires
+has-head-requires c κs = search needs
 
 head-in-requires : tie.Need-head-in-requires
-head-in-requires c κs = search needs
+head-in-requires c κs = leb-true _ _ (headed c)
 
 check-entry-requires : tie.Need-check-entry-requires
 check-entry-requires c κs = search needs
@@ -120,6 +127,7 @@ check-head-spec =
     (tie.spec
     has-mark-requires
     returns
+    has-head-requires
     returns-2
     head-in-requires
     check-entry-requires

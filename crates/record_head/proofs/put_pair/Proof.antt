@@ -15,9 +15,6 @@ slice-write-out c = omega arith
 cast-out-2 : tie.Need-cast-out-2
 cast-out-2 c = omega arith
 
-add-out : tie.Need-add-out
-add-out c = omega arith
-
 slice-write-out-2 : tie.Need-slice-write-out-2
 slice-write-out-2 c = simp length-set (omega arith)
 
@@ -30,4 +27,4 @@ returns c = refl
 pub put-pair-spec : {M : Type 1} → statement M
 put-pair-spec =
     tie.close
-    (tie.spec cast-out slice-write-out cast-out-2 add-out slice-write-out-2 same-length returns)
+    (tie.spec cast-out slice-write-out cast-out-2 slice-write-out-2 same-length returns)

@@ -50,7 +50,7 @@ returns-2 : tie.Need-returns-2
 returns-2 c = after-good _ (panel-good (c .before .before)) (expect-no _ _ (sym (c .before .two-wide .ensures) ∙ not-true _ (c .if1 .taken)))
 
 ring-count-requires : tie.Need-ring-count-requires
-ring-count-requires c κs = good-panel _ (panel-good (c .before .before))
+ring-count-requires c κs = good-panel _ (panel-good (c .before .before)) .sides
 
 cast-if2 : tie.Need-cast-if2
 cast-if2 c = search needs

@@ -41,10 +41,10 @@ enum-told : tie.Need-enum-told
 enum-told c = search needs
 
 corner-track-requires : tie.Need-corner-track-requires
-corner-track-requires c κs = let g = good (c .before) in ready _ _ (fine (c .before)) _ (search needs) (beside (omega arith))
+corner-track-requires c κs = let g = good (c .before) in ready (P (c .before)) _ (fine (c .before)) _ (search needs) (beside (omega arith))
 
 ring-count-requires : tie.Need-ring-count-requires
-ring-count-requires c κs = good (c .before .before .before .before) .panel
+ring-count-requires c κs = good (c .before .before .before .before) .sides
 
 same-length : tie.Need-same-length
 same-length c = search needs
@@ -53,7 +53,7 @@ returns-2 : tie.Need-returns-2
 returns-2 c =
     let s = c .before .before .before .before .before in
     let g = good s in
-    drawn _ _ (fine s) _ (search needs) (beside (omega arith)) (c .ring-count .ensures) (c .before .before .before .corner-track .ensures .1)
+    drawn (P s) _ (fine s) _ (search needs) (beside (omega arith)) (c .ring-count .ensures) (c .before .before .before .corner-track .ensures .1)
 
 pub ring-spec : {M : Type 1} → statement M
 ring-spec =

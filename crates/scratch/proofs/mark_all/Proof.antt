@@ -48,7 +48,8 @@ cell-at-requires c κs = search needs
 place-of-requires : tie.Need-place-of-requires Inv-loop μ-loop
 place-of-requires c κs =
     let e = here (c .before .before .loop .inv) (c .before .loop-test .taken) in
-    (ap (onPanel _) (c .cell-at .ensures) ∙ e, c .before .before .before .before .before .pre .panel)
+    let s = c .before .before .before .before .before in
+    (ap (onPanel (s .args .p)) (c .cell-at .ensures) ∙ e, s .pre .sides)
 
 slice-read-if1 : tie.Need-slice-read-if1 Inv-loop μ-loop
 slice-read-if1 c = in-scratch (c .before)

@@ -3,7 +3,7 @@ use Prim.Native.Nat.{_<_}
 use native.Mathlib.Omega.{arith}
 use borrow.Author.Needs.{needs}
 use Rattle.grid.specs.Panel.{OnPanel}
-use Rattle.grid.proofs.Facts.{good, area-small, on}
+use Rattle.grid.proofs.Facts.{sides, area-small, on}
 use Rattle.scratch.specs.Scratch.{place}
 use Rattle.scratch.proofs.Places.{place-below}
 use Rattle.scratch.proofs.place_of.Statement.{statement}
@@ -14,7 +14,7 @@ module _ (c : tie.Start) where
   on-it = on _ _ (c .pre .0)
 
   small : place (c .args .p) (c .args .c) < 16384
-  small = omega (arith, place-below on-it, area-small (good (c .args .p) (c .pre .1)))
+  small = omega (arith, place-below on-it, area-small (sides (c .args .p) (c .pre .1)))
 
 cast-result : tie.Need-cast-result
 cast-result c = search needs

@@ -1,14 +1,19 @@
 -- The row that is found has the terminals for its ends, and its cells as they are placed are a longest track.
+use native.Mathlib.Omega.{arith}
 use borrow.Author.Needs.{needs}
 use Rattle.table.proofs.Placed.{found-here, row-fits, drawn-here}
 use Rattle.table.proofs.draw_small.Statement.{statement}
 use Rattle.table.proofs.draw_small.Tie as tie
 
 placing-of-requires : tie.Need-placing-of-requires
-placing-of-requires c κs = search needs
+placing-of-requires c κs =
+    let o = c .before .pre 4000 in
+    let s = o .entry in
+    let t = o .exit in
+    ((omega (arith, s .right), omega (arith, s .bottom)), (omega (arith, t .right), omega (arith, t .bottom)))
 
 entry-requires : tie.Need-entry-requires
-entry-requires c κs = let s = c .before .before in (found-here (s .pre .0) (s .pre .1) (c .placing-of .ensures) .row, search needs)
+entry-requires c κs = let s = c .before .before in (found-here (s .pre) (c .placing-of .ensures) .row, search needs)
 
 cast-n : tie.Need-cast-n
 cast-n c = search needs
@@ -18,8 +23,8 @@ write-row-requires c κs =
     let size = c .before in
     let placed = size .before in
     let s = placed .before .before in
-    let f = found-here (s .pre .0) (s .pre .1) (placed .placing-of .ensures) in
-    (f .row, (size .entry .ensures, row-fits (s .pre .0) (s .pre .1) (placed .placing-of .ensures) (size .entry .ensures)))
+    let f = found-here (s .pre) (placed .placing-of .ensures) in
+    (f .row, (size .entry .ensures, row-fits (s .pre) (placed .placing-of .ensures) (size .entry .ensures)))
 
 same-length : tie.Need-same-length
 same-length c = search needs
@@ -30,7 +35,7 @@ returns c =
     let size = written .before .before in
     let placed = size .before in
     let s = placed .before .before in
-    drawn-here (s .pre .0) (s .pre .1) (placed .placing-of .ensures) (size .entry .ensures) (written .write-row .ensures)
+    drawn-here (s .pre) (placed .placing-of .ensures) (size .entry .ensures) (written .write-row .ensures)
 
 pub draw-small-spec : {M : Type 1} → statement M
 draw-small-spec =

@@ -13,18 +13,18 @@ use Rattle.order.proofs.read.read_line.Statement.{statement}
 use Rattle.order.proofs.read.read_line.Tie as tie
 
 abbrev Inv-loop : tie.InvT-loop
-Inv-loop input first₀ from₀ i₀ first from i = (i ≤ 5) × (length first ≡ 5) × (lineFrom (5 - i) first (drop from input) ≡ lineIn input)
+Inv-loop input first₀ from₀ i₀ first from i = (i ≤ 6) × (length first ≡ 6) × (lineFrom (6 - i) first (drop from input) ≡ lineIn input)
 
 abbrev μ-loop : tie.MeasureT-loop
-μ-loop input first₀ from₀ i₀ first from i = 5 - i
+μ-loop input first₀ from₀ i₀ first from i = 6 - i
 
 abbrev bytes : tie.At-loop Inv-loop μ-loop → List ℕ
 bytes c = now (c .before .before .args .input)
 
 -- behind the loop
-whole : (c : tie.At-loop Inv-loop μ-loop) → 5 ≤ c .loop .i → lineFrom 0 (c .loop .first) (drop (c .loop .from) (bytes c)) ≡ lineIn (bytes c)
+whole : (c : tie.At-loop Inv-loop μ-loop) → 6 ≤ c .loop .i → lineFrom 0 (c .loop .first) (drop (c .loop .from) (bytes c)) ≡ lineIn (bytes c)
 whole c h =
-    let e : 0 ≡ 5 - c .loop .i = omega (arith, h) in
+    let e : 0 ≡ 6 - c .loop .i = omega (arith, h) in
     ap (λ (k : ℕ). lineFrom k (c .loop .first) (drop (c .loop .from) (bytes c))) e ∙ c .loop .inv .2
 
 loop-holds : tie.Need-loop-holds Inv-loop μ-loop
@@ -99,6 +99,9 @@ array-read-t26 c = search needs
 array-read-t30 : tie.Need-array-read-t30 Inv-loop μ-loop
 array-read-t30 c = search needs
 
+array-read-t33 : tie.Need-array-read-t33 Inv-loop μ-loop
+array-read-t33 c = search needs
+
 returns-3 : tie.Need-returns-3 Inv-loop μ-loop
 returns-3 c =
     let f = c .before .before .before .before in
@@ -133,4 +136,5 @@ read-line-spec =
     array-read-t23
     array-read-t26
     array-read-t30
+    array-read-t33
     returns-3)
