@@ -2,7 +2,9 @@
 mod read;
 mod write;
 
+pub use read::bytes_from;
 pub use read::read_field;
+pub use read::text_at;
 pub use write::count_digits;
 pub use write::digit_of;
 pub use write::digits_of;
