@@ -37,13 +37,18 @@ isCentre p a b c = onPanel p c && (eqb (plotX p c) a && eqb (plotY p c) b)
 abbrev pub centred : Panel → ℕ → ℕ → List ℕ → Aim
 centred p a b r = cond (isCentre p a b (plotted p a b)) (cellAnd (plotted p a b) r) nothing
 
--- a line to a cell's centre
+-- a line to a cell's centre: X; a and Y; b and D; the operation
+abbrev pub behindD : Panel → List ℕ → ℕ → ℕ → List ℕ → Aim
+behindD p operation a b l = behindText nothing operation l (centred p a b)
+
+abbrev pub behindY : Panel → List ℕ → ℕ → List ℕ → Aim
+behindY p operation a l = andThen nothing (field (code "D") l) (behindD p operation a)
+
+abbrev pub behindX : Panel → List ℕ → List ℕ → Aim
+behindX p operation l = andThen nothing (field (code "Y") l) (behindY p operation)
+
 abbrev pub lineAt : Panel → List ℕ → List ℕ → Aim
-lineAt p operation l =
-    behindText nothing (ascii "X") l (λ l.
-    andThen nothing (field (code "Y") l) (λ a l.
-    andThen nothing (field (code "D") l) (λ b l.
-    behindText nothing operation l (centred p a b))))
+lineAt p operation l = behindText nothing (ascii "X") l (behindX p operation)
 
 -- the same up to a position of the file
 abbrev pub aimOf : List ℕ → Target → Aim
@@ -60,7 +65,7 @@ pub data Next : Type 0 where
 
 -- bytes that are the last line and nothing else
 abbrev pub isEnd : List ℕ → Bool
-isEnd r = eqb (length r) (length endLine) && begins endLine r
+isEnd r = begins endLine r && eqb (length r) (length endLine)
 
 -- the cell behind b, coming from a, where the direction stays
 abbrev pub ahead : Cell → Cell → Cell

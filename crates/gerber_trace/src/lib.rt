@@ -106,8 +106,8 @@ fn line_at(p: Panel, operation: &[u8], file: &[u8], at: usize) -> Target
 fn is_end(file: &[u8], at: usize) -> bool
     ensures { λ r. ⌜ r ≡ isEnd (drop at (now (file .entry))) ⌝ }
 {
-    if bytes_from(file, at) == 5 {
-        return text_at(b"M02*\n", file, at);
+    if text_at(b"M02*\n", file, at) {
+        return bytes_from(file, at) == 5;
     }
     false
 }
