@@ -71,8 +71,8 @@ fn straight_at(list: &[u8], i: usize) -> bool
 
 // The draw to that cell, unless the direction stays there.
 fn put_turn(p: Panel, list: &[u8], i: usize, scratch: &mut [u8], out: &mut [u8], at: usize) -> usize
-    requires { ⌜ Plottable p (now list) ⌝ }
     requires { ⌜ i + 5 < length (now list) ⌝ }
+    requires { ⌜ (GoodPanel p) × (OnPanel p (cellAt (now list) (i + 2))) ⌝ }
     requires { ⌜ digitRoom ≤ length (now scratch) ⌝ }
     requires { ⌜ at + length (turnLine p (cellAt (now list) i) (cellAt (now list) (i + 2)) (cellAt (now list) (i + 4))) ≤ length (now out) ⌝ }
     ensures { λ r. ⌜ PutThrough (now (scratch .entry)) (now (scratch .exit)) (now (out .entry)) at
@@ -125,8 +125,8 @@ fn line_length(p: Panel, c: Cell) -> usize
 
 // The bytes that `put_turn` puts.
 fn turn_length(p: Panel, list: &[u8], i: usize) -> usize
-    requires { ⌜ Plottable p (now list) ⌝ }
     requires { ⌜ i + 5 < length (now list) ⌝ }
+    requires { ⌜ (GoodPanel p) × (OnPanel p (cellAt (now list) (i + 2))) ⌝ }
     ensures { λ r. ⌜ r ≡ length (turnLine p (cellAt (now (list .entry)) i) (cellAt (now (list .entry)) (i + 2)) (cellAt (now (list .entry)) (i + 4))) ⌝ }
 {
     if straight_at(list, i) {

@@ -1,0 +1,97 @@
+-- The draws from a byte of a list on: the first and the others, or the last and the end; which cells they go to; how long they are.
+use Prim.Native.Nat.{ℕ, _+_, _*_, _-_, _/_, _≤_, _<_}
+use mathlib.Core.Path.{_≡_, sym, ap, ap₂, _∙_}
+use mathlib.Core.Bool.{true}
+use mathlib.Core.List.{List, [], _∷_, _++_}
+use native.Mathlib.Omega.{arith}
+use lib.ListN.{length, drop, length-append, length-drop}
+use Rattle.grid.specs.declared.Panel.{Panel}
+use Rattle.grid.specs.declared.Cell.{Cell}
+use Rattle.grid.specs.Panel.{onPanel, GoodPanel, OnPanel}
+use Rattle.grid.specs.Bytes.{cellsIn}
+use Rattle.grid.proofs.Facts.{on, and-parts}
+use Rattle.list.specs.List.{allOn, cellAt}
+use Rattle.list.proofs.Cells.{cells-next, cells-end, length-cells}
+use Rattle.list.proofs.Turns.{on-turn}
+use Rattle.gerber.specs.Layer.{headOf, move, draw, lineTo, endLine, turnsFrom, drawLines, layerOf}
+use Rattle.gerber_write.specs.Write.{layerBytes, Plottable, turnLine}
+use Rattle.gerber_write.proofs.Lines.{head-length, line-and, line-small, turn-and, draws-small}
+
+-- ---- how they are put together
+
+module _ (p : Panel) (list : List ℕ) where
+  -- the draws behind the cell at byte i, and the last line
+  abbrev pub drawsFrom : ℕ → List ℕ
+  drawsFrom i = drawLines p (turnsFrom (cellAt list i) (cellAt list (i + 2)) (cellsIn (drop (i + 4) list)))
+
+  -- the first of them, unless the direction stays
+  abbrev pub turnAt : ℕ → List ℕ
+  turnAt i = turnLine p (cellAt list i) (cellAt list (i + 2)) (cellAt list (i + 4))
+
+  pub draws-next : (i : ℕ) → i + 5 < length list → turnAt i ++ drawsFrom (i + 2) ≡ drawsFrom i
+  draws-next i h =
+      let four : i + 2 + 2 ≡ i + 4 = omega arith in
+      let six : i + 2 + 4 ≡ i + 4 + 2 = omega arith in
+      let a = cellAt list i in
+      let b = cellAt list (i + 2) in
+      let l = cellsIn (drop (i + 4 + 2) list) in
+      ap₂ (λ (j k : ℕ). turnAt i ++ drawLines p (turnsFrom b (cellAt list j) (cellsIn (drop k list)))) four six
+      ∙ turn-and p a b (cellAt list (i + 4)) l
+      ∙ ap (λ (r : List Cell). drawLines p (turnsFrom a b r)) (sym (cells-next list (i + 4) (omega arith)))
+
+  pub draws-end : (i : ℕ) → length list ≤ i + 5 → lineTo p draw (cellAt list (i + 2)) [] ++ endLine ≡ drawsFrom i
+  draws-end i h =
+      let a = cellAt list i in
+      let b = cellAt list (i + 2) in
+      line-and p draw b endLine ∙ ap (λ (r : List Cell). drawLines p (turnsFrom a b r)) (sym (cells-end list (i + 4) (omega arith)))
+
+  -- the layer: the head, the move to the first cell, and the draws
+  pub layer-is : 4 ≤ length list → headOf p ++ lineTo p move (cellAt list 0) (drawsFrom 0) ≡ layerBytes p list
+  layer-is h = ap (layerOf p) (sym (cells-next list 0 (omega arith) ∙ ap (λ (r : List Cell). cellAt list 0 ∷ r) (cells-next list 2 (omega arith))))
+
+-- ---- where a walk over the list is: at byte i, with two cells of the panel or more from there on
+
+pub record Place (p : Panel) (list : List ℕ) (i : ℕ) : Type 0 where
+  pub on : allOn p (cellsIn (drop i list)) ≡ true
+  pub some : i + 4 ≤ length list
+
+pub place-first : {p : Panel} {list : List ℕ} → Plottable p list → Place p list 0
+place-first q = record { on = q .on; some = q .some }
+
+module _ {p : Panel} {list : List ℕ} {i : ℕ} (w : Place p list i) where
+  -- the cell there, and the next
+  both : (onPanel p (cellAt list i) ≡ true) × (allOn p (cellsIn (drop (i + 2) list)) ≡ true)
+  both = and-parts _ _ (sym (on-turn list i p (omega (arith, w .some))) ∙ w .on)
+
+  second : (onPanel p (cellAt list (i + 2)) ≡ true) × (allOn p (cellsIn (drop (i + 2 + 2) list)) ≡ true)
+  second = and-parts _ _ (sym (on-turn list (i + 2) p (omega (arith, w .some))) ∙ both .1)
+
+  pub here-on : OnPanel p (cellAt list i)
+  here-on = on p _ (both .0)
+
+  pub next-on : OnPanel p (cellAt list (i + 2))
+  next-on = on p _ (second .0)
+
+  pub place-next : i + 5 < length list → Place p list (i + 2)
+  place-next h = record { on = both .1; some = omega arith }
+
+-- ---- how long
+
+-- 49 for the head, 27 for the move and for each draw, and 5
+pub layer-small : {p : Panel} {list : List ℕ} → Plottable p list → length (layerBytes p list) ≤ 442422
+layer-small {p} {list} q =
+    let w = place-first q in
+    let rest = cellsIn (drop 4 list) in
+    omega (
+      arith,
+      q .few,
+      ap length (layer-is p list (q .some)),
+      head-length p,
+      length-append (headOf p) (lineTo p move (cellAt list 0) (drawsFrom p list 0)),
+      ap length (line-and p move (cellAt list 0) (drawsFrom p list 0)),
+      length-append (lineTo p move (cellAt list 0) []) (drawsFrom p list 0),
+      line-small p move (cellAt list 0) (q .panel) (here-on w),
+      draws-small p (q .panel) (cellAt list 0) (cellAt list 2) rest (sym (ap (allOn p) (cells-next list 2 (omega (arith, q .some)))) ∙ both w .1),
+      length-cells (drop 4 list),
+      length-drop 4 list,
+    )
