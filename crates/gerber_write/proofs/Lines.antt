@@ -13,7 +13,7 @@ use Rattle.grid.proofs.Facts.{on, and-left, and-parts}
 use Rattle.list.specs.List.{allOn}
 use Rattle.text.specs.Decimal.{decimal}
 use Rattle.text.specs.Field.{fieldOf}
-use Rattle.text.proofs.Puts.{field-length}
+use Rattle.text.proofs.Puts.{field-and, field-length}
 use Rattle.gerber.specs.Layer.{plotX, plotY, headOf, draw, lineTo, endLine, straight, turnsFrom, drawLines}
 use Rattle.gerber.proofs.Plots.{plot-x-small, plot-y-small}
 use Rattle.gerber_write.specs.Write.{turnLine}
@@ -24,6 +24,10 @@ unfolding headOf
 head-length p = refl
 
 -- ---- one line
+
+-- a number told otherwise, the byte behind it and the rest
+pub field-is : {n m : ℕ} (e : ℕ) (rest : List ℕ) → n ≡ m → fieldOf n e [] ++ rest ≡ fieldOf m e rest
+field-is {n} e rest q = field-and n e rest ∙ ap (λ (k : ℕ). fieldOf k e rest) q
 
 module _ (p : Panel) (operation : List ℕ) (c : Cell) where
   -- a line, and what follows it
