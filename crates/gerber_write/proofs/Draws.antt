@@ -15,7 +15,7 @@ use Rattle.list.proofs.Cells.{cells-next, cells-end, length-cells}
 use Rattle.list.proofs.Turns.{on-turn}
 use Rattle.gerber.specs.Layer.{headOf, move, draw, lineTo, endLine, turnsFrom, drawLines, layerOf}
 use Rattle.gerber_write.specs.Write.{layerBytes, Plottable, turnLine}
-use Rattle.gerber_write.proofs.Lines.{head-length, line-and, line-small, turn-and, draws-small}
+use Rattle.gerber_write.proofs.Lines.{head-length, line-and, line-length, line-small, turn-and, draws-small}
 
 -- ---- how they are put together
 
@@ -77,21 +77,43 @@ module _ {p : Panel} {list : List ℕ} {i : ℕ} (w : Place p list i) where
 
 -- ---- how long
 
--- 49 for the head, 27 for the move and for each draw, and 5
+joined : (t u : List ℕ) {w : List ℕ} → t ++ u ≡ w → length t + length u ≡ length w
+joined t u e = sym (length-append t u) ∙ ap length e
+
+module _ (p : Panel) (list : List ℕ) where
+  -- the head, the first line, which is as long as a draw, and the draws
+  pub layer-length : 4 ≤ length list → 49 + length (lineTo p draw (cellAt list 0) []) + length (drawsFrom p list 0) ≡ length (layerBytes p list)
+  layer-length h =
+      let s = cellAt list 0 in
+      let first = lineTo p move s [] in
+      let draws = drawsFrom p list 0 in
+      omega (
+        arith,
+        joined (headOf p) (lineTo p move s draws) (layer-is p list h),
+        head-length p,
+        joined first draws (line-and p move s draws),
+        line-length p move s,
+        line-length p draw s,
+      )
+
+  module _ (i : ℕ) where
+    pub next-length : i + 5 < length list → length (turnAt p list i) + length (drawsFrom p list (i + 2)) ≡ length (drawsFrom p list i)
+    next-length h = joined (turnAt p list i) (drawsFrom p list (i + 2)) (draws-next p list i h)
+
+    pub end-length : length list ≤ i + 5 → length (lineTo p draw (cellAt list (i + 2)) []) + 5 ≡ length (drawsFrom p list i)
+    end-length h = joined (lineTo p draw (cellAt list (i + 2)) []) endLine (draws-end p list i h)
+
+-- 49 for the head, 27 for the first line and for each draw, and 5
 pub layer-small : {p : Panel} {list : List ℕ} → Plottable p list → length (layerBytes p list) ≤ 442422
 layer-small {p} {list} q =
     let w = place-first q in
-    let rest = cellsIn (drop 4 list) in
+    let behind = sym (ap (allOn p) (cells-next list 2 (omega (arith, q .some)))) ∙ both w .1 in
     omega (
       arith,
       q .few,
-      ap length (layer-is p list (q .some)),
-      head-length p,
-      length-append (headOf p) (lineTo p move (cellAt list 0) (drawsFrom p list 0)),
-      ap length (line-and p move (cellAt list 0) (drawsFrom p list 0)),
-      length-append (lineTo p move (cellAt list 0) []) (drawsFrom p list 0),
-      line-small p move (cellAt list 0) (q .panel) (here-on w),
-      draws-small p (q .panel) (cellAt list 0) (cellAt list 2) rest (sym (ap (allOn p) (cells-next list 2 (omega (arith, q .some)))) ∙ both w .1),
+      layer-length p list (q .some),
+      line-small p draw (cellAt list 0) (q .panel) (here-on w),
+      draws-small p (q .panel) (cellAt list 0) (cellAt list 2) (cellsIn (drop 4 list)) behind,
       length-cells (drop 4 list),
       length-drop 4 list,
     )

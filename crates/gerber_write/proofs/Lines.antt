@@ -10,6 +10,7 @@ use Rattle.grid.specs.declared.Panel.{Panel}
 use Rattle.grid.specs.declared.Cell.{Cell}
 use Rattle.grid.specs.Panel.{onPanel, GoodPanel, OnPanel}
 use Rattle.grid.proofs.Facts.{on, and-left, and-parts}
+use Rattle.grid.proofs.Tests.{cond-yes, cond-no}
 use Rattle.list.specs.List.{allOn}
 use Rattle.text.specs.Decimal.{decimal}
 use Rattle.text.specs.Field.{fieldOf}
@@ -51,6 +52,13 @@ module _ (p : Panel) (operation : List ℕ) (c : Cell) where
       )
 
 -- ---- the draws
+
+module _ (p : Panel) (a b c : Cell) where
+  pub turn-none : straight a b c ≡ true → [] ≡ turnLine p a b c
+  turn-none e = cond-yes _ _ e refl
+
+  pub turn-line : {d : Cell} → straight a b c ≡ false → d ≡ b → lineTo p draw d [] ≡ turnLine p a b c
+  turn-line e q = cond-no _ _ e (ap (λ (d : Cell). lineTo p draw d []) q)
 
 module _ (p : Panel) where
   -- the draw to b or none, and the draws from b on

@@ -1,80 +1,109 @@
+-- The invariant: the bytes counted and those of the draws from i on are the layer's.
+use Prim.Native.Nat.{ℕ, _+_, _-_, _≤_}
+use mathlib.Core.Path.{_≡_, ap, subst⁻¹, _∙_}
+use mathlib.Core.List.{[]}
+use native.Mathlib.Omega.{arith}
+use lib.ListN.{length}
+use denote.Ref.{now}
+use Rattle.grid.specs.declared.Cell.{Cell}
+use Rattle.grid.specs.Panel.{OnPanel}
+use Rattle.gerber.specs.Layer.{draw, lineTo}
+use Rattle.gerber_write.specs.Write.{layerBytes}
+use Rattle.gerber_write.proofs.Draws.{drawsFrom, Place, place-first, here-on, next-on, place-next}
+use Rattle.gerber_write.proofs.Draws.{layer-length, next-length, end-length, layer-small}
+use borrow.Author.Needs.{needs}
 use Rattle.gerber_write.proofs.layer_length.Statement.{statement}
 use Rattle.gerber_write.proofs.layer_length.Tie as tie
-use Rattle.gerber_write.proofs.layer_length.Reads as reads
-use Rattle.gerber_write.proofs.layer_length.Lts as lts
-use Rattle.gerber_write.proofs.line_length.Reads as line-length-reads
-use Rattle.gerber_write.proofs.turn_length.Reads as turn-length-reads
-use Rattle.list.proofs.cell_at.Reads as cell-at-reads
 
 abbrev Inv-loop : tie.InvT-loop
-Inv-loop p list bytes₀ i₀ bytes i = ?
+Inv-loop p list bytes₀ i₀ bytes i = Place p list i × (bytes + length (drawsFrom p list i) ≡ length (layerBytes p list))
 
 abbrev μ-loop : tie.MeasureT-loop
-μ-loop p list bytes₀ i₀ bytes i = ?
+μ-loop p list bytes₀ i₀ bytes i = length list - i
 
--- src/lib.rt:144:43
 cell-at-requires : tie.Need-cell-at-requires Inv-loop μ-loop
-cell-at-requires c κs = ?
+cell-at-requires c κs = omega arith
 
--- src/lib.rt:144:28
 line-length-requires : tie.Need-line-length-requires Inv-loop μ-loop
-line-length-requires c κs = ?
+line-length-requires c κs =
+    let s = c .before .before in
+    (s .pre .panel, subst⁻¹ (OnPanel (s .args .p)) (c .cell-at .ensures) (here-on (place-first (s .pre))))
 
--- src/lib.rt:144:21
+-- before the loop: the head and the first line are counted
+counted : (c : tie.After-line-length Inv-loop μ-loop) → let a = c .before .before .before .args in
+    49 + c .line-length .result + length (drawsFrom (a .p) (now (a .list)) 0) ≡ length (layerBytes (a .p) (now (a .list)))
+counted c =
+    let s = c .before .before .before in
+    let line = c .line-length .ensures ∙ ap (λ (d : Cell). length (lineTo (s .args .p) draw d [])) (c .before .cell-at .ensures) in
+    omega (arith, layer-length (s .args .p) (now (s .args .list)) (s .pre .some))
+
+small : (s : tie.Start Inv-loop μ-loop) → length (layerBytes (s .args .p) (now (s .args .list))) ≤ 442422
+small s = layer-small (s .pre)
+
 add-bytes : tie.Need-add-bytes Inv-loop μ-loop
-add-bytes c = ?
+add-bytes c = omega (arith, counted c, small (c .before .before .before))
 
--- src/lib.rt:146:5
 loop-holds : tie.Need-loop-holds Inv-loop μ-loop
-loop-holds c = ?
+loop-holds c = (place-first (c .before .before .before .pre), counted c)
 
--- src/lib.rt:146:11
 add-loop : tie.Need-add-loop Inv-loop μ-loop
-add-loop c = ?
+add-loop c = omega arith
 
--- src/lib.rt:147:18
 turn-length-requires : tie.Need-turn-length-requires Inv-loop μ-loop
-turn-length-requires c κs = ?
+turn-length-requires c κs =
+    let s = c .before .before .before .before .before in
+    (c .loop-test .taken, (s .pre .panel, next-on (c .before .loop .inv .0)))
 
--- src/lib.rt:147:9
+-- in a turn: so many bytes are counted
+turned : (c : tie.After-turn-length Inv-loop μ-loop) → let l = c .before .before .loop in
+    let a = c .before .before .before .before .before .before .args in
+    l .bytes + c .turn-length .result + length (drawsFrom (a .p) (now (a .list)) (l .i + 2)) ≡ length (layerBytes (a .p) (now (a .list)))
+turned c =
+    let a = c .before .before .before .before .before .before .args in
+    let l = c .before .before .loop in
+    omega (arith, c .turn-length .ensures, l .inv .1, next-length (a .p) (now (a .list)) (l .i) (c .before .loop-test .taken))
+
 add-bytes-2 : tie.Need-add-bytes-2 Inv-loop μ-loop
-add-bytes-2 c = ?
+add-bytes-2 c = omega (arith, turned c, small (c .before .before .before .before .before .before))
 
--- src/lib.rt:148:9
 add-i : tie.Need-add-i Inv-loop μ-loop
-add-i c = ?
+add-i c = omega arith
 
--- src/lib.rt:146:5
 loop-less : tie.Need-loop-less Inv-loop μ-loop
-loop-less c = ?
+loop-less c = omega arith
 
--- src/lib.rt:146:5
 loop-again : tie.Need-loop-again Inv-loop μ-loop
-loop-again c = ?
+loop-again c = (place-next (c .before .before .loop .inv .0) (c .before .loop-test .taken), turned c)
 
--- src/lib.rt:150:42
 add-cell-at : tie.Need-add-cell-at Inv-loop μ-loop
-add-cell-at c = ?
+add-cell-at c = omega arith
 
--- src/lib.rt:150:28
 cell-at-requires-2 : tie.Need-cell-at-requires-2 Inv-loop μ-loop
-cell-at-requires-2 c κs = ?
+cell-at-requires-2 c κs = omega arith
 
--- src/lib.rt:150:13
 line-length-requires-2 : tie.Need-line-length-requires-2 Inv-loop μ-loop
-line-length-requires-2 c κs = ?
+line-length-requires-2 c κs =
+    let s = c .before .before .before .before .before .before in
+    (s .pre .panel, subst⁻¹ (OnPanel (s .args .p)) (c .cell-at2 .ensures) (next-on (c .before .before .loop .inv .0)))
 
--- src/lib.rt:150:5
+-- behind the loop: the last draw and the last line
+ended : (c : tie.After-line-length2 Inv-loop μ-loop) → let l = c .before .before .before .loop in
+    let a = c .before .before .before .before .before .before .before .args in
+    l .bytes + c .line-length2 .result + 5 ≡ length (layerBytes (a .p) (now (a .list)))
+ended c =
+    let a = c .before .before .before .before .before .before .before .args in
+    let l = c .before .before .before .loop in
+    let line = c .line-length2 .ensures ∙ ap (λ (d : Cell). length (lineTo (a .p) draw d [])) (c .before .cell-at2 .ensures) in
+    omega (arith, l .inv .1, end-length (a .p) (now (a .list)) (l .i) (c .before .before .loop-test .left))
+
 add-result : tie.Need-add-result Inv-loop μ-loop
-add-result c = ?
+add-result c = omega (arith, ended c, small (c .before .before .before .before .before .before .before))
 
--- src/lib.rt:150:5
 add-result-2 : tie.Need-add-result-2 Inv-loop μ-loop
-add-result-2 c = ?
+add-result-2 c = omega (arith, ended c, small (c .before .before .before .before .before .before .before))
 
--- src/lib.rt:140:1
 returns : tie.Need-returns Inv-loop μ-loop
-returns c = ?
+returns c = (ended c, omega (arith, ended c, small (c .before .before .before .before .before .before .before)))
 
 pub layer-length-spec : {M : Type 1} → statement M
 layer-length-spec =

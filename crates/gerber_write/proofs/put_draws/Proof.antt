@@ -8,68 +8,53 @@ use Rattle.list.proofs.cell_at.Reads as cell-at-reads
 use Rattle.text.proofs.put_bytes.Reads as put-bytes-reads
 
 abbrev Inv-loop : tie.InvT-loop
-Inv-loop p list scratch₀ out₀ at i₀ next₀ t9 t10 scratch out i next = ?
+Inv-loop p list scratch₀ out₀ at i₀ next₀ t9 t10 scratch out i next = Place p list i × Begun p list scratch₀ out₀ at scratch out i next
 
 abbrev μ-loop : tie.MeasureT-loop
-μ-loop p list scratch₀ out₀ at i₀ next₀ t9 t10 scratch out i next = ?
+μ-loop p list scratch₀ out₀ at i₀ next₀ t9 t10 scratch out i next = length list - i
 
--- src/lib.rt:97:5
 loop-holds : tie.Need-loop-holds Inv-loop μ-loop
 loop-holds c = ?
 
--- src/lib.rt:97:11
 add-loop : tie.Need-add-loop Inv-loop μ-loop
 add-loop c = ?
 
--- src/lib.rt:98:9
 put-turn-requires : tie.Need-put-turn-requires Inv-loop μ-loop
 put-turn-requires c κs = ?
 
--- src/lib.rt:99:9
 add-i : tie.Need-add-i Inv-loop μ-loop
 add-i c = ?
 
--- src/lib.rt:97:5
 loop-less : tie.Need-loop-less Inv-loop μ-loop
 loop-less c = ?
 
--- src/lib.rt:97:5
 loop-again : tie.Need-loop-again Inv-loop μ-loop
 loop-again c = ?
 
--- src/lib.rt:101:28
 slice-aggregate-put-line : tie.Need-slice-aggregate-put-line Inv-loop μ-loop
 slice-aggregate-put-line c = ?
 
--- src/lib.rt:101:52
 add-cell-at : tie.Need-add-cell-at Inv-loop μ-loop
 add-cell-at c = ?
 
--- src/lib.rt:101:38
 cell-at-requires : tie.Need-cell-at-requires Inv-loop μ-loop
 cell-at-requires c κs = ?
 
--- src/lib.rt:101:9
 put-line-requires : tie.Need-put-line-requires Inv-loop μ-loop
 put-line-requires c κs = ?
 
--- src/lib.rt:102:15
 slice-aggregate-put-bytes : tie.Need-slice-aggregate-put-bytes Inv-loop μ-loop
 slice-aggregate-put-bytes c = ?
 
--- src/lib.rt:102:5
 put-bytes-requires : tie.Need-put-bytes-requires Inv-loop μ-loop
 put-bytes-requires c κs = ?
 
--- src/lib.rt:88:1
 same-length : tie.Need-same-length Inv-loop μ-loop
 same-length c = ?
 
--- src/lib.rt:88:1
 same-length-2 : tie.Need-same-length-2 Inv-loop μ-loop
 same-length-2 c = ?
 
--- src/lib.rt:88:1
 returns : tie.Need-returns Inv-loop μ-loop
 returns c = ?
 

@@ -1,47 +1,59 @@
+-- Nothing is put where the direction stays, and else the draw.
+use mathlib.Core.Path.{_≡_, sym, ap, subst⁻¹, _∙_}
+use mathlib.Core.List.{[]}
+use native.Mathlib.Omega.{arith}
+use lib.ListN.{length}
+use denote.Ref.{now}
+use Rattle.grid.specs.Panel.{OnPanel}
+use Rattle.gerber.specs.Layer.{draw, lineTo}
+use Rattle.gerber_write.proofs.Through.{none-through, through-is}
+use Rattle.gerber_write.proofs.Lines.{turn-none, turn-line}
+use Rattle.gerber_write.proofs.Draws.{turnAt}
 use borrow.Author.Needs.{needs}
 use Rattle.gerber_write.proofs.put_turn.Statement.{statement}
 use Rattle.gerber_write.proofs.put_turn.Tie as tie
-use Rattle.gerber_write.proofs.put_turn.Reads as reads
-use Rattle.gerber_write.proofs.put_turn.Lts as lts
-use Rattle.gerber_write.proofs.put_line.Reads as put-line-reads
-use Rattle.gerber_write.proofs.straight_at.Reads as straight-at-reads
-use Rattle.list.proofs.cell_at.Reads as cell-at-reads
 
--- src/lib.rt:81:8
 straight-at-requires : tie.Need-straight-at-requires
 straight-at-requires c κs = search needs
 
--- src/lib.rt:82:9
 returns : tie.Need-returns
-returns c = ?
+returns c = none-through (turn-none _ _ _ _ (sym (c .before .straight-at .ensures) ∙ c .if1 .taken))
 
--- src/lib.rt:84:17
 slice-aggregate-put-line : tie.Need-slice-aggregate-put-line
 slice-aggregate-put-line c = search needs
 
--- src/lib.rt:84:41
 add-cell-at : tie.Need-add-cell-at
 add-cell-at c = search needs
 
--- src/lib.rt:84:27
 cell-at-requires : tie.Need-cell-at-requires
 cell-at-requires c κs = search needs
 
--- src/lib.rt:84:5
-put-line-requires : tie.Need-put-line-requires
-put-line-requires c κs = ?
+module _ (c : tie.After-cell-at) where
+  abbrev start : tie.Start
+  start = c .before .before .before .before .before .before .before
 
--- src/lib.rt:73:1
+  drawn : lineTo (start .args .p) draw (c .cell-at .result) [] ≡ turnAt (start .args .p) (now (start .args .list)) (start .args .i)
+  drawn =
+      let d = c .before .before in
+      turn-line _ _ _ _ (sym (d .before .straight-at .ensures) ∙ d .if1 .left) (c .cell-at .ensures)
+
+put-line-requires : tie.Need-put-line-requires
+put-line-requires c κs =
+    let d = c .before .before in
+    let s = start d in
+    let on = subst⁻¹ (OnPanel (s .args .p)) (d .cell-at .ensures) (s .pre .1 .0 .1) in
+    ((s .pre .1 .0 .0, on), (s .pre .1 .1 .0, omega (arith, s .pre .1 .1 .1, ap length (drawn d))))
+
 same-length : tie.Need-same-length
 same-length c = search needs
 
--- src/lib.rt:73:1
 same-length-2 : tie.Need-same-length-2
 same-length-2 c = search needs
 
--- src/lib.rt:73:1
 returns-2 : tie.Need-returns-2
-returns-2 c = ?
+returns-2 c =
+    let d = c .before .before .before .before in
+    through-is (drawn (d .before .before .before)) (d .put-line .ensures)
 
 pub put-turn-spec : {M : Type 1} → statement M
 put-turn-spec =
