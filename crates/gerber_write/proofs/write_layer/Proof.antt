@@ -1,63 +1,69 @@
+-- A list that is not refused has its layer put, if both buffers have room, and the digits' bytes cleared.
+use mathlib.Core.Path.{_≡_, sym, _∙_}
+use Prim.Native.Nat.{ℕ}
+use native.Mathlib.Omega.{arith}
+use denote.Ref.{now}
+use Rattle.grid.specs.declared.Check.the-variants.{Good}
+use Rattle.list.specs.Check.{checkList}
+use Rattle.gerber_write.proofs.Made.{plottable, list-refused, scratch-short, buffer-short, made}
 use borrow.Author.Needs.{needs}
 use Rattle.gerber_write.proofs.write_layer.Statement.{statement}
 use Rattle.gerber_write.proofs.write_layer.Tie as tie
-use Rattle.gerber_write.proofs.write_layer.Reads as reads
-use Rattle.gerber_write.proofs.write_layer.Lts as lts
-use Rattle.gerber_write.proofs.layer_length.Reads as layer-length-reads
-use Rattle.gerber_write.proofs.put_layer.Reads as put-layer-reads
-use Rattle.list.proofs.check_list.Reads as check-list-reads
-use Rattle.scratch.proofs.clear_front.Reads as clear-front-reads
 
--- src/lib.rt:156:9
+abbrev start : tie.After-enum-told → tie.Start
+start c = c .before .before .before .before .before .before
+
+passed : (c : tie.After-enum-told) → let a = start c .args in checkList (a .p) (now (a .list)) ≡ Good
+passed c = sym (c .before .before .check-list .ensures) ∙ c .enum-told .given .1
+
 check-list-requires : tie.Need-check-list-requires
 check-list-requires c κs = search needs
 
--- src/lib.rt:157:27
 enum-known-c : tie.Need-enum-known-c
 enum-known-c c = search needs
 
--- src/lib.rt:158:9
 returns : tie.Need-returns
-returns c = ?
+returns c = list-refused (cc)
 
 enum-told : tie.Need-enum-told
 enum-told c = search needs
 
--- src/lib.rt:160:9
 layer-length-requires : tie.Need-layer-length-requires
-layer-length-requires c κs = ?
+layer-length-requires c κs = plottable _ _ (passed c)
 
--- src/lib.rt:162:9
 returns-2 : tie.Need-returns-2
-returns-2 c = ?
+returns-2 c = scratch-short (passed (c .before .before)) (c .if1 .taken)
 
--- src/lib.rt:165:9
 returns-3 : tie.Need-returns-3
-returns-3 c = ?
+returns-3 c =
+    let l = c .before .before in
+    buffer-short (passed (l .before)) (c .before .if1 .left) (omega (arith, c .if2 .taken, l .layer-length .ensures .0))
 
--- src/lib.rt:167:5
 put-layer-requires : tie.Need-put-layer-requires
-put-layer-requires c κs = ?
+put-layer-requires c κs =
+    let d = c .before .before in
+    let l = d .before .before in
+    (plottable _ _ (passed (l .before)), (d .before .if1 .left, omega (arith, d .if2 .left, l .layer-length .ensures .0)))
 
--- src/lib.rt:168:5
 clear-front-requires : tie.Need-clear-front-requires
 clear-front-requires c κs = search needs
 
--- src/lib.rt:169:24
 cast-t19 : tie.Need-cast-t19
 cast-t19 c = search needs
 
--- src/lib.rt:153:1
 same-length : tie.Need-same-length
 same-length c = search needs
 
--- src/lib.rt:153:1
 same-length-2 : tie.Need-same-length-2
 same-length-2 c = search needs
 
--- src/lib.rt:153:1
 returns-4 : tie.Need-returns-4
-returns-4 c = ?
+returns-4 c =
+    let call = c .before .before .before .before .before .before .before .before in
+    let d = call .before .before .before in
+    let l = d .before .before in
+    made (passed (l .before)) (d .before .if1 .left) (omega (arith, d .if2 .left, l .layer-length .ensures .0))
+    (l .layer-length .ensures .0) (call .put-layer .ensures) (c .before .before .clear-front .ensures)
 
 pub write-layer-spec : {M : Type 1} → statement M
 write-layer-spec =
