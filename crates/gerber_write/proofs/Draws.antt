@@ -1,5 +1,5 @@
 -- The draws from a byte of a list on: the first and the others, or the last and the end; which cells they go to; how long they are.
-use Prim.Native.Nat.{ℕ, _+_, _*_, _-_, _/_, _≤_, _<_}
+use Prim.Native.Nat.{ℕ, _+_, _≤_, _<_}
 use mathlib.Core.Path.{_≡_, sym, ap, ap₂, _∙_}
 use mathlib.Core.Bool.{true}
 use mathlib.Core.List.{List, [], _∷_, _++_}
@@ -7,7 +7,7 @@ use native.Mathlib.Omega.{arith}
 use lib.ListN.{length, drop, length-append, length-drop}
 use Rattle.grid.specs.declared.Panel.{Panel}
 use Rattle.grid.specs.declared.Cell.{Cell}
-use Rattle.grid.specs.Panel.{onPanel, GoodPanel, OnPanel}
+use Rattle.grid.specs.Panel.{onPanel, OnPanel}
 use Rattle.grid.specs.Bytes.{cellsIn}
 use Rattle.grid.proofs.Facts.{on, and-parts}
 use Rattle.list.specs.List.{allOn, cellAt}

@@ -1,5 +1,5 @@
 -- Document 02, R-2: the writer of a layer: its refusals in order, its answer and the final content of both lent buffers.
-use Prim.Native.Nat.{ℕ, _+_, _%_, _≤_}
+use Prim.Native.Nat.{ℕ, _%_, _≤_}
 use mathlib.Core.Path.{_≡_}
 use mathlib.Core.Bool.{true, cond, _&&_}
 use mathlib.Core.List.{List, [], _++_}

@@ -24,7 +24,7 @@ ghost use Rattle.grid.specs.Panel.{GoodPanel, OnPanel};
 ghost use Rattle.grid.specs.Bytes.{cellsIn};
 ghost use Rattle.list.specs.List.{cellAt};
 ghost use Rattle.text.specs.Field.{fieldOf};
-ghost use Rattle.gerber.specs.Layer.{draw, lineTo, straight, turnsFrom, drawLines, layerOf};
+ghost use Rattle.gerber.specs.Layer.{draw, lineTo, straight, turnsFrom, drawLines};
 ghost use Rattle.gerber_write.specs.Write.{digitRoom, layerBytes, Plottable, PutThrough, turnLine, WritesLayer};
 
 // The bytes of scratch that hold a number's digits.
@@ -53,7 +53,8 @@ fn put_line(
     requires { ⌜ (GoodPanel p) × (OnPanel p c) ⌝ }
     requires { ⌜ digitRoom ≤ length (now scratch) ⌝ }
     requires { ⌜ at + length (lineTo p (now operation) c []) ≤ length (now out) ⌝ }
-    ensures { λ r. ⌜ PutThrough (now (scratch .entry)) (now (scratch .exit)) (now (out .entry)) at (lineTo p (now (operation .entry)) c []) (now (out .exit)) r ⌝ }
+    ensures { λ r. ⌜ PutThrough (now (scratch .entry)) (now (scratch .exit)) (now (out .entry)) at
+        (lineTo p (now (operation .entry)) c []) (now (out .exit)) r ⌝ }
 {
     let x = put_byte(b'X', out, at);
     let y = put_number(plot_x(p, c), b'Y', scratch, out, x);
@@ -88,9 +89,11 @@ fn put_turn(p: Panel, list: &[u8], i: usize, scratch: &mut [u8], out: &mut [u8],
 fn put_draws(p: Panel, list: &[u8], scratch: &mut [u8], out: &mut [u8], at: usize) -> usize
     requires { ⌜ Plottable p (now list) ⌝ }
     requires { ⌜ digitRoom ≤ length (now scratch) ⌝ }
-    requires { ⌜ at + length (drawLines p (turnsFrom (cellAt (now list) 0) (cellAt (now list) 2) (cellsIn (drop 4 (now list))))) ≤ length (now out) ⌝ }
+    requires { ⌜ at + length (drawLines p (turnsFrom (cellAt (now list) 0) (cellAt (now list) 2) (cellsIn (drop 4 (now list)))))
+        ≤ length (now out) ⌝ }
     ensures { λ r. ⌜ PutThrough (now (scratch .entry)) (now (scratch .exit)) (now (out .entry)) at
-        (drawLines p (turnsFrom (cellAt (now (list .entry)) 0) (cellAt (now (list .entry)) 2) (cellsIn (drop 4 (now (list .entry)))))) (now (out .exit)) r ⌝ }
+        (drawLines p (turnsFrom (cellAt (now (list .entry)) 0) (cellAt (now (list .entry)) 2) (cellsIn (drop 4 (now (list .entry))))))
+        (now (out .exit)) r ⌝ }
 {
     let mut i = 0;
     let mut next = at;
@@ -107,7 +110,8 @@ pub fn put_layer(p: Panel, list: &[u8], scratch: &mut [u8], out: &mut [u8]) -> u
     requires { ⌜ Plottable p (now list) ⌝ }
     requires { ⌜ digitRoom ≤ length (now scratch) ⌝ }
     requires { ⌜ length (layerBytes p (now list)) ≤ length (now out) ⌝ }
-    ensures { λ r. ⌜ PutThrough (now (scratch .entry)) (now (scratch .exit)) (now (out .entry)) 0 (layerBytes p (now (list .entry))) (now (out .exit)) r ⌝ }
+    ensures { λ r. ⌜ PutThrough (now (scratch .entry)) (now (scratch .exit)) (now (out .entry)) 0
+        (layerBytes p (now (list .entry))) (now (out .exit)) r ⌝ }
 {
     let head = head_of(p);
     let first = put_bytes(&head, out, 0);
@@ -127,7 +131,8 @@ fn line_length(p: Panel, c: Cell) -> usize
 fn turn_length(p: Panel, list: &[u8], i: usize) -> usize
     requires { ⌜ i + 5 < length (now list) ⌝ }
     requires { ⌜ (GoodPanel p) × (OnPanel p (cellAt (now list) (i + 2))) ⌝ }
-    ensures { λ r. ⌜ r ≡ length (turnLine p (cellAt (now (list .entry)) i) (cellAt (now (list .entry)) (i + 2)) (cellAt (now (list .entry)) (i + 4))) ⌝ }
+    ensures { λ r. ⌜ r
+        ≡ length (turnLine p (cellAt (now (list .entry)) i) (cellAt (now (list .entry)) (i + 2)) (cellAt (now (list .entry)) (i + 4))) ⌝ }
 {
     if straight_at(list, i) {
         return 0;

@@ -1,5 +1,5 @@
 -- The invariant: the bytes counted and those of the draws from i on are the layer's.
-use Prim.Native.Nat.{ℕ, _+_, _-_, _≤_}
+use Prim.Native.Nat.{_+_, _-_, _≤_}
 use mathlib.Core.Path.{_≡_, ap, subst⁻¹, _∙_}
 use mathlib.Core.List.{[]}
 use native.Mathlib.Omega.{arith}
@@ -11,7 +11,6 @@ use Rattle.gerber.specs.Layer.{draw, lineTo}
 use Rattle.gerber_write.specs.Write.{layerBytes}
 use Rattle.gerber_write.proofs.Draws.{drawsFrom, Place, place-first, here-on, next-on, place-next}
 use Rattle.gerber_write.proofs.Draws.{layer-length, next-length, end-length, layer-small}
-use borrow.Author.Needs.{needs}
 use Rattle.gerber_write.proofs.layer_length.Statement.{statement}
 use Rattle.gerber_write.proofs.layer_length.Tie as tie
 

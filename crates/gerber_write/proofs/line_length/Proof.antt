@@ -38,7 +38,9 @@ counted c =
     omega (arith, line-length (a .p) draw (a .c))
 
 add-result-2 : tie.Need-add-result-2
-add-result-2 c = let s = c .before .before .before .before in omega (arith, counted c, line-small (s .args .p) draw (s .args .c) (s .pre .0) (s .pre .1))
+add-result-2 c =
+    let s = c .before .before .before .before in
+    omega (arith, counted c, line-small (s .args .p) draw (s .args .c) (s .pre .0) (s .pre .1))
 
 returns : tie.Need-returns
 returns c = counted c

@@ -35,9 +35,12 @@ add-loop : tie.Need-add-loop Inv-loop μ-loop
 add-loop c = omega arith
 
 -- in a turn: the draw or nothing, and the draws behind
-parts : (c : tie.In-loop Inv-loop μ-loop) → let l = c .before .loop in let a = start (c .before) .args in
-    Parts (l .out) (l .next) (turnAt (a .p) (now (a .list)) (l .i)) (drawsFrom (a .p) (now (a .list)) (l .i + 2)) (drawsFrom (a .p) (now (a .list)) (l .i))
-parts c = let a = start (c .before) .args in left-parts (c .before .loop .inv .3) (draws-next (a .p) (now (a .list)) _ (c .loop-test .taken))
+parts : (c : tie.In-loop Inv-loop μ-loop) → let l = c .before .loop in let p = start (c .before) .args .p in
+    let list = now (start (c .before) .args .list) in
+    Parts (l .out) (l .next) (turnAt p list (l .i)) (drawsFrom p list (l .i + 2)) (drawsFrom p list (l .i))
+parts c =
+    let a = start (c .before) .args in
+    left-parts (c .before .loop .inv .3) (draws-next (a .p) (now (a .list)) _ (c .loop-test .taken))
 
 put-turn-requires : tie.Need-put-turn-requires Inv-loop μ-loop
 put-turn-requires c κs =
@@ -56,8 +59,7 @@ loop-again : tie.Need-loop-again Inv-loop μ-loop
 loop-again c =
     let call = c .before .before .before .before in
     let turn = call .before .before .before in
-    let l = turn .before .loop in
-    (
+    let l = turn .before .loop in (
       place-next (l .inv .0) (turn .loop-test .taken),
       call .put-turn .kept .1 .1 .1 .0 ∙ l .inv .1,
       call .put-turn .kept .1 .1 .1 .1 .0 ∙ l .inv .2,
@@ -79,7 +81,8 @@ module _ (c : tie.After-cell-at Inv-loop μ-loop) where
   left = c .before .before .before
 
   ends : let a = start left .args in
-      Parts (left .loop .out) (left .loop .next) (lineTo (a .p) draw (c .cell-at .result) []) endLine (drawsFrom (a .p) (now (a .list)) (left .loop .i))
+      Parts (left .loop .out) (left .loop .next)
+      (lineTo (a .p) draw (c .cell-at .result) []) endLine (drawsFrom (a .p) (now (a .list)) (left .loop .i))
   ends =
       let a = start left .args in
       let last = draws-end (a .p) (now (a .list)) (left .loop .i) (c .before .before .loop-test .left) in

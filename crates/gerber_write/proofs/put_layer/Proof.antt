@@ -46,7 +46,8 @@ module _ (c : tie.After-cell-at) where
   known = headed .before .before .before
 
   begun : let a = start known .args in
-      Left (now (a .scratch)) (now (a .scratch)) (now (a .out)) 0 (whole (start known)) (lines (start known)) (headed .put-bytes .last .1 .0) (headed .put-bytes .result)
+      Left (now (a .scratch)) (now (a .scratch)) (now (a .out)) 0 (whole (start known)) (lines (start known))
+      (headed .put-bytes .last .1 .0) (headed .put-bytes .result)
   begun = left-next (left-all (first known .fits)) (first known) (beside (headed .put-bytes .ensures))
 
   second : let s = start known in

@@ -1,6 +1,5 @@
 -- A list that is not refused has its layer put, if both buffers have room, and the digits' bytes cleared.
 use mathlib.Core.Path.{_≡_, sym, _∙_}
-use Prim.Native.Nat.{ℕ}
 use native.Mathlib.Omega.{arith}
 use denote.Ref.{now}
 use Rattle.grid.specs.declared.Check.the-variants.{Good}
