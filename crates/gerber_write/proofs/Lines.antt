@@ -70,7 +70,7 @@ module _ (p : Panel) where
       go false = line-and p draw b (drawLines p (turnsFrom b c l))
 
   module _ (g : GoodPanel p) where
-    pub turn-small : (a b c : Cell) → OnPanel p b → length (turnLine p a b c) ≤ 27
+    turn-small : (a b c : Cell) → OnPanel p b → length (turnLine p a b c) ≤ 27
     turn-small a b c o = go (straight a b c)
       where
         go : (t : Bool) → length (cond t [] (lineTo p draw b [])) ≤ 27

@@ -22,7 +22,7 @@ module _ {s out : List ℕ} {at : ℕ} where
   through-is q f = record { put = puts-is q (f .put); rest = f .rest }
 
   -- two texts that make a whole
-  pub through-both : {m e t u whole mid after : List ℕ} {k next : ℕ} → Parts out at t u whole
+  through-both : {m e t u whole mid after : List ℕ} {k next : ℕ} → Parts out at t u whole
       → PutThrough s m out at t mid k → PutThrough m e mid k u after next → PutThrough s e out at whole after next
   through-both q f g = record { put = puts-both q (f .put) (g .put); rest = g .rest ∙ f .rest }
 
