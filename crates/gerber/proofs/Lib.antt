@@ -1,1 +1,2 @@
 pub mod Plots
+pub mod Heads

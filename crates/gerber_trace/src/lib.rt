@@ -50,7 +50,10 @@ fn plotted(p: Panel, a: u32, b: u32) -> Cell
     let up = b / pitch;
     let x = a / pitch + 1;
     if up <= p.height {
-        return Cell { x, y: p.height - up };
+        return Cell {
+            x,
+            y: p.height - up,
+        };
     }
     Cell { x, y: 0 }
 }

@@ -15,7 +15,8 @@ use Rattle.list.proofs.Cells.{cells-next, cells-end, length-cells}
 use Rattle.list.proofs.Turns.{on-turn}
 use Rattle.gerber.specs.Layer.{headOf, move, draw, lineTo, endLine, turnsFrom, drawLines, layerOf}
 use Rattle.gerber_write.specs.Write.{layerBytes, Plottable, turnLine}
-use Rattle.gerber_write.proofs.Lines.{head-length, line-and, line-length, line-small, turn-and, draws-small}
+use Rattle.gerber.proofs.Heads.{head-length}
+use Rattle.gerber_write.proofs.Lines.{line-and, line-length, line-small, turn-and, draws-small}
 
 -- ---- how they are put together
 

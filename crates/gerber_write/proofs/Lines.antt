@@ -15,14 +15,9 @@ use Rattle.list.specs.List.{allOn}
 use Rattle.text.specs.Decimal.{decimal}
 use Rattle.text.specs.Field.{fieldOf}
 use Rattle.text.proofs.Puts.{field-and, field-length}
-use Rattle.gerber.specs.Layer.{plotX, plotY, headOf, draw, lineTo, endLine, straight, turnsFrom, drawLines}
+use Rattle.gerber.specs.Layer.{plotX, plotY, draw, lineTo, endLine, straight, turnsFrom, drawLines}
 use Rattle.gerber.proofs.Plots.{plot-x-small, plot-y-small}
 use Rattle.gerber_write.specs.Write.{turnLine}
-
--- the head has 49 bytes, whatever the pitch
-pub head-length : (p : Panel) → length (headOf p) ≡ 49
-unfolding headOf
-head-length p = refl
 
 -- ---- one line
 

@@ -1,11 +1,11 @@
 -- Bytes that begin with a text: the text and the bytes behind it, and the other way round; and one byte of the text after another.
-use Prim.Native.Nat.{ℕ, suc, _+_, _<_}
+use Prim.Native.Nat.{ℕ, suc, _+_, _≤_, _<_}
 use mathlib.Core.Path.{_≡_, refl, sym, ap, _∙_}
 use mathlib.Core.Bool.{Bool, true, false, _&&_, false≢true}
 use mathlib.Core.List.{List, [], _∷_, _++_}
 use native.Mathlib.Omega.{arith}
-use lib.ListN.{length, drop, getD}
-use lib.Seq.{drop-cons, drop-append-seam}
+use lib.ListN.{length, drop, getD, length-append}
+use lib.Seq.{drop-cons, drop-drop, drop-append-seam}
 use lib.Dec.{eqb}
 use borrow.Author.Tests.{eqb-true, eq-eqb}
 use Rattle.grid.proofs.Facts.{and-parts, and-both}
@@ -48,6 +48,18 @@ module _ {ℓ} {A : Type ℓ} (z : A) (k : List ℕ → A) where
       go : (b : Bool) → begins t l ≡ b → (l ≡ t ++ drop (length t) l) × (k (drop (length t) l) ≡ y)
       go true e = (front-is t l e, cond-yes _ _ e refl ∙ q)
       go false e = absurd (other (cond-no _ _ e refl ∙ q))
+
+-- the same at a place of a file
+module _ (t file : List ℕ) (at : ℕ) where
+  pub front-room : begins t (drop at file) ≡ true → length t ≤ length (drop at file)
+  front-room e = omega (arith, ap length (front-is t (drop at file) e), length-append t (drop (length t) (drop at file)))
+
+  module _ {ℓ} {A : Type ℓ} (z : A) (k : List ℕ → A) where
+    pub behind-yes : {y : A} → begins t (drop at file) ≡ true → y ≡ k (drop (at + length t) file) → y ≡ behindText z t (drop at file) k
+    behind-yes e h = cond-yes _ _ e (h ∙ ap k (sym (drop-drop (length t) at file)))
+
+    pub behind-no : begins t (drop at file) ≡ false → z ≡ behindText z t (drop at file) k
+    behind-no e = cond-no _ _ e refl
 
 -- ---- byte by byte
 
