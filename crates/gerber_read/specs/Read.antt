@@ -17,6 +17,7 @@ use Rattle.grid.specs.Answer.{GivesCells}
 use Rattle.list.specs.List.{withCells}
 use Rattle.list.specs.Check.{checkList}
 use Rattle.gerber.specs.Layer.{layerOf}
+use Rattle.gerber_trace.specs.declared.Trace.{Trace}
 use Rattle.gerber_trace.specs.Trace.{Found}
 use Rattle.gerber_trace.specs.Trace.Found.{none, cells}
 
@@ -52,6 +53,10 @@ pub record ReadsLayer (p : Panel) (file old new : List ℕ) (r : CellsAnswer) : 
   pub buffer : new ≡ answer (checkReader p found old) (λ c. old) (withCells (listIn found) old)
 
 -- ---- for the parts of the reader
+
+-- a trace at its first cell
+abbrev pub startAt : Cell → ℕ → Trace
+startAt s next = record { before = s; at = s; goal = s; next = next }
 
 -- the cells that were found, and how many; none is empty
 abbrev pub foundList : Found → List Cell

@@ -20,11 +20,11 @@ ghost use Rattle.grid.specs.Panel.{GoodPanel, OnPanel};
 ghost use Rattle.list.specs.List.{withCells};
 ghost use Rattle.gerber_trace.specs.Trace.{cellsFrom};
 ghost use Rattle.gerber_trace.specs.Trace.Aim.{cellAnd};
-ghost use Rattle.gerber_read.specs.Read.{foundList, foundSize, ReadsLayer};
+ghost use Rattle.gerber_read.specs.Read.{startAt, foundList, foundSize, ReadsLayer};
 
 // The way through a layer begins at its first cell, which is its own goal: every direction is another.
 fn start_at(s: Cell, next: usize) -> Trace
-    ensures { λ r. ⌜ (r .before ≡ s) × (r .at ≡ s) × (r .goal ≡ s) × (r .next ≡ next) ⌝ }
+    ensures { λ r. ⌜ r ≡ startAt s next ⌝ }
 {
     Trace {
         before: s,

@@ -137,8 +137,18 @@ module _ (p : Panel) (a b g : Cell) (r : List ℕ) where
       (λ s. both-branches W (isEnd r) end _ (λ e. ended (same-eq b g s) (end-read r e)) (λ e. by-aim (same-eq b g s) (lineAt p draw r) refl))
       (λ s. both-branches W (onPanel p (ahead a b)) _ other (λ o. straight-on s o) (λ o. lost))
 
+-- the next cell is on the panel
+pub next-on : (p : Panel) (a b g : Cell) (r : List ℕ) {d c h : Cell} {q : List ℕ} → nextOf p a b g r ≡ to d c h q → onPanel p c ≡ true
+next-on p a b g r {d} {c} {h} {q} e = go (nextOf p a b g r) (way-on p a b g r) e
+  where
+    go : (n : Next) → Way p a b g r n → n ≡ to d c h q → onPanel p c ≡ true
+    go other lost e = clash (cc)
+    go end (ended s t) e = clash (cc)
+    go (to _ k _ _) (straight-on s o) e = let is : k ≡ c = cc in sym (ap (onPanel p) is) ∙ o
+    go (to _ k _ _) (turned s t o v) e = let is : k ≡ c = cc in sym (ap (onPanel p) is) ∙ o
+
 -- what is found in front of other cells was found of these
-front-found : (c : Cell) (f : Found) {l : List Cell} → inFront c f ≡ cells l → (k : List Cell) × (f ≡ cells k) × (c ∷ k ≡ l)
+pub front-found : (c : Cell) (f : Found) {l : List Cell} → inFront c f ≡ cells l → (k : List Cell) × (f ≡ cells k) × (c ∷ k ≡ l)
 front-found c none e = clash (cc)
 front-found c (cells k) e = (k, refl, cc)
 

@@ -1,68 +1,114 @@
+-- The invariant: the cells counted and those ahead are all cells. The steps that are left fall.
+use Prim.Native.Nat.{ℕ, _+_, _-_, _≤_}
+use mathlib.Core.Path.{_≡_, sym, ap, subst, _∙_}
+use native.Mathlib.Omega.{arith}
+use denote.Ref.{now}
+use lib.ListN.{drop}
+use Rattle.gerber_trace.specs.declared.Trace.{Trace}
+use Rattle.grid.specs.Panel.{OnPanel, area}
+use Rattle.grid.proofs.Facts.{area-small}
+use Rattle.gerber_trace.specs.Trace.{cellsFrom}
+use Rattle.gerber_trace.specs.Trace.Aim.{cellAnd}
+use Rattle.gerber_read.specs.Read.{startAt, foundSize}
+use Rattle.gerber_read.proofs.Found.{cellsAhead, sizeOn, size-front, counts-none, counts-end, counts-on, ahead-on}
+use borrow.Author.Needs.{needs}
 use Rattle.gerber_read.proofs.count_cells.Statement.{statement}
 use Rattle.gerber_read.proofs.count_cells.Tie as tie
-use Rattle.gerber_read.proofs.count_cells.Reads as reads
-use Rattle.gerber_read.proofs.count_cells.Lts as lts
-use Rattle.gerber_read.proofs.start_at.Reads as start-at-reads
-use Rattle.gerber_trace.proofs.step_on.Reads as step-on-reads
-use Rattle.grid.proofs.area_of.Reads as area-of-reads
 
 abbrev Inv-loop : tie.InvT-loop
-Inv-loop p file next most t₀ count₀ t count = ?
+Inv-loop p file next most t₀ count₀ t count =
+    (1 ≤ count) × (count ≤ most + 1) × OnPanel p (t .at)
+    × (sizeOn count (cellsAhead p (most + 1 - count) file t) ≡ sizeOn 1 (cellsAhead p most file t₀))
 
 abbrev μ-loop : tie.MeasureT-loop
-μ-loop p file next most t₀ count₀ t count = ?
+μ-loop p file next most t₀ count₀ t count = most + 1 - count
 
--- src/lib.rt:42:9
+module _ (c : tie.At-loop Inv-loop μ-loop) where
+  abbrev start : tie.Start Inv-loop μ-loop
+  start = c .before .before .before .before
+
+  -- the cells counted and those ahead are all cells
+  all : let a = start .args in let n = c .before .before .area-of .result in
+      sizeOn (c .loop .count) (cellsAhead (a .p) (n + 1 - c .loop .count) (now (a .file)) (c .loop .t))
+      ≡ foundSize (cellsFrom (a .p) (cellAnd (a .s) (drop (a .next) (now (a .file)))))
+  all =
+      let a = start .args in
+      let begin = c .before .start-at .ensures in
+      let size = c .before .before .area-of .ensures in
+      c .loop .inv .3
+      ∙ (λ i. sizeOn 1 (cellsAhead (a .p) (size i) (now (a .file)) (begin i)))
+      ∙ sym (size-front (a .s) (cellsAhead (a .p) (area (a .p)) (now (a .file)) (startAt (a .s) (a .next))))
+
 area-of-requires : tie.Need-area-of-requires Inv-loop μ-loop
-area-of-requires c κs = ?
+area-of-requires c κs = search needs
 
--- src/lib.rt:43:9
 start-at-requires : tie.Need-start-at-requires Inv-loop μ-loop
-start-at-requires c κs = ?
+start-at-requires c κs = search needs
 
--- src/lib.rt:45:5
 loop-holds : tie.Need-loop-holds Inv-loop μ-loop
-loop-holds c = ?
+loop-holds c =
+    let a = c .before .before .before .args in
+    let n = c .before .area-of .result in
+    let all : n + 1 - 1 ≡ n = omega arith in
+    let begin = c .start-at .ensures in
+    let first = ap (λ (t : Trace). t .at) begin in (
+      omega arith,
+      omega arith,
+      subst (OnPanel (a .p)) (sym first) (c .before .before .before .pre .1),
+      ap (λ (k : ℕ). sizeOn 1 (cellsAhead (a .p) k (now (a .file)) (c .start-at .result))) all,
+    )
 
--- src/lib.rt:46:13
 step-on-requires : tie.Need-step-on-requires Inv-loop μ-loop
-step-on-requires c κs = ?
+step-on-requires c κs = (start (c .before) .pre .0, c .before .loop .inv .2)
 
--- src/lib.rt:49:17
 enum-told : tie.Need-enum-told Inv-loop μ-loop
-enum-told c = ?
+enum-told c = search needs
 
--- src/lib.rt:49:17
 returns : tie.Need-returns Inv-loop μ-loop
-returns c = ?
+returns c =
+    let step = c .before .before in
+    let l = step .before .before in
+    counts-none _ _ (l .loop .t) (step .step-on .ensures) _ (l .loop .count) (step .before .loop-test .taken) (c .enum-told .given .1) ∙ all l
 
--- src/lib.rt:52:17
 enum-told-2 : tie.Need-enum-told-2 Inv-loop μ-loop
-enum-told-2 c = ?
+enum-told-2 c = search needs
 
--- src/lib.rt:52:17
 returns-2 : tie.Need-returns-2 Inv-loop μ-loop
-returns-2 c = ?
+returns-2 c =
+    let step = c .before .before in
+    let l = step .before .before in
+    counts-end _ _ (l .loop .t) (step .step-on .ensures) _ (l .loop .count) (step .before .loop-test .taken) (c .enum-told2 .given .1) ∙ all l
 
--- src/lib.rt:54:25
 enum-known-step : tie.Need-enum-known-step Inv-loop μ-loop
-enum-known-step c = ?
+enum-known-step c = search needs
 
--- src/lib.rt:56:17
 add-count : tie.Need-add-count Inv-loop μ-loop
-add-count c = ?
+add-count c =
+    let turn = c .before .before .before .before in
+    let few = area-small (start (turn .before) .pre .0 .sides) in
+    omega (arith, turn .loop-test .taken, few, turn .before .before .before .area-of .ensures)
 
--- src/lib.rt:45:5
 loop-less : tie.Need-loop-less Inv-loop μ-loop
-loop-less c = ?
+loop-less c = omega (arith, c .before .before .before .before .loop-test .taken)
 
--- src/lib.rt:45:5
 loop-again : tie.Need-loop-again Inv-loop μ-loop
-loop-again c = ?
+loop-again c =
+    let step = c .before .before .before in
+    let l = step .before .before in
+    let fits = step .before .loop-test .taken in
+    let more = c .before .step .given .1 in (
+      omega arith,
+      omega (arith, fits),
+      ahead-on _ _ (l .loop .t) (step .step-on .ensures) more,
+      counts-on _ _ (l .loop .t) (step .step-on .ensures) _ (l .loop .count) fits more ∙ l .loop .inv .3,
+    )
 
--- src/lib.rt:38:1
 returns-3 : tie.Need-returns-3 Inv-loop μ-loop
-returns-3 c = ?
+returns-3 c =
+    let l = c .before in
+    let a = start l .args in
+    let none : l .before .before .area-of .result + 1 - l .loop .count ≡ 0 = omega (arith, c .loop-test .left) in
+    sym (ap (λ (k : ℕ). sizeOn (l .loop .count) (cellsAhead (a .p) k (now (a .file)) (l .loop .t))) none) ∙ all l
 
 pub count-cells-spec : {M : Type 1} → statement M
 count-cells-spec =
