@@ -1,9 +1,9 @@
 -- Document 02, R-2: the reader of a layer, told panel and pitch. It takes exactly the layers that the writer makes: what it takes is said by
 -- the writer's layer alone.
-use Prim.Native.Nat.{ℕ, _*_}
+use Prim.Native.Nat.{ℕ, _+_, _*_, _≤_}
 use mathlib.Core.Path.{_≡_}
 use mathlib.Core.List.{List, []}
-use lib.ListN.{length, take}
+use lib.ListN.{length, drop}
 use lib.Dec.{leb}
 use Rattle.grid.specs.declared.Panel.{Panel}
 use Rattle.grid.specs.declared.Cell.{Cell}
@@ -11,6 +11,7 @@ use Rattle.grid.specs.declared.Check.{Check}
 use Rattle.grid.specs.declared.Check.the-variants.{Good, Refused}
 use Rattle.grid.specs.declared.CellsAnswer.{CellsAnswer}
 use Rattle.grid.specs.declared.Refusal.the-variants.{ShortBuffer, UnknownByte}
+use Rattle.grid.specs.Panel.{GoodPanel, OnPanel, area}
 use Rattle.grid.specs.Bytes.{bytes}
 use Rattle.grid.specs.Check.{expect, after, answer, checkPanel}
 use Rattle.grid.specs.Answer.{GivesCells}
@@ -18,7 +19,7 @@ use Rattle.list.specs.List.{withCells}
 use Rattle.list.specs.Check.{checkList}
 use Rattle.gerber.specs.Layer.{layerOf}
 use Rattle.gerber_trace.specs.declared.Trace.{Trace}
-use Rattle.gerber_trace.specs.Trace.{Found}
+use Rattle.gerber_trace.specs.Trace.{Found, cellsBehind}
 use Rattle.gerber_trace.specs.Trace.Found.{none, cells}
 
 -- a file is the layer of a list that the writer takes on this panel
@@ -65,3 +66,15 @@ foundList (cells l) = l
 
 abbrev pub foundSize : Found → ℕ
 foundSize f = length (foundList f)
+
+-- the cells behind the one that a trace has come to, at most as many as the panel has
+abbrev pub cellsAhead : Panel → List ℕ → Trace → Found
+cellsAhead p file t = cellsBehind p (area p) (t .before) (t .at) (t .goal) (drop (t .next) file)
+
+-- there are cells ahead of a trace, and room for them in a buffer from byte `from` to byte `end`
+pub record Writable (p : Panel) (file : List ℕ) (t : Trace) (list : List ℕ) (from end : ℕ) : Type 0 where
+  pub panel : GoodPanel p
+  pub on : OnPanel p (t .at)
+  pub ahead : cellsAhead p file t ≡ cells (foundList (cellsAhead p file t))
+  pub size : from + 2 * foundSize (cellsAhead p file t) ≡ end
+  pub fits : end ≤ length list

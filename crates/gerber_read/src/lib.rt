@@ -17,10 +17,12 @@ ghost use mathlib.Core.Path.{_≡_};
 ghost use Prim.Native.Nat.{_*_, _≤_};
 ghost use lib.ListN.{length, drop};
 ghost use Rattle.grid.specs.Panel.{GoodPanel, OnPanel};
+ghost use Rattle.grid.specs.Bytes.{bytes};
 ghost use Rattle.list.specs.List.{withCells};
+ghost use Rattle.text.specs.Put.{put};
 ghost use Rattle.gerber_trace.specs.Trace.{cellsFrom};
 ghost use Rattle.gerber_trace.specs.Trace.Aim.{cellAnd};
-ghost use Rattle.gerber_read.specs.Read.{startAt, foundList, foundSize, ReadsLayer};
+ghost use Rattle.gerber_read.specs.Read.{startAt, foundList, foundSize, cellsAhead, Writable, ReadsLayer};
 
 // The way through a layer begins at its first cell, which is its own goal: every direction is another.
 fn start_at(s: Cell, next: usize) -> Trace
@@ -60,17 +62,13 @@ fn count_cells(p: Panel, s: Cell, file: &[u8], next: usize) -> usize
     0
 }
 
-// The cells of such a layer, of which there are some, at the front of the buffer.
-fn write_cells(p: Panel, s: Cell, file: &[u8], next: usize, count: usize, list: &mut [u8])
-    requires { ⌜ (GoodPanel p) × (OnPanel p s) ⌝ }
-    requires { ⌜ count ≡ foundSize (cellsFrom p (cellAnd s (drop next (now file)))) ⌝ }
-    requires { ⌜ (1 ≤ count) × (2 * count ≤ length (now list)) ⌝ }
-    ensures { λ _. ⌜ now (list .exit) ≡ withCells (foundList (cellsFrom p (cellAnd s (drop next (now (file .entry)))))) (now (list .entry)) ⌝ }
+// The cells ahead of a trace, from a byte of the buffer on, up to `end`.
+fn write_ahead(p: Panel, file: &[u8], begin: Trace, list: &mut [u8], from: usize, end: usize)
+    requires { ⌜ Writable p (now file) begin (now list) from end ⌝ }
+    ensures { λ _. ⌜ now (list .exit) ≡ put (now (list .entry)) from (bytes (foundList (cellsAhead p (now (file .entry)) begin))) ⌝ }
 {
-    put_cell(list, 0, s);
-    let end = 2 * count;
-    let mut t = start_at(s, next);
-    let mut j = 2;
+    let mut t = begin;
+    let mut j = from;
     while j < end {
         let step = step_on(p, file, t);
         match step {
@@ -87,6 +85,17 @@ fn write_cells(p: Panel, s: Cell, file: &[u8], next: usize, count: usize, list: 
             }
         }
     }
+}
+
+// The cells of a layer, of which there are so many, at the front of the buffer.
+fn write_cells(p: Panel, s: Cell, file: &[u8], next: usize, count: usize, list: &mut [u8])
+    requires { ⌜ (GoodPanel p) × (OnPanel p s) ⌝ }
+    requires { ⌜ count ≡ foundSize (cellsFrom p (cellAnd s (drop next (now file)))) ⌝ }
+    requires { ⌜ (1 ≤ count) × (2 * count ≤ length (now list)) ⌝ }
+    ensures { λ _. ⌜ now (list .exit) ≡ withCells (foundList (cellsFrom p (cellAnd s (drop next (now (file .entry)))))) (now (list .entry)) ⌝ }
+{
+    put_cell(list, 0, s);
+    write_ahead(p, file, start_at(s, next), list, 2, 2 * count);
 }
 
 pub fn read_layer(p: Panel, file: &[u8], list: &mut [u8]) -> CellsAnswer

@@ -218,6 +218,14 @@ from-move p (cellAnd s r) l e =
     let (k, found, is) = front-found s (cellsBehind p (area p) s s s r) e in
     (s, r, k, refl, found, is)
 
+-- the head, and the line to the first cell, which is on the panel
+pub move-read : (p : Panel) (file : List ℕ) (s : Cell) (r : List ℕ) → moveAt p file ≡ cellAnd s r
+    → (file ≡ headOf p ++ lineTo p move s r) × (onPanel p s ≡ true)
+move-read p file s r e =
+    let (head, line) = goes-behind nothing (lineAt p move) (headOf p) file (λ q. clash (cc)) e in
+    let (is, o) = line-read p s r move (drop (length (headOf p)) file) line in
+    (head ∙ ap (λ (k : List ℕ). headOf p ++ k) is, o)
+
 module _ (p : Panel) (panel : goodPanel p ≡ true) (file : List ℕ) where
   -- a first cell, and one or more behind it
   some-cells : (s : Cell) (r : List ℕ) (k : List Cell) → 1 ≤ length k → moveAt p file ≡ cellAnd s r → Behind p (area p) s s s r k
@@ -225,11 +233,10 @@ module _ (p : Panel) (panel : goodPanel p ≡ true) (file : List ℕ) where
   some-cells s r [] h e f = absurd (omega arith)
   some-cells s r (b ∷ l) h e f =
       let n = next (and-parts (neighbours s b) (stepsFrom b l) (f .steps) .0) in
-      let (head, line) = goes-behind nothing (lineAt p move) (headOf p) file (λ q. clash (cc)) e in
-      let (is, o) = line-read p s r move _ line in
+      let (line, o) = move-read p file s r e in
       let rest : r ≡ drawLines p (turnsFrom s b l) = f .rest ∙ ap (drawLines p) (sym (first-later s b l n)) in (
         record { panel = panel; on = and-both o (f .on); next = f .steps; some = omega arith; few = f .few },
-        sym (head ∙ ap (λ (k : List ℕ). headOf p ++ k) (is ∙ ap (lineTo p move s) rest)),
+        sym (line ∙ ap (λ (k : List ℕ). headOf p ++ lineTo p move s k) rest),
       )
 
   pub traced-is : (l : List Cell) → 2 ≤ length l → traced p file ≡ cells l → GoodList p l × (layerOf p l ≡ file)

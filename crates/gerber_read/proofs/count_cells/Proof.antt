@@ -10,7 +10,7 @@ use Rattle.grid.proofs.Facts.{area-small}
 use Rattle.gerber_trace.specs.Trace.{cellsFrom}
 use Rattle.gerber_trace.specs.Trace.Aim.{cellAnd}
 use Rattle.gerber_read.specs.Read.{startAt, foundSize}
-use Rattle.gerber_read.proofs.Found.{cellsAhead, sizeOn, size-front, counts-none, counts-end, counts-on, ahead-on}
+use Rattle.gerber_read.proofs.Found.{cellsWithin, sizeOn, size-front, counts-none, counts-end, counts-on, ahead-on}
 use borrow.Author.Needs.{needs}
 use Rattle.gerber_read.proofs.count_cells.Statement.{statement}
 use Rattle.gerber_read.proofs.count_cells.Tie as tie
@@ -18,7 +18,7 @@ use Rattle.gerber_read.proofs.count_cells.Tie as tie
 abbrev Inv-loop : tie.InvT-loop
 Inv-loop p file next most t₀ count₀ t count =
     (1 ≤ count) × (count ≤ most + 1) × OnPanel p (t .at)
-    × (sizeOn count (cellsAhead p (most + 1 - count) file t) ≡ sizeOn 1 (cellsAhead p most file t₀))
+    × (sizeOn count (cellsWithin p (most + 1 - count) file t) ≡ sizeOn 1 (cellsWithin p most file t₀))
 
 abbrev μ-loop : tie.MeasureT-loop
 μ-loop p file next most t₀ count₀ t count = most + 1 - count
@@ -29,15 +29,15 @@ module _ (c : tie.At-loop Inv-loop μ-loop) where
 
   -- the cells counted and those ahead are all cells
   all : let a = start .args in let n = c .before .before .area-of .result in
-      sizeOn (c .loop .count) (cellsAhead (a .p) (n + 1 - c .loop .count) (now (a .file)) (c .loop .t))
+      sizeOn (c .loop .count) (cellsWithin (a .p) (n + 1 - c .loop .count) (now (a .file)) (c .loop .t))
       ≡ foundSize (cellsFrom (a .p) (cellAnd (a .s) (drop (a .next) (now (a .file)))))
   all =
       let a = start .args in
       let begin = c .before .start-at .ensures in
       let size = c .before .before .area-of .ensures in
       c .loop .inv .3
-      ∙ (λ i. sizeOn 1 (cellsAhead (a .p) (size i) (now (a .file)) (begin i)))
-      ∙ sym (size-front (a .s) (cellsAhead (a .p) (area (a .p)) (now (a .file)) (startAt (a .s) (a .next))))
+      ∙ (λ i. sizeOn 1 (cellsWithin (a .p) (size i) (now (a .file)) (begin i)))
+      ∙ sym (size-front (a .s) (cellsWithin (a .p) (area (a .p)) (now (a .file)) (startAt (a .s) (a .next))))
 
 area-of-requires : tie.Need-area-of-requires Inv-loop μ-loop
 area-of-requires c κs = search needs
@@ -55,7 +55,7 @@ loop-holds c =
       omega arith,
       omega arith,
       subst (OnPanel (a .p)) (sym first) (c .before .before .before .pre .1),
-      ap (λ (k : ℕ). sizeOn 1 (cellsAhead (a .p) k (now (a .file)) (c .start-at .result))) all,
+      ap (λ (k : ℕ). sizeOn 1 (cellsWithin (a .p) k (now (a .file)) (c .start-at .result))) all,
     )
 
 step-on-requires : tie.Need-step-on-requires Inv-loop μ-loop
@@ -108,7 +108,7 @@ returns-3 c =
     let l = c .before in
     let a = start l .args in
     let none : l .before .before .area-of .result + 1 - l .loop .count ≡ 0 = omega (arith, c .loop-test .left) in
-    sym (ap (λ (k : ℕ). sizeOn (l .loop .count) (cellsAhead (a .p) k (now (a .file)) (l .loop .t))) none) ∙ all l
+    sym (ap (λ (k : ℕ). sizeOn (l .loop .count) (cellsWithin (a .p) k (now (a .file)) (l .loop .t))) none) ∙ all l
 
 pub count-cells-spec : {M : Type 1} → statement M
 count-cells-spec =
