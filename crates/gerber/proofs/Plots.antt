@@ -1,7 +1,7 @@
 -- Where a cell's centre is: how large its two numbers are, that they tell the cell (`column-back`, `row-back`), and that the panel lies as
 -- it should: columns a pitch apart to the right, rows a pitch apart with row 1 on top, and half a pitch around (`next-column`, ..).
 use Prim.Native.Nat.{ℕ, _+_, _-_, _*_, _/_, _≤_}
-use mathlib.Core.Path.{_≡_, refl, sym, ap, _∙_}
+use mathlib.Core.Path.{_≡_, refl, ap, _∙_}
 use native.Mathlib.Omega.{arith}
 use native.Mathlib.Nat.{mul-le-mul, div-eq-of-lt-le}
 use Rattle.grid.specs.declared.Panel.{Panel}

@@ -1,7 +1,6 @@
 -- The cells that are found from a trace on, step by step: how many with those before, and which.
 use Prim.Native.Nat.{ℕ, zero, suc, _+_, _-_, _*_, _≤_, _<_}
 use mathlib.Core.Path.{_≡_, refl, sym, ap, subst⁻¹, _∙_}
-use mathlib.Core.Bool.{true}
 use mathlib.Core.List.{List, [], _∷_, _++_, append-assoc, append-nil}
 use native.Mathlib.Omega.{arith}
 use lib.ListN.{length, drop, set, length-append, length-set}
@@ -126,7 +125,8 @@ more-steps : (p : Panel) (file : List ℕ) (t : Trace) (n : ℕ) {l : List Cell}
 more-steps p file t zero e = clash (cc)
 more-steps p file t (suc k) e = (k, e)
 
-module _ {p : Panel} {file : List ℕ} {whole : List Cell} {old : List ℕ} {from : ℕ} {list : List ℕ} {t : Trace} {j : ℕ} (w : Written p file whole old from list t j) where
+module _ {p : Panel} {file : List ℕ} {whole : List Cell} {old : List ℕ} {from : ℕ} {list : List ℕ} {t : Trace} {j : ℕ}
+    (w : Written p file whole old from list t j) where
   -- where the next cell goes, and how many are left
   pub written-place : j + 2 * length (w .rest) ≡ from + 2 * length whole
   written-place =
@@ -230,7 +230,8 @@ module _ (p : Panel) (s : Cell) (file : List ℕ) (next n : ℕ) (size : n ≡ f
       }
 
   -- what is written in front and behind it
-  pub all-written : (old : List ℕ) {mid new : List ℕ} {t : Trace} → 2 * n ≤ length old → mid ≡ set (set old 0 (s .x)) 1 (s .y) → t ≡ startAt s next
+  pub all-written : (old : List ℕ) {mid new : List ℕ} {t : Trace} → 2 * n ≤ length old
+      → mid ≡ set (set old 0 (s .x)) 1 (s .y) → t ≡ startAt s next
       → new ≡ put mid 2 (bytes (foundList (cellsAhead p file t))) → new ≡ withCells (foundList (cellsFrom p (cellAnd s (drop next file)))) old
   unfolding put
   all-written old {mid} {new} {t} fits e q h =

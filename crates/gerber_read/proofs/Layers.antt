@@ -2,7 +2,6 @@
 -- reader's promise from that.
 use Prim.Native.Nat.{ℕ, _*_, _≤_, _<_}
 use mathlib.Core.Path.{_≡_, refl, sym, ap, subst, _∙_}
-use mathlib.Core.Bool.{true}
 use mathlib.Core.List.{List}
 use native.Mathlib.Omega.{arith}
 use lib.ListN.{length}
@@ -22,9 +21,7 @@ use Rattle.grid.proofs.Facts.{clash}
 use Rattle.grid.proofs.Passed.{after-passed, panel-passed}
 use Rattle.grid.proofs.Tests.{expect-yes, expect-no, after-good, after-refused, answer-good, answer-refused}
 use Rattle.list.specs.List.{withCells}
-use Rattle.list.specs.Check.{checkList}
 use Rattle.list.proofs.Checks.{GoodList, list-good, is-list-good}
-use Rattle.gerber.specs.Layer.{layerOf}
 use Rattle.gerber_trace.specs.Trace.{Found, traced}
 use Rattle.gerber_trace.specs.Trace.Found.{none, cells}
 use Rattle.gerber_trace.proofs.Back.{traced-back, traced-is}

@@ -3,7 +3,7 @@
 -- and gives each its list (`traced-back`, `traced-is`).
 use Prim.Native.Nat.{ℕ, zero, suc, _≤_, _<_}
 use mathlib.Core.Path.{_≡_, refl, sym, ap, subst, subst₃, _∙_}
-use mathlib.Core.Bool.{Bool, true, false, _&&_, true≢false}
+use mathlib.Core.Bool.{Bool, true, false, true≢false}
 use mathlib.Core.List.{List, [], _∷_, _++_}
 use native.Mathlib.Omega.{arith}
 use lib.ListN.{length, drop, drop-of-length-le}
@@ -19,12 +19,14 @@ use Rattle.list.proofs.Checks.{GoodList}
 use Rattle.text.specs.Front.{begins}
 use Rattle.text.proofs.Fronts.{front-is, reads-behind, goes-behind}
 use Rattle.gerber.specs.Layer.{headOf, move, draw, lineTo, endLine, straight, turnsFrom, drawLines, layerOf}
-use Rattle.gerber_trace.specs.Trace.{Aim, Next, Found, ahead, towards, isEnd, onTo, turnTo, aimed, lineAt, nextOf, inFront, follow, cellsBehind, cellsFrom, moveAt, traced}
+use Rattle.gerber_trace.specs.Trace.{Aim, lineAt, Next, isEnd, ahead, towards, onTo, aimed, nextOf}
+use Rattle.gerber_trace.specs.Trace.{Found, inFront, follow, cellsBehind, cellsFrom, moveAt, traced}
 use Rattle.gerber_trace.specs.Trace.Aim.{nothing, cellAnd}
 use Rattle.gerber_trace.specs.Trace.Next.{other, end, to}
 use Rattle.gerber_trace.specs.Trace.Found.{none, cells}
 use Rattle.gerber_trace.proofs.Lines.{reads-line, line-read}
-use Rattle.gerber_trace.proofs.Turns.{middle, straight-ahead, ahead-straight, ahead-beside, goal, later, turns-split, goal-apart, towards-goal, towards-beside}
+use Rattle.gerber_trace.proofs.Turns.{middle, straight-ahead, ahead-straight, ahead-beside, towards-beside}
+use Rattle.gerber_trace.proofs.Turns.{goal, later, turns-split, goal-apart, towards-goal}
 
 -- ---- what is written is read
 
@@ -158,7 +160,8 @@ cells-read p zero a b g r l n e = clash (cc)
 cells-read p (suc k) a b g r l n e = go (nextOf p a b g r) (way-on p a b g r) e (cells-read p k)
   where
     go : (t : Next) → Way p a b g r t → follow t (cellsBehind p k) ≡ cells l
-        → ((a b g : Cell) (r : List ℕ) (l : List Cell) → (sameCell b g ≡ false → Neighbours a b) → cellsBehind p k a b g r ≡ cells l → Behind p k a b g r l)
+        → ((a b g : Cell) (r : List ℕ) (l : List Cell) → (sameCell b g ≡ false → Neighbours a b)
+        → cellsBehind p k a b g r ≡ cells l → Behind p k a b g r l)
         → Behind p (suc k) a b g r l
     go other lost q f = clash (cc)
     go end (ended s t) q f =

@@ -19,7 +19,7 @@ use Rattle.text.proofs.Fronts.{reads-behind, goes-behind}
 use Rattle.text.proofs.Numbers.{reads-next, goes-on}
 use Rattle.gerber.specs.Layer.{plotX, plotY, lineTo}
 use Rattle.gerber.proofs.Plots.{plot-x-small, plot-y-small, column-back, row-back}
-use Rattle.gerber_trace.specs.Trace.{Aim, plotted, isCentre, centred, behindD, behindY, behindX, lineAt}
+use Rattle.gerber_trace.specs.Trace.{plotted, isCentre, centred, behindD, behindY, behindX, lineAt}
 use Rattle.gerber_trace.specs.Trace.Aim.{nothing, cellAnd}
 
 -- ---- what is written is read
@@ -63,8 +63,9 @@ module _ (p : Panel) (c : Cell) (r : List ℕ) where
       go false e = let found : nothing ≡ cellAnd c r = cond-no _ _ e refl ∙ q in clash (cc)
 
   -- the parts of the line, one behind another
-  joined : (operation : List ℕ) {l l₁ l₂ l₃ l₄ : List ℕ} {a b : ℕ} → l ≡ ascii "X" ++ l₁ → l₁ ≡ fieldOf a (code "Y") l₂ → l₂ ≡ fieldOf b (code "D") l₃
-      → l₃ ≡ operation ++ l₄ → plotX p c ≡ a → plotY p c ≡ b → l₄ ≡ r → l ≡ lineTo p operation c r
+  joined : (operation : List ℕ) {l l₁ l₂ l₃ l₄ : List ℕ} {a b : ℕ}
+      → l ≡ ascii "X" ++ l₁ → l₁ ≡ fieldOf a (code "Y") l₂ → l₂ ≡ fieldOf b (code "D") l₃ → l₃ ≡ operation ++ l₄
+      → plotX p c ≡ a → plotY p c ≡ b → l₄ ≡ r → l ≡ lineTo p operation c r
   joined operation {a = a} {b = b} e f g h x y t =
       e
       ∙ ap (λ (k : List ℕ). ascii "X" ++ k) (f ∙ ap (fieldOf a (code "Y")) (g ∙ ap (fieldOf b (code "D")) h))

@@ -2,15 +2,15 @@
 -- towards it and the step straight on find the next cell of the list.
 use Prim.Native.Nat.{ℕ, _+_, _-_, _*_, _≤_, _<_}
 use mathlib.Core.Path.{_≡_, refl, sym, ap, ap₂, subst, _∙_}
-use mathlib.Core.Bool.{Bool, true, false, cond, _&&_}
+use mathlib.Core.Bool.{Bool, true, false, cond}
 use mathlib.Core.Logic.{_≢_}
 use mathlib.Core.List.{List, [], _∷_}
 use native.Mathlib.Omega.{arith}
 use lib.Dec.{ltb, eqb}
-use borrow.Author.Tests.{eqb-true, eq-eqb, ltb-true, ltb-false, lt-ltb, le-ltb}
+use borrow.Author.Tests.{eqb-true, eq-eqb, ltb-true, ltb-false}
 use Rattle.grid.specs.declared.Panel.{Panel}
 use Rattle.grid.specs.declared.Cell.{Cell}
-use Rattle.grid.specs.Panel.{cell, OnPanel, Neighbours}
+use Rattle.grid.specs.Panel.{OnPanel, Neighbours}
 use Rattle.grid.proofs.Facts.{and-parts, and-both, cell-eq, beside, beside-is}
 use Rattle.grid.proofs.Tests.{both-branches, cond-yes, cond-no}
 use Rattle.gerber.specs.Layer.{straight, turnsFrom}

@@ -1,7 +1,6 @@
 -- One turn of each loop over the list: the test of the cell at a byte comes before the tests of the cells behind it, and at the end no
 -- test is left.
 use Prim.Native.Nat.{ℕ, _+_, _≤_, _<_}
-use native.Mathlib.Omega.{arith}
 use mathlib.Core.Path.{_≡_, refl, ap}
 use mathlib.Core.Bool.{true, _&&_}
 use mathlib.Core.List.{List}

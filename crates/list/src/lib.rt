@@ -10,7 +10,7 @@ use grid::distance;
 ghost use mathlib.Core.Path.{_≡_};
 ghost use Prim.Native.Nat.{_+_, _<_, _≤_};
 ghost use lib.ListN.{length, getD, set};
-ghost use Rattle.grid.specs.Panel.{maxSide, onPanel, neighbours};
+ghost use Rattle.grid.specs.Panel.{maxSide, neighbours};
 ghost use Rattle.grid.specs.Bytes.{cellsIn};
 ghost use Rattle.list.specs.List.{cellAt, wholeCells, allOn, allSteps, squares};
 ghost use Rattle.list.specs.Check.{checkWalk, goodCount, checkList};

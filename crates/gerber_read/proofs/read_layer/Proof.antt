@@ -1,11 +1,11 @@
 -- The panel, the first cell, the cells counted, the buffer: each refusal in its place, then the list.
 use borrow.Author.Needs.{needs}
-use Prim.Native.Nat.{ℕ, _*_, _≤_, _<_}
+use Prim.Native.Nat.{ℕ, _≤_}
 use mathlib.Core.Path.{_≡_, refl, sym, ap, _∙_}
 use mathlib.Core.List.{List}
 use native.Mathlib.Omega.{arith}
 use denote.Ref.{now}
-use lib.ListN.{length, drop}
+use lib.ListN.{drop}
 use Rattle.grid.specs.declared.Panel.{Panel}
 use Rattle.grid.specs.declared.Check.the-variants.{Good}
 use Rattle.grid.specs.Panel.{OnPanel}
@@ -13,7 +13,7 @@ use Rattle.grid.specs.Check.{checkPanel}
 use Rattle.grid.proofs.Facts.{on, area-small}
 use Rattle.grid.proofs.Passed.{good-panel}
 use Rattle.list.specs.List.{withCells}
-use Rattle.gerber_trace.specs.Trace.{Found, aimOf, cellsFrom, moveAt, traced}
+use Rattle.gerber_trace.specs.Trace.{aimOf, cellsFrom, moveAt, traced}
 use Rattle.gerber_trace.specs.Trace.Aim.{cellAnd}
 use Rattle.gerber_trace.proofs.Back.{move-read}
 use Rattle.gerber_read.specs.Read.{foundList, foundSize}

@@ -1,5 +1,5 @@
 -- By the test of the cell.
-use mathlib.Core.Path.{_≡_, refl, sym, ap, _∙_}
+use mathlib.Core.Path.{refl, sym, ap, _∙_}
 use Rattle.grid.specs.declared.Cell.{Cell}
 use denote.Ref.{now}
 use lib.ListN.{drop}

@@ -1,5 +1,5 @@
 -- By the text and by the length.
-use mathlib.Core.Path.{_≡_, refl, sym, ap, _∙_}
+use mathlib.Core.Path.{sym, ap, _∙_}
 use Prim.Native.Nat.{ℕ}
 use lib.Dec.{eqb}
 use Rattle.grid.proofs.Tests.{and-yes, and-no}

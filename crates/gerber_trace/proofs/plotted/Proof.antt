@@ -1,6 +1,6 @@
 -- The quotients are the definition's; no more than 4,294 pitches are in 32 bits.
 use Prim.Native.Nat.{ℕ, _*_, _/_, _≤_, _<_}
-use mathlib.Core.Path.{_≡_, refl}
+use mathlib.Core.Path.{refl}
 use native.Mathlib.Omega.{arith}
 use native.Mathlib.Nat.{div-lt-iff-lt-mul}
 use Rattle.grid.proofs.Facts.{cell-eq}

@@ -1,5 +1,5 @@
 -- The invariant: the digits of what is left, and those already in scratch, from `at` on, are the number's.
-use Prim.Native.Nat.{ℕ, _+_, _-_, _≤_}
+use Prim.Native.Nat.{ℕ, _-_, _≤_}
 use mathlib.Core.Path.{_≡_, refl, sym, ap, _∙_}
 use mathlib.Core.List.{List, _++_, append-nil}
 use native.Mathlib.Omega.{arith}
@@ -23,7 +23,10 @@ more : (c : tie.At-loop Inv-loop μ-loop) → 1 ≤ c .loop .at
 more c = omega (arith, digits-left (c .loop .inv .1), some-digit (c .loop .rest), c .before .before .pre, c .loop .inv .0)
 
 loop-holds : tie.Need-loop-holds Inv-loop μ-loop
-loop-holds c = (refl, record { within = omega arith; digits = sym (ap (λ (l : List ℕ). decimal (c .before .args .n) ++ l) (drop-length (now (c .before .args .scratch))) ∙ append-nil _) })
+loop-holds c =
+    let a = c .before .args in
+    let none = ap (λ (l : List ℕ). decimal (a .n) ++ l) (drop-length (now (a .scratch))) in
+    (refl, record { within = omega arith; digits = sym (none ∙ append-nil _) })
 
 sub-at : tie.Need-sub-at Inv-loop μ-loop
 sub-at c = more (c .before)
@@ -41,7 +44,8 @@ loop-again : tie.Need-loop-again Inv-loop μ-loop
 loop-again c =
     let turn = c .before .before in
     let l = turn .loop in
-    (length-set (l .scratch) (l .at - 1) (c .digit-of .result) ∙ l .inv .0, digit-stored (l .inv .1) _ (more turn) (c .before .loop-test .taken) (c .digit-of .ensures))
+    let size = length-set (l .scratch) (l .at - 1) (c .digit-of .result) in
+    (size ∙ l .inv .0, digit-stored (l .inv .1) _ (more turn) (c .before .loop-test .taken) (c .digit-of .ensures))
 
 sub-at-2 : tie.Need-sub-at-2 Inv-loop μ-loop
 sub-at-2 c = more (c .before)
