@@ -2,8 +2,8 @@
 use Prim.Native.Nat.{_-_}
 use lib.ListN.{length}
 use borrow.Author.Needs.{needs}
-use Rattle.foil.proofs.has_line.Statement.{statement}
-use Rattle.foil.proofs.has_line.Tie as tie
+use Rattle.line_input.proofs.has_line.Statement.{statement}
+use Rattle.line_input.proofs.has_line.Tie as tie
 
 abbrev Inv-loop : tie.InvT-loop
 Inv-loop bytes i₀ i = Unit {0}

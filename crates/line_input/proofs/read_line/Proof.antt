@@ -4,8 +4,8 @@ use mathlib.Core.Path.{_≡_, sym}
 use lib.ListN.{length}
 use lib.Seq.{length-take-le}
 use borrow.Author.Needs.{needs}
-use Rattle.foil.proofs.read_line.Statement.{statement}
-use Rattle.foil.proofs.read_line.Tie as tie
+use Rattle.line_input.proofs.read_line.Statement.{statement}
+use Rattle.line_input.proofs.read_line.Tie as tie
 
 abbrev Inv-loop : tie.InvT-loop
 Inv-loop bytes₀ n₀ bytes n = (n ≤ length bytes) × (length bytes ≡ length bytes₀)
