@@ -33,7 +33,6 @@ plottable p list e =
       on = g .on;
       some = omega (arith, g .some, length-cells list);
       few = omega (arith, g .few, area-small (q .sides), length-cells list, even);
-      even = even;
     }
 
 -- ---- the promise

@@ -1,5 +1,5 @@
 -- Document 02, R-2: the writer of a layer: its refusals in order, its answer and the final content of both lent buffers.
-use Prim.Native.Nat.{ℕ, _%_, _≤_}
+use Prim.Native.Nat.{ℕ, _≤_}
 use mathlib.Core.Path.{_≡_}
 use mathlib.Core.Bool.{true, cond, _&&_}
 use mathlib.Core.List.{List, [], _++_}
@@ -67,7 +67,6 @@ pub record Plottable (p : Panel) (list : List ℕ) : Type 0 where
   pub on : allOn p (cellsIn list) ≡ true
   pub some : 4 ≤ length list
   pub few : length list ≤ 32768
-  pub even : length list % 2 ≡ 0
 
 -- a text was put at a place of a buffer by way of scratch, of which only the bytes for digits may have changed
 pub record PutThrough (s t out : List ℕ) (at : ℕ) (text after : List ℕ) (next : ℕ) : Type 0 where
