@@ -32,8 +32,8 @@ const CELLS: usize = 32768;
 
 pub const TEXT: usize = 16512;
 
-// The `ensures` gives only the length, which lending the array asks.
-fn cell_buffer() -> [u8; CELLS]
+// A buffer for the cells of any track. The `ensures` gives only the length, which lending it asks.
+pub fn cell_buffer() -> [u8; CELLS]
     ensures { λ r. ⌜ 32768 ≡ length r ⌝ }
 {
     [0; CELLS]

@@ -33,12 +33,12 @@ returns c =
     let k = c .before .before in
     let r = k .before .before .before in
     let text = puts-is (ap refusedText (k .number-of .ensures)) (c .put-refused .ensures) in
-    line-is (sym (k .before .enum-told .given .1) ∙ r .read-line .ensures) (printed (textOf Other) [] tt text)
+    line-is textOf (sym (k .before .enum-told .given .1) ∙ r .read-line .ensures) (printed (textOf Other) [] tt text)
 
 returns-2 : tie.Need-returns-2
 returns-2 c =
     let l = c .before .before .before in
-    line-is (sym (l .line .given .1) ∙ l .before .before .read-line .ensures) (c .answer-order .ensures)
+    line-is textOf (sym (l .line .given .1) ∙ l .before .before .read-line .ensures) (c .answer-order .ensures)
 
 pub answer-spec : {M : Type 1} → statement M
 answer-spec =

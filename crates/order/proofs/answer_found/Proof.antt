@@ -1,16 +1,13 @@
 -- The cells drawn are a longest track, and the answer for it is put.
 use Prim.Native.Nat.{ℕ, _*_, _≤_}
-use mathlib.Core.Path.{_≡_, sym, ap, _∙_}
+use mathlib.Core.Path.{sym}
 use mathlib.Core.List.{List}
 use native.Mathlib.Omega.{arith}
 use lib.ListN.{length, take}
-use lib.Seq.{length-take-le}
 use Rattle.grid.specs.Bytes.{front}
-use Rattle.count.specs.declared.ClassCount.{ClassCount}
-use Rattle.count.specs.Count.{count}
 use Rattle.bound.specs.declared.BoundAnswer.the-variants.{Given}
-use Rattle.order.specs.Order.{Longest, boundText}
-use Rattle.order.proofs.Answers.{count-bounds, longest, printed}
+use Rattle.order.specs.Order.{boundText}
+use Rattle.order.proofs.Answers.{Drawn, drawn, printed}
 use borrow.Author.Needs.{needs}
 use Rattle.order.proofs.answer_found.Statement.{statement}
 use Rattle.order.proofs.answer_found.Tie as tie
@@ -18,12 +15,6 @@ use Rattle.order.proofs.answer_found.Tie as tie
 -- the count that was found
 abbrev n : tie.Start → ℕ
 n s = s .args .found .count .0
-
-is-count : (s : tie.Start) → n s ≡ count (s .args .p) (s .args .s) (s .args .t)
-is-count s = ap (λ (f : ClassCount). f .count .0) (s .pre .1 .0)
-
-bounded : (s : tie.Start) → (2 ≤ n s) × (n s ≤ 16384)
-bounded s = count-bounds (s .args .p) (s .args .s) (s .args .t) (s .pre .0) (n s) (is-count s)
 
 -- the buffer that was drawn into
 module _ (c : tie.After-draw) where
@@ -33,16 +24,11 @@ module _ (c : tie.After-draw) where
   abbrev new : List ℕ
   new = c .draw .last .1 .1 .1 .0
 
-  size : length new ≡ 32768
-  size = c .draw .kept .1 .1 .1 .0 ∙ sym (c .before .before .cell-buffer .ensures)
-
-  lent : length (take (2 * n start) new) ≡ 2 * n start
-  lent = length-take-le (2 * n start) new (omega (arith, size, bounded start))
-
-  drawn : let a = start .args in Longest (a .p) (a .s) (a .t) (n start) (front (n start) new)
-  drawn =
+  track : let a = start .args in Drawn (a .p) (a .s) (a .t) (n start) new
+  track =
       let a = start .args in
-      longest (a .p) (a .s) (a .t) (start .pre .0) (n start) (is-count start) (c .before .before .cell-buffer .ensures) (c .draw .ensures)
+      let h = start .pre in
+      drawn (a .p) (a .s) (a .t) (h .0) (h .1 .0) (c .before .before .cell-buffer .ensures) (c .draw .ensures) (c .draw .kept .1 .1 .1 .0)
 
 cell-buffer-requires : tie.Need-cell-buffer-requires
 cell-buffer-requires c κs = search needs
@@ -60,21 +46,19 @@ mul-end : tie.Need-mul-end
 mul-end c = search needs
 
 array-share-prefix-cells : tie.Need-array-share-prefix-cells
-array-share-prefix-cells c =
-    let d = c .before .before in
-    omega (arith, size d, bounded (start d))
+array-share-prefix-cells c = track (c .before .before) .fits
 
 slice-aggregate-put-answer : tie.Need-slice-aggregate-put-answer
-slice-aggregate-put-answer c = sym (lent (c .before .before .before))
+slice-aggregate-put-answer c = sym (track (c .before .before .before) .lent)
 
 put-answer-requires : tie.Need-put-answer-requires
 put-answer-requires c κs =
     let d = c .before .before .before .before in
     let s = start d in
-    let few = bounded s in
-    let one : 1 ≤ n s = omega arith in
-    let list : length (take (2 * n s) (new d)) ≤ 32768 = omega (arith, lent d) in
-    ((one, few .1), (list, (sym (drawn d .size), s .pre .1 .1)))
+    let l = track d in
+    let one : 1 ≤ n s = omega (arith, l .some) in
+    let list : length (take (2 * n s) (new d)) ≤ 32768 = omega (arith, l .few, l .lent) in
+    ((one, l .few), (list, (sym (l .longest .size), s .pre .1 .1)))
 
 same-length : tie.Need-same-length
 same-length c = search needs
@@ -83,7 +67,7 @@ returns : tie.Need-returns
 returns c =
     let d = c .before .before .before .before .before .before .before in
     let s = start d in
-    printed (boundText (Given (s .args .found))) (front (n s) (new d)) (drawn d) (c .before .before .put-answer .ensures)
+    printed (boundText (Given (s .args .found))) (front (n s) (new d)) (track d .longest) (c .before .before .put-answer .ensures)
 
 pub answer-found-spec : {M : Type 1} → statement M
 answer-found-spec =

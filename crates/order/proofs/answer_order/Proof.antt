@@ -43,7 +43,7 @@ returns c =
     let b = k .before .before .before .before in
     let a = b .before .before .args in
     let text = puts-is (ap refusedText (k .number-of .ensures)) (c .before .before .put-refused .ensures) in
-    bound-is (a .p) (a .s) (a .t) (sym (g .1) ∙ b .bound .ensures .answers) (printed (boundText (Refused (g .0 .0))) [] tt text)
+    bound-is boundText (a .p) (a .s) (a .t) (sym (g .1) ∙ b .bound .ensures .answers) (printed (boundText (Refused (g .0 .0))) [] tt text)
 
 same-length-2 : tie.Need-same-length-2
 same-length-2 c = search needs
@@ -53,7 +53,7 @@ returns-2 c =
     let g = c .before .before .before .before .before .b2 .given in
     let b = c .before .before .before .before .before .before .before in
     let a = b .before .before .args in
-    bound-is (a .p) (a .s) (a .t) (sym (g .1) ∙ b .bound .ensures .answers) (c .before .before .answer-found .ensures)
+    bound-is boundText (a .p) (a .s) (a .t) (sym (g .1) ∙ b .bound .ensures .answers) (c .before .before .answer-found .ensures)
 
 pub answer-order-spec : {M : Type 1} → statement M
 answer-order-spec =
