@@ -19,7 +19,7 @@ use Rattle.gerber_trace.specs.declared.Advance.the-variants.{Other, End, To}
 use Rattle.gerber_trace.specs.Trace.{Next, Found, nextOf, stepOf, follow, inFront, cellsBehind, cellsFrom}
 use Rattle.gerber_trace.specs.Trace.Aim.{cellAnd}
 use Rattle.gerber_trace.specs.Trace.Found.{none, cells}
-use Rattle.gerber_trace.proofs.Back.{front-found, next-on}
+use Rattle.gerber_trace.proofs.RoundTrip.{front-found, next-on}
 use Rattle.gerber_read.specs.Read.{startAt, foundList, foundSize, cellsAhead, Writable}
 
 -- the cells behind the one that a trace has come to, in at most k steps

@@ -24,7 +24,7 @@ use Rattle.list.specs.List.{withCells}
 use Rattle.list.proofs.Checks.{GoodList, list-good, is-list-good}
 use Rattle.gerber_trace.specs.Trace.{Found, traced}
 use Rattle.gerber_trace.specs.Trace.Found.{none, cells}
-use Rattle.gerber_trace.proofs.Back.{traced-back, traced-is}
+use Rattle.gerber_trace.proofs.RoundTrip.{traced-back, traced-is}
 use Rattle.gerber_read.specs.Read.{LayerOf, Layer, checkReader, ReadsLayer, foundList, foundSize}
 use Rattle.gerber_read.specs.Read.Layer.{of, other}
 

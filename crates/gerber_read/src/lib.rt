@@ -118,5 +118,6 @@ pub fn read_layer(p: Panel, file: &[u8], list: &mut [u8]) -> CellsAnswer
         return CellsAnswer::Refused(Refusal::ShortBuffer);
     }
     write_cells(p, s, file, next, count, list);
-    CellsAnswer::Given(Cells(count as u32))
+    let cells = count as u32;
+    CellsAnswer::Given(Cells(cells))
 }

@@ -1,3 +1,4 @@
+pub mod Examples
 pub mod Lines
 pub mod Turns
-pub mod Back
+pub mod RoundTrip

@@ -1,4 +1,4 @@
--- A layer read back, cell by cell: a strict reading that takes exactly the layers of lists (proofs/Back.antt). The reader's promise does not
+-- A layer read back, cell by cell: a strict reading that takes exactly the layers of lists (proofs/RoundTrip.antt). The reader's promise does not
 -- name it; the parts of the reader do.
 use Prim.Native.Nat.{ℕ, zero, suc, _+_, _-_, _*_, _/_}
 use Prim.Native.Char.{code}

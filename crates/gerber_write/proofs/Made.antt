@@ -38,25 +38,25 @@ plottable p list e =
 -- ---- the promise
 
 module _ {p : Panel} {list s out : List ℕ} where
-  -- a refusal leaves scratch and the buffer as they were
-  refused : {r : Refusal} → checkLayer p list s out ≡ Check.Refused r → WritesLayer p list s s out out (Refused r)
-  refused e = record {
+  -- a refusal that leaves scratch and the buffer as they were
+  refused : {t new : List ℕ} {r : Refusal} → checkLayer p list s out ≡ Check.Refused r → t ≡ s → new ≡ out → WritesLayer p list s t out new (Refused r)
+  refused e same-scratch same-buffer = record {
     gives = gives-bytes _ _ (answer-refused Refused _ e);
-    buffer = answer-refused (λ r. out) _ e;
-    scratch = answer-refused (λ r. s) _ e;
+    buffer = same-buffer ∙ answer-refused (λ r. out) _ e;
+    scratch = same-scratch ∙ answer-refused (λ r. s) _ e;
   }
 
   -- of the list, whatever the buffers
-  pub list-refused : {r : Refusal} → checkList p list ≡ Check.Refused r → WritesLayer p list s s out out (Refused r)
+  pub list-refused : {t new : List ℕ} {r : Refusal} → checkList p list ≡ Check.Refused r → t ≡ s → new ≡ out → WritesLayer p list s t out new (Refused r)
   list-refused e = refused (sym (after-refused _ e))
 
   module _ (e : checkList p list ≡ Good) where
     pub scratch-short : length s < digitRoom → WritesLayer p list s s out out (Refused ShortBuffer)
-    scratch-short h = refused (sym (after-good _ e (expect-no _ _ (sym (and-no _ (lt-leb _ _ h))))))
+    scratch-short h = refused (sym (after-good _ e (expect-no _ _ (sym (and-no _ (lt-leb _ _ h)))))) refl refl
 
     module _ (room : digitRoom ≤ length s) where
       pub buffer-short : length out < length (layerBytes p list) → WritesLayer p list s s out out (Refused ShortBuffer)
-      buffer-short h = refused (sym (after-good _ e (expect-no _ _ (sym (and-yes _ (le-leb _ _ room) (sym (lt-leb _ _ h)))))))
+      buffer-short h = refused (sym (after-good _ e (expect-no _ _ (sym (and-yes _ (le-leb _ _ room) (sym (lt-leb _ _ h))))))) refl refl
 
       pub made : {m t new : List ℕ} {k next : ℕ} → length (layerBytes p list) ≤ length out → k ≡ length (layerBytes p list)
           → PutThrough s m out 0 (layerBytes p list) new next → t ≡ zerosFor digitRoom m → WritesLayer p list s t out new (Given k)

@@ -147,12 +147,12 @@ pub fn layer_length(p: Panel, list: &[u8]) -> usize
     ensures { λ r. ⌜ (r ≡ length (layerBytes p (now (list .entry)))) × (r ≤ 442422) ⌝ }
 {
     let mut bytes = HEAD + line_length(p, cell_at(list, 0));
-    let mut i = 0;
-    while i + 5 < list.len() {
-        bytes += turn_length(p, list, i);
-        i += 2;
+    let mut from = 0;
+    while from + 5 < list.len() {
+        bytes += turn_length(p, list, from);
+        from += 2;
     }
-    bytes + line_length(p, cell_at(list, i + 2)) + 5
+    bytes + line_length(p, cell_at(list, from + 2)) + 5
 }
 
 pub fn write_layer(p: Panel, list: &[u8], scratch: &mut [u8], out: &mut [u8]) -> BytesAnswer
@@ -171,5 +171,6 @@ pub fn write_layer(p: Panel, list: &[u8], scratch: &mut [u8], out: &mut [u8]) ->
     }
     put_layer(p, list, scratch, out);
     clear_front(DIGIT_ROOM, scratch);
-    BytesAnswer::Given(bytes as u32)
+    let given = bytes as u32;
+    BytesAnswer::Given(given)
 }

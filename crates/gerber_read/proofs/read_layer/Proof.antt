@@ -15,7 +15,7 @@ use Rattle.grid.proofs.Passed.{good-panel}
 use Rattle.list.specs.List.{withCells}
 use Rattle.gerber_trace.specs.Trace.{aimOf, cellsFrom, moveAt, traced}
 use Rattle.gerber_trace.specs.Trace.Aim.{cellAnd}
-use Rattle.gerber_trace.proofs.Back.{move-read}
+use Rattle.gerber_trace.proofs.RoundTrip.{move-read}
 use Rattle.gerber_read.specs.Read.{foundList, foundSize}
 use Rattle.gerber_read.proofs.Layers.{is-layer, layer-list, panel-refused, file-refused, short-refused, given-list}
 use Rattle.gerber_read.proofs.read_layer.Statement.{statement}
@@ -125,8 +125,8 @@ write-cells-requires c κs =
     let some : 1 ≤ k .count-cells .result = omega (arith, room .before .if1 .left) in
     ((good-panel (P s) (passed s), first-on (first k)), (k .count-cells .ensures, (some, room .if2 .left)))
 
-cast-t19 : tie.Need-cast-t19
-cast-t19 c = omega (arith, few (c .before .before .before .before .before))
+cast-cells : tie.Need-cast-cells
+cast-cells c = omega (arith, few (c .before .before .before .before .before))
 
 same-length : tie.Need-same-length
 same-length c = search needs
@@ -158,6 +158,6 @@ read-layer-spec =
     mul-if2
     returns-4
     write-cells-requires
-    cast-t19
+    cast-cells
     same-length
     returns-5)

@@ -1,4 +1,4 @@
--- The invariant: the bytes counted and those of the draws from i on are the layer's.
+-- The invariant: the bytes counted and those of the draws from a place on are the layer's.
 use Prim.Native.Nat.{_+_, _-_, _≤_}
 use mathlib.Core.Path.{_≡_, ap, subst⁻¹, _∙_}
 use mathlib.Core.List.{[]}
@@ -15,10 +15,10 @@ use Rattle.gerber_write.proofs.layer_length.Statement.{statement}
 use Rattle.gerber_write.proofs.layer_length.Tie as tie
 
 abbrev Inv-loop : tie.InvT-loop
-Inv-loop p list bytes₀ i₀ bytes i = Place p list i × (bytes + length (drawsFrom p list i) ≡ length (layerBytes p list))
+Inv-loop p list bytes₀ from₀ bytes from = Place p list from × (bytes + length (drawsFrom p list from) ≡ length (layerBytes p list))
 
 abbrev μ-loop : tie.MeasureT-loop
-μ-loop p list bytes₀ i₀ bytes i = length list - i
+μ-loop p list bytes₀ from₀ bytes from = length list - from
 
 cell-at-requires : tie.Need-cell-at-requires Inv-loop μ-loop
 cell-at-requires c κs = omega arith
@@ -56,17 +56,17 @@ turn-length-requires c κs =
 -- in a turn: so many bytes are counted
 turned : (c : tie.After-turn-length Inv-loop μ-loop) → let l = c .before .before .loop in
     let a = c .before .before .before .before .before .before .args in
-    l .bytes + c .turn-length .result + length (drawsFrom (a .p) (now (a .list)) (l .i + 2)) ≡ length (layerBytes (a .p) (now (a .list)))
+    l .bytes + c .turn-length .result + length (drawsFrom (a .p) (now (a .list)) (l .from + 2)) ≡ length (layerBytes (a .p) (now (a .list)))
 turned c =
     let a = c .before .before .before .before .before .before .args in
     let l = c .before .before .loop in
-    omega (arith, c .turn-length .ensures, l .inv .1, next-length (a .p) (now (a .list)) (l .i) (c .before .loop-test .taken))
+    omega (arith, c .turn-length .ensures, l .inv .1, next-length (a .p) (now (a .list)) (l .from) (c .before .loop-test .taken))
 
 add-bytes-2 : tie.Need-add-bytes-2 Inv-loop μ-loop
 add-bytes-2 c = omega (arith, turned c, small (c .before .before .before .before .before .before))
 
-add-i : tie.Need-add-i Inv-loop μ-loop
-add-i c = omega arith
+add-from : tie.Need-add-from Inv-loop μ-loop
+add-from c = omega arith
 
 loop-less : tie.Need-loop-less Inv-loop μ-loop
 loop-less c = omega arith
@@ -93,7 +93,7 @@ ended c =
     let a = c .before .before .before .before .before .before .before .args in
     let l = c .before .before .before .loop in
     let line = c .line-length2 .ensures ∙ ap (λ (d : Cell). length (lineTo (a .p) draw d [])) (c .before .cell-at2 .ensures) in
-    omega (arith, l .inv .1, end-length (a .p) (now (a .list)) (l .i) (c .before .before .loop-test .left))
+    omega (arith, l .inv .1, end-length (a .p) (now (a .list)) (l .from) (c .before .before .loop-test .left))
 
 add-result : tie.Need-add-result Inv-loop μ-loop
 add-result c = omega (arith, ended c, small (c .before .before .before .before .before .before .before))
@@ -117,7 +117,7 @@ layer-length-spec =
     add-loop
     turn-length-requires
     add-bytes-2
-    add-i
+    add-from
     loop-less
     loop-again
     add-cell-at

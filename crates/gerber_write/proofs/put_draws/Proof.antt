@@ -40,14 +40,14 @@ parts : (c : tie.In-loop Inv-loop μ-loop) → let l = c .before .loop in let p 
     Parts (l .out) (l .next) (turnAt p list (l .i)) (drawsFrom p list (l .i + 2)) (drawsFrom p list (l .i))
 parts c =
     let a = start (c .before) .args in
-    left-parts (c .before .loop .inv .3) (draws-next (a .p) (now (a .list)) _ (c .loop-test .taken))
+    left-parts (c .before .loop .inv .3) (draws-next (a .p) (now (a .list)) _ (omega (arith, c .loop-test .taken)))
 
 put-turn-requires : tie.Need-put-turn-requires Inv-loop μ-loop
 put-turn-requires c κs =
     let turn = c .before .before in
     let l = turn .before .loop in
     let h = start (turn .before) .pre in
-    (turn .loop-test .taken, ((h .0 .panel, next-on (l .inv .0)), (omega (arith, h .1 .0, l .inv .1), room-first (parts turn))))
+    (omega (arith, turn .loop-test .taken), ((h .0 .panel, next-on (l .inv .0)), (omega (arith, h .1 .0, l .inv .1), room-first (parts turn))))
 
 add-i : tie.Need-add-i Inv-loop μ-loop
 add-i c = omega arith
@@ -60,7 +60,7 @@ loop-again c =
     let call = c .before .before .before .before in
     let turn = call .before .before .before in
     let l = turn .before .loop in (
-      place-next (l .inv .0) (turn .loop-test .taken),
+      place-next (l .inv .0) (omega (arith, turn .loop-test .taken)),
       call .put-turn .kept .1 .1 .1 .0 ∙ l .inv .1,
       call .put-turn .kept .1 .1 .1 .1 .0 ∙ l .inv .2,
       left-next (l .inv .3) (parts turn) (call .put-turn .ensures),
@@ -85,7 +85,7 @@ module _ (c : tie.After-cell-at Inv-loop μ-loop) where
       (lineTo (a .p) draw (c .cell-at .result) []) endLine (drawsFrom (a .p) (now (a .list)) (left .loop .i))
   ends =
       let a = start left .args in
-      let last = draws-end (a .p) (now (a .list)) (left .loop .i) (c .before .before .loop-test .left) in
+      let last = draws-end (a .p) (now (a .list)) (left .loop .i) (omega (arith, c .before .before .loop-test .left)) in
       left-parts (left .loop .inv .3) (ap (λ (d : Cell). lineTo (a .p) draw d [] ++ endLine) (c .cell-at .ensures) ∙ last)
 
 put-line-requires : tie.Need-put-line-requires Inv-loop μ-loop

@@ -1,4 +1,6 @@
 -- Three cells are read and compared.
+use mathlib.Core.Path.{_∙_}
+use Rattle.gerber.specs.Layer.{straight}
 use borrow.Author.Needs.{needs}
 use Rattle.gerber_write.proofs.straight_at.Statement.{statement}
 use Rattle.gerber_write.proofs.straight_at.Tie as tie
@@ -22,7 +24,9 @@ is-straight-requires : tie.Need-is-straight-requires
 is-straight-requires c κs = search needs
 
 returns : tie.Need-returns
-returns c = cc
+returns c =
+    let second = c .before .before in
+    c .is-straight .ensures ∙ (λ i. straight (second .before .cell-at .ensures i) (second .cell-at2 .ensures i) (c .before .cell-at3 .ensures i))
 
 pub straight-at-spec : {M : Type 1} → statement M
 straight-at-spec =

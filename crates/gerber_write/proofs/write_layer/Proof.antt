@@ -1,5 +1,5 @@
 -- A list that is not refused has its layer put, if both buffers have room, and the digits' bytes cleared.
-use mathlib.Core.Path.{_≡_, sym, _∙_}
+use mathlib.Core.Path.{_≡_, refl, sym, _∙_}
 use native.Mathlib.Omega.{arith}
 use denote.Ref.{now}
 use Rattle.grid.specs.declared.Check.the-variants.{Good}
@@ -22,7 +22,7 @@ enum-known-c : tie.Need-enum-known-c
 enum-known-c c = search needs
 
 returns : tie.Need-returns
-returns c = list-refused (cc)
+returns c = list-refused (cc) refl refl
 
 enum-told : tie.Need-enum-told
 enum-told c = search needs
@@ -47,8 +47,8 @@ put-layer-requires c κs =
 clear-front-requires : tie.Need-clear-front-requires
 clear-front-requires c κs = search needs
 
-cast-t19 : tie.Need-cast-t19
-cast-t19 c = search needs
+cast-given : tie.Need-cast-given
+cast-given c = search needs
 
 same-length : tie.Need-same-length
 same-length c = search needs
@@ -77,7 +77,7 @@ write-layer-spec =
     returns-3
     put-layer-requires
     clear-front-requires
-    cast-t19
+    cast-given
     same-length
     same-length-2
     returns-4)

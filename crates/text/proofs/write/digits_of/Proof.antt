@@ -44,8 +44,7 @@ loop-again : tie.Need-loop-again Inv-loop μ-loop
 loop-again c =
     let turn = c .before .before in
     let l = turn .loop in
-    let size = length-set (l .scratch) (l .at - 1) (c .digit-of .result) in
-    (size ∙ l .inv .0, digit-stored (l .inv .1) _ (more turn) (c .before .loop-test .taken) (c .digit-of .ensures))
+    (simp length-set (l .inv .0), digit-stored (l .inv .1) _ (more turn) (c .before .loop-test .taken) (c .digit-of .ensures))
 
 sub-at-2 : tie.Need-sub-at-2 Inv-loop μ-loop
 sub-at-2 c = more (c .before)
