@@ -31,45 +31,26 @@ const FILL: u8 = 170;
 // The bytes of scratch of which a part is lent, and what they are after a layer.
 const SCRATCH: usize = 24;
 
-const CLEARED: [u8; SCRATCH] = [
-    0,
-    0,
-    0,
-    0,
-    0,
-    0,
-    0,
-    0,
-    0,
-    0,
-    170,
-    170,
-    170,
-    170,
-    170,
-    170,
-    170,
-    170,
-    170,
-    170,
-    170,
-    170,
-    170,
-    170,
-];
+const CLEARED: [u8; SCRATCH] =
+    *b"\0\0\0\0\0\0\0\0\0\0\xaa\xaa\xaa\xaa\xaa\xaa\xaa\xaa\xaa\xaa\xaa\xaa\xaa\xaa";
 
-// The bytes of a buffer for a layer of a case, and for its list.
+// The bytes of a buffer for a layer of a case, and for its list. The lists of changed files are short.
 const ROOM: usize = 1000;
 
 const LIST: usize = 300;
 
-// The head of a layer of pitch 4000, and the bytes that fit behind it.
-const HEAD: [u8; 49] = *b"%FSLAX46Y46*%\n%MOMM*%\n%ADD10C,2.0000*%\nD10*\nG01*\n";
+const SHORT: usize = 64;
 
-const BODY: usize = ROOM - 49;
+// The head of a layer of pitch 4000.
+const HEAD_BYTES: usize = 49;
 
-// The numbers in a line at most.
-const NUMBERS: usize = 72;
+const HEAD: [u8; HEAD_BYTES] = *b"%FSLAX46Y46*%\n%MOMM*%\n%ADD10C,2.0000*%\nD10*\nG01*\n";
+
+// The words of a case at most.
+const WORDS: usize = 72;
+
+// The refusal's number that is printed of a call that was not made.
+const NOT_MADE: u32 = 999;
 
 // What a call gave, as it is printed.
 struct Seen {
@@ -87,19 +68,6 @@ fn show(s: Seen) {
     } else {
         text(b"FAULT");
     }
-}
-
-fn least(a: usize, b: usize) -> usize
-    ensures { λ r. ⌜ (r ≤ a) × (r ≤ b) ⌝ }
-{
-    if a < b { a } else { b }
-}
-
-// How much a is more than b.
-fn above(a: usize, b: usize) -> usize
-    ensures { λ r. ⌜ r ≤ a ⌝ }
-{
-    if b < a { a - b } else { 0 }
 }
 
 fn fill(s: &mut [u8]) {
@@ -125,22 +93,69 @@ fn sum(s: &[u8]) -> u32 {
     n
 }
 
-// The number of the refusal and the bytes written.
-struct Written {
-    refusal: u32,
-    bytes: u32,
+// The checksum of the first k bytes.
+fn sum_front(s: &[u8], k: usize) -> u32 {
+    if k <= s.len() { sum(&s[0..k]) } else { 0 }
 }
 
-fn written(a: BytesAnswer) -> Written {
+// A byte less.
+fn less(k: usize) -> usize {
+    if 0 < k { k - 1 } else { 0 }
+}
+
+// The number of the refusal and the bytes or the cells.
+struct Answer {
+    refusal: u32,
+    count: u32,
+}
+
+fn answer_of(a: BytesAnswer) -> Answer {
     match a {
-        BytesAnswer::Refused(r) => Written {
+        BytesAnswer::Refused(r) => Answer {
             refusal: number_of(r),
-            bytes: 0,
+            count: 0,
         },
-        BytesAnswer::Given(k) => Written {
+        BytesAnswer::Given(k) => Answer {
             refusal: 0,
-            bytes: k,
+            count: k,
         },
+    }
+}
+
+// Writes with the first `digits` bytes of scratch and the first `room` of the buffer.
+fn write_into(
+    p: Panel,
+    list: &[u8],
+    scratch: &mut [u8],
+    digits: usize,
+    out: &mut [u8],
+    room: usize,
+) -> Answer {
+    if digits <= scratch.len() {
+        if room <= out.len() {
+            return answer_of(write_layer(p, list, &mut scratch[0..digits], &mut out[0..room]));
+        }
+    }
+    Answer {
+        refusal: NOT_MADE,
+        count: 0,
+    }
+}
+
+// Reads the first k bytes of a file into the first `room` bytes of the buffer.
+fn read_into(p: Panel, file: &[u8], k: usize, list: &mut [u8], room: usize) -> Answer {
+    if k <= file.len() {
+        if room <= list.len() {
+            let v = cells_values(read_layer(p, &file[0..k], &mut list[0..room]));
+            return Answer {
+                refusal: v.refusal,
+                count: v.cells.0,
+            };
+        }
+    }
+    Answer {
+        refusal: NOT_MADE,
+        count: 0,
     }
 }
 
@@ -155,123 +170,145 @@ fn stays(scratch: &[u8], out: &[u8], k: usize) -> bool {
     same(scratch, &CLEARED)
 }
 
-// Writes with the first `digits` bytes of scratch and the first `room` of the buffer.
-fn write_in(p: Panel, list: &[u8], digits: usize, room: usize, out: &mut [u8]) -> Seen
-    requires { ⌜ (digits ≤ 24) × (room ≤ length (now out)) ⌝ }
-{
+// Writes so, with all bytes filled before.
+fn write_in(p: Panel, list: &[u8], digits: usize, out: &mut [u8], room: usize) -> Seen {
     fill(out);
     let mut scratch = [FILL; SCRATCH];
-    let w = written(write_layer(p, list, &mut scratch[..digits], &mut out[..room]));
-    let k = least(w.bytes as usize, out.len());
+    let a = write_into(p, list, &mut scratch, digits, out, room);
+    let k = a.count as usize;
     Seen {
-        refusal: w.refusal,
-        count: w.bytes,
-        sum: sum(&out[..k]),
+        refusal: a.refusal,
+        count: a.count,
+        sum: sum_front(out, k),
         kept: stays(&scratch, out, k),
     }
 }
 
-// Reads into the first `room` bytes of the buffer.
-fn read_in(p: Panel, file: &[u8], room: usize, list: &mut [u8]) -> Seen
-    requires { ⌜ room ≤ length (now list) ⌝ }
-{
+fn read_in(p: Panel, file: &[u8], k: usize, list: &mut [u8], room: usize) -> Seen {
     fill(list);
-    let v = cells_values(read_layer(p, file, &mut list[..room]));
-    let k = least(2 * (v.cells.0 as usize), list.len());
+    let a = read_into(p, file, k, list, room);
+    let end = 2 * (a.count as usize);
     Seen {
-        refusal: v.refusal,
-        count: v.cells.0,
-        sum: sum(&list[..k]),
-        kept: filled(list, k, FILL),
+        refusal: a.refusal,
+        count: a.count,
+        sum: sum_front(list, end),
+        kept: filled(list, end, FILL),
     }
 }
 
-// Writes a list: with room to spare, in a byte too few of the buffer, in a byte too few of scratch, and in
-// what is just enough of both, which the last line leaves in the buffer. The bytes written.
-fn write_four(p: Panel, list: &[u8], out: &mut [u8]) -> usize
-    ensures { λ r. ⌜ r ≤ length (now (out .exit)) ⌝ }
-{
+// Writes a layer of k bytes in a byte too few, with a byte too few of scratch, and in just enough of both.
+fn write_closely(p: Panel, list: &[u8], out: &mut [u8], k: usize) {
+    show(write_in(p, list, SCRATCH, out, less(k)));
+    show(write_in(p, list, 9, out, k));
+    show(write_in(p, list, 10, out, k));
+    text(b"\n");
+}
+
+// The same after room to spare. The bytes of the layer, which is left in the buffer.
+fn write_four(p: Panel, list: &[u8], out: &mut [u8]) -> usize {
     text(b"write");
     let room = out.len();
-    let first = write_in(p, list, SCRATCH, room, out);
-    let k = least(first.count as usize, room);
+    let first = write_in(p, list, SCRATCH, out, room);
+    let k = first.count as usize;
     show(first);
-    show(write_in(p, list, SCRATCH, above(k, 1), out));
-    show(write_in(p, list, 9, k, out));
-    show(write_in(p, list, 10, k, out));
-    text(b"\n");
+    write_closely(p, list, out, k);
     k
 }
 
-// Reads a layer: with room to spare, in no bytes, in a byte too few and in what is just enough.
-fn read_four(p: Panel, file: &[u8], list: &mut [u8]) {
+// Reads the list of a layer of k bytes into nothing, into a byte too few, and into just enough.
+fn read_closely(p: Panel, file: &[u8], k: usize, list: &mut [u8], end: usize) {
+    show(read_in(p, file, k, list, 0));
+    show(read_in(p, file, k, list, less(end)));
+    show(read_in(p, file, k, list, end));
+    text(b"\n");
+}
+
+// The same after room to spare.
+fn read_four(p: Panel, file: &[u8], k: usize, list: &mut [u8]) {
     text(b"read");
     let room = list.len();
-    let first = read_in(p, file, room, list);
-    let k = least(2 * (first.count as usize), room);
+    let first = read_in(p, file, k, list, room);
     show(first);
-    show(read_in(p, file, 0, list));
-    show(read_in(p, file, above(k, 1), list));
-    show(read_in(p, file, k, list));
-    text(b"\n");
+    read_closely(p, file, k, list, 2 * (first.count as usize));
 }
 
-// A list there and back. The bytes of its layer, which is left in the buffer.
-fn both_ways(p: Panel, list: &[u8], out: &mut [u8], back: &mut [u8]) -> usize
-    ensures { λ r. ⌜ r ≤ length (now (out .exit)) ⌝ }
-{
-    let k = write_four(p, list, out);
-    read_four(p, &out[..k], back);
-    k
+fn print_front(s: &[u8], k: usize) {
+    if k <= s.len() {
+        text(&s[0..k]);
+    }
 }
 
 fn layer_case(p: Panel, list: &[u8]) {
     text(b"\n");
     let mut out = [FILL; ROOM];
+    let k = write_four(p, list, &mut out);
     let mut back = [FILL; LIST];
-    let k = both_ways(p, list, &mut out, &mut back);
-    text(&out[..k]);
+    read_four(p, &out, k, &mut back);
+    print_front(&out, k);
 }
 
 fn write_case(p: Panel, list: &[u8], digits: usize, room: usize) {
     let mut out = [FILL; ROOM];
-    show(write_in(p, list, least(digits, SCRATCH), least(room, ROOM), &mut out));
+    show(write_in(p, list, digits, &mut out, room));
     text(b"\n");
 }
 
-fn read_case(p: Panel, file: &[u8]) {
+// Reads the first k bytes of a file into a buffer, and into none.
+fn read_case(p: Panel, file: &[u8], k: usize) {
     let mut list = [FILL; LIST];
-    show(read_in(p, file, LIST, &mut list));
-    show(read_in(p, file, 0, &mut list));
+    show(read_in(p, file, k, &mut list, LIST));
+    show(read_in(p, file, k, &mut list, 0));
     text(b"\n");
+}
+
+// Puts as much of a text as fits at a place of a file.
+fn put(text: &[u8], file: &mut [u8], at: usize) {
+    if at <= file.len() {
+        if text.len() <= file.len() - at {
+            bytes::copy(text, &mut file[at..]);
+        }
+    }
 }
 
 // The same of a file that goes on so behind a good head.
 fn body_case(p: Panel, body: &[u8]) {
     let mut file = [FILL; ROOM];
-    bytes::copy(&HEAD, &mut file);
-    let k = least(body.len(), BODY);
-    bytes::copy(&body[..k], &mut file[49..]);
-    read_case(p, &file[..k + 49]);
+    put(&HEAD, &mut file, 0);
+    put(body, &mut file, HEAD_BYTES);
+    read_case(p, &file, HEAD_BYTES + body.len());
 }
 
-// Whether the layer of a list is this file.
-fn makes(p: Panel, list: &[u8], file: &[u8]) -> bool {
-    let mut out = [FILL; ROOM];
-    let s = write_in(p, list, SCRATCH, ROOM, &mut out);
-    let k = least(s.count as usize, ROOM);
-    same(&out[..k], file)
+// Whether the first k bytes are a file.
+fn front_is(s: &[u8], k: usize, file: &[u8]) -> bool {
+    if k <= s.len() {
+        same(&s[0..k], file)
+    } else {
+        false
+    }
 }
 
-// What the reader makes of a file: 0, it is no layer; 1, the list that it is the layer of; 2, anything else.
+// Whether the layer of the first n bytes of a list is this file.
+fn makes(p: Panel, list: &[u8], n: usize, file: &[u8]) -> bool {
+    if n <= list.len() {
+        let mut out = [FILL; ROOM];
+        let s = write_in(p, &list[0..n], SCRATCH, &mut out, ROOM);
+        return front_is(&out, s.count as usize, file);
+    }
+    false
+}
+
+// What the reader makes of a file: 0, it is no layer; 1, a list that makes this layer; 2, anything else.
 fn verdict(p: Panel, file: &[u8]) -> usize {
-    let mut list = [FILL; LIST];
-    let s = read_in(p, file, LIST, &mut list);
-    if s.refusal == 16 {
+    let mut list = [FILL; SHORT];
+    let a = read_into(p, file, file.len(), &mut list, SHORT);
+    if a.refusal == 16 {
         return 0;
     }
-    let k = least(2 * (s.count as usize), LIST);
-    if makes(p, &list[..k], file) { 1 } else { 2 }
+    if makes(p, &list, 2 * (a.count as usize), file) {
+        1
+    } else {
+        2
+    }
 }
 
 fn one_more(tally: &mut [u32], k: usize) {
@@ -292,23 +329,38 @@ fn every_value(p: Panel, other: &mut [u8], i: usize, tally: &mut [u32])
     }
 }
 
-// Every value at every place of a file, in whose place the bytes of another stay then.
+// Byte i of a file, if it has one, at place i of another.
+fn put_byte(file: &[u8], other: &mut [u8], i: usize)
+    requires { ⌜ i < length (now other) ⌝ }
+{
+    if i < file.len() {
+        other[i] = file[i];
+    }
+}
+
+// Every value at every place of a file, where the byte of another file is left then.
 fn every_place(p: Panel, file: &[u8], other: &mut [u8], tally: &mut [u32]) {
     let mut i = 0;
     while i < other.len() {
         every_value(p, other, i, tally);
-        if i < file.len() {
-            other[i] = file[i];
-        }
+        put_byte(file, other, i);
         i += 1;
     }
 }
 
-// The verdicts on such files.
 fn verdicts(p: Panel, file: &[u8], other: &mut [u8]) {
     let mut tally = [0u32; 3];
     every_place(p, file, other, &mut tally);
     row(&tally, b"\n");
+}
+
+// The verdicts on such files, which are a part of a buffer.
+fn verdicts_in(p: Panel, file: &[u8], other: &mut [u8], from: usize, end: usize) {
+    if from <= end {
+        if end <= other.len() {
+            verdicts(p, file, &mut other[from..end]);
+        }
+    }
 }
 
 // Every value put in at every place, with which each byte is doubled too; in place of every byte; in place of
@@ -316,16 +368,13 @@ fn verdicts(p: Panel, file: &[u8], other: &mut [u8]) {
 fn every_case(p: Panel, list: &[u8]) {
     text(b"\n");
     let mut file = [FILL; ROOM];
-    let s = write_in(p, list, SCRATCH, ROOM, &mut file);
-    let k = least(s.count as usize, ROOM);
-    if k == 0 {
-        return;
-    }
+    let s = write_in(p, list, SCRATCH, &mut file, ROOM);
+    let k = s.count as usize;
     let mut other = [FILL; ROOM + 1];
-    bytes::copy(&file, &mut other[1..]);
-    verdicts(p, &file[..k], &mut other[..k + 1]);
-    verdicts(p, &file[..k], &mut other[..k]);
-    verdicts(p, &file[..k], &mut other[1..k]);
+    put(&file, &mut other, 1);
+    verdicts_in(p, &file, &mut other, 0, k + 1);
+    verdicts_in(p, &file, &mut other, 0, k);
+    verdicts_in(p, &file, &mut other, 1, k);
 }
 
 // A decimal digit more. The low half of its byte is its value.
@@ -333,101 +382,120 @@ fn digit_on(n: u32, b: u8) -> u32 {
     ((10 * (n as u64) + ((b % 16) as u64)) % 4294967296) as u32
 }
 
-// A byte of a line whose last number so far is number j: the last one behind it.
-fn number_on(b: u8, numbers: &mut [u32], j: usize) -> usize {
-    if j < numbers.len() {
-        if b == b' ' {
+// A byte more of word j: the word that the next byte is of.
+fn word_on(b: u8, words: &mut [u32], j: usize) -> usize {
+    if j < words.len() {
+        if b <= b' ' {
             return j + 1;
         }
-        numbers[j] = digit_on(numbers[j], b);
+        words[j] = digit_on(words[j], b);
     }
     j
 }
 
-// The words of a line as numbers, and the last one's place.
-fn numbers_in(line: &[u8], numbers: &mut [u32]) -> usize {
+// The words of a line as numbers, and how many there are. A blank or the line feed ends each.
+fn words_in(line: &[u8], words: &mut [u32]) -> usize {
     let mut j = 0;
     let mut i = 0;
     while i < line.len() {
-        j = number_on(line[i], numbers, j);
+        j = word_on(line[i], words, j);
         i += 1;
     }
     j
 }
 
-fn list_in(numbers: &[u32], list: &mut [u8]) {
+// Word i, or 0 past the end.
+fn word_at(words: &[u32], i: usize) -> u32 {
+    if i < words.len() { words[i] } else { 0 }
+}
+
+// The words as bytes.
+fn bytes_in(words: &[u32], list: &mut [u8]) {
     let mut i = 0;
     while i < list.len() {
-        if i < numbers.len() {
-            list[i] = (numbers[i] % 256) as u8;
-        }
+        list[i] = (word_at(words, i) % 256) as u8;
         i += 1;
     }
 }
 
-// The numbers of a case: the first three behind the word are the panel's.
-fn panel_in(numbers: [u32; NUMBERS]) -> Panel {
-    panel_of(numbers[2], numbers[3], numbers[4])
+// The colon and what is done are words too: the panel is the words 2, 3 and 4.
+fn panel_in(words: &[u32]) -> Panel {
+    panel_of(word_at(words, 2), word_at(words, 3), word_at(words, 4))
 }
 
-// The list begins behind the panel, and behind two numbers more of a case `write`.
-fn list_case(kind: u8, numbers: [u32; NUMBERS], last: usize) {
-    let p = panel_in(numbers);
-    let room = numbers[5] as usize;
-    let digits = numbers[6] as usize;
-    let mut list = [0u8; LIST];
-    if kind == b'w' {
-        list_in(&numbers[7..], &mut list);
-        let n = least(above(last, 6), LIST);
-        write_case(p, &list[..n], digits, room);
-        return;
+// A case with a list, the bytes up to `end`.
+fn list_case(kind: u8, words: &[u32], list: &[u8], end: usize) {
+    let p = panel_in(words);
+    if end <= list.len() {
+        if 7 <= end {
+            match kind {
+                b'l' => layer_case(p, &list[5..end]),
+                b'e' => every_case(p, &list[5..end]),
+                _ => write_case(
+                    p,
+                    &list[7..end],
+                    word_at(words, 6) as usize,
+                    word_at(words, 5) as usize,
+                ),
+            }
+        }
     }
-    list_in(&numbers[5..], &mut list);
-    let n = least(above(last, 4), LIST);
-    if kind == b'l' {
-        layer_case(p, &list[..n]);
+}
+
+fn file_case(kind: u8, words: &[u32], file: &[u8]) {
+    let p = panel_in(words);
+    if kind == b'b' {
+        body_case(p, file);
     } else {
-        every_case(p, &list[..n]);
+        read_case(p, file, file.len());
     }
 }
 
-// The first letter of what is done, or 0.
+// The case of a line; its file, if it has one, goes up to the next #. Where the next line begins.
+fn one_case(kind: u8, line: &[u8], input: &[u8], at: usize) -> usize
+    requires { ⌜ at ≤ length (now input) ⌝ }
+    ensures { λ r. ⌜ at ≤ r ⌝ }
+{
+    let mut words = [0u32; WORDS];
+    let end = words_in(line, &mut words);
+    match kind {
+        b'b' | b'r' => {
+            let stop = find(input, at, input.len(), b'#');
+            file_case(kind, &words, &input[at..stop]);
+            stop + 2
+        }
+        _ => {
+            let mut list = [0u8; WORDS];
+            bytes_in(&words, &mut list);
+            list_case(kind, &words, &list, end);
+            at
+        }
+    }
+}
+
+// What a case does begins with the third byte from its colon on. A heading has no colon: 0.
 fn kind_in(line: &[u8]) -> u8 {
     if 2 < line.len() { line[2] } else { 0 }
 }
 
-// A case with a file.
-fn file_case(kind: u8, p: Panel, file: &[u8]) {
-    if kind == b'b' {
-        body_case(p, file);
-    } else {
-        read_case(p, file);
-    }
-}
-
-// The line from `at` on, and the file behind it if the case has one: where the next line begins.
+// The line from `at` on: where the next one begins.
 fn one_line(input: &[u8], at: usize) -> usize
     requires { ⌜ at < length (now input) ⌝ }
     ensures { λ r. ⌜ at < r ⌝ }
 {
-    let len = input.len();
-    let end = find(input, at, len, b'\n');
-    let colon = find(input, at, end, b':');
-    text(&input[at..end]);
-    let mut numbers = [0u32; NUMBERS];
-    let last = numbers_in(&input[colon..end], &mut numbers);
-    let kind = kind_in(&input[colon..end]);
-    match kind {
-        0 => text(b"\n"),
-        b'b' | b'r' => {
-            let stop = find(input, end, len, b'#');
-            let start = least(end + 1, stop);
-            file_case(kind, panel_in(numbers), &input[start..stop]);
-            return stop + 2;
-        }
-        _ => list_case(kind, numbers, last),
+    let end = find(input, at, input.len(), b'\n');
+    if end == input.len() {
+        return end;
     }
-    end + 1
+    text(&input[at..end]);
+    let next = end + 1;
+    let colon = find(input, at, end, b':');
+    let kind = kind_in(&input[colon..end]);
+    if kind == 0 {
+        text(b"\n");
+        return next;
+    }
+    one_case(kind, &input[colon..next], input, next)
 }
 
 fn all_lines(input: &[u8]) {
@@ -447,23 +515,28 @@ fn round(list: &mut [u8]) {
     }
 }
 
+fn large_case(list: &[u8]) {
+    let p = panel_of(128, 128, 10000);
+    let mut out = [FILL; 442500];
+    let k = write_four(p, list, &mut out);
+    let mut back = [FILL; 32800];
+    read_four(p, &out, k, &mut back);
+}
+
 // The longest lists: with the fewest lines, and with the most.
 fn largest() {
-    let p = panel_of(128, 128, 10000);
     let mut list = [0u8; 32768];
-    let mut out = [0u8; 442500];
-    let mut back = [0u8; 32800];
     text(b"128 by 128, row by row\n");
     snake(&mut list);
-    both_ways(p, &list, &mut out, &mut back);
+    large_case(&list);
     text(b"128 by 128, a turn at every cell\n");
     round(&mut list);
-    both_ways(p, &list, &mut out, &mut back);
+    large_case(&list);
 }
 
 fn main() {
     let mut input = [0u8; 32768];
     let n = io::read_full(STDIN_FILENO, &mut input);
-    all_lines(&input[..n]);
+    all_lines(&input[0..n]);
     largest();
 }
