@@ -1,20 +1,38 @@
--- By the line of the input: refusal 16, or the bytes for the order in it.
-use mathlib.Core.Path.{sym, ap, _∙_}
-use mathlib.Core.List.{[]}
+-- By what the line comes to: its refusal's text, or the layer of the track drawn, whose list is plottable.
+use Prim.Native.Nat.{ℕ, _*_}
+use mathlib.Core.Path.{sym, ap}
+use mathlib.Core.List.{List}
+use native.Mathlib.Omega.{arith}
+use lib.ListN.{take}
+use Rattle.grid.specs.declared.Panel.{Panel}
+use Rattle.list.proofs.Tracks.{is-all-on}
 use Rattle.printout.specs.Text.{refusedText}
 use Rattle.text.proofs.Puts.{puts-is}
-use Rattle.order.specs.declared.Line.the-variants.{Other}
-use Rattle.order.proofs.Answers.{printed, line-is}
-use Rattle.plot.specs.Plot.{layerText}
+use Rattle.gerber_write.specs.Write.{Plottable}
+use Rattle.gerber_write.proofs.Draws.{layer-small}
+use Rattle.order.proofs.Answers.{Drawn, drawn, drawing-is, printed}
+use Rattle.plot.specs.Plot.{drawingLayer}
 use borrow.Author.Needs.{needs}
 use Rattle.plot.proofs.answer.Statement.{statement}
 use Rattle.plot.proofs.answer.Tie as tie
 
-read-line-requires : tie.Need-read-line-requires
-read-line-requires c κs = search needs
+-- the list of a track that was drawn
+plottable : {p : Panel} {n : ℕ} {buffer : List ℕ} → Drawn p n buffer → Plottable p (take (2 * n) buffer)
+plottable d = record {
+  panel = d .panel;
+  on = is-all-on (d .on);
+  some = omega (arith, d .some, d .lent);
+  few = omega (arith, d .few, d .lent);
+}
 
-enum-told : tie.Need-enum-told
-enum-told c = search needs
+track : (c : tie.After-d2) → Drawn (c .d2 .given .0 .0) (c .d2 .given .0 .1 .0 .count .0) (c .before .before .draw-line .last .1 .0)
+track c = drawn _ (drawing-is (c .d2 .given .1) (c .before .before .draw-line .ensures))
+
+draw-line-requires : tie.Need-draw-line-requires
+draw-line-requires c κs = search needs
+
+enum-known-d : tie.Need-enum-known-d
+enum-known-d c = search needs
 
 number-of-requires : tie.Need-number-of-requires
 number-of-requires c κs = search needs
@@ -22,33 +40,56 @@ number-of-requires c κs = search needs
 put-refused-requires : tie.Need-put-refused-requires
 put-refused-requires c κs = search needs
 
-enum-known-line : tie.Need-enum-known-line
-enum-known-line c = search needs
+enum-known-d-2 : tie.Need-enum-known-d-2
+enum-known-d-2 c = search needs
 
-answer-order-requires : tie.Need-answer-order-requires
-answer-order-requires c κs = search needs
+cast-end : tie.Need-cast-end
+cast-end c = search needs
+
+mul-end : tie.Need-mul-end
+mul-end c = search needs
+
+array-share-prefix-cells : tie.Need-array-share-prefix-cells
+array-share-prefix-cells c = track (c .before .before) .fits
+
+slice-aggregate-put-layer : tie.Need-slice-aggregate-put-layer
+slice-aggregate-put-layer c = sym (track (c .before .before .before) .lent)
+
+slice-aggregate-put-layer-2 : tie.Need-slice-aggregate-put-layer-2
+slice-aggregate-put-layer-2 c = search needs
+
+put-layer-requires : tie.Need-put-layer-requires
+put-layer-requires c κs =
+    let can = plottable (track (c .before .before .before .before .before)) in
+    (can, (omega arith, search (needs, layer-small can)))
 
 returns : tie.Need-returns
 returns c =
     let k = c .before .before in
-    let r = k .before .before .before in
+    let d = k .before .before in
     let text = puts-is (ap refusedText (k .number-of .ensures)) (c .put-refused .ensures) in
-    line-is layerText (sym (k .before .enum-told .given .1) ∙ r .read-line .ensures) (printed (layerText Other) [] tt text)
+    printed drawingLayer (drawing-is (d .d .given .1) (d .before .before .draw-line .ensures)) text
 
 returns-2 : tie.Need-returns-2
 returns-2 c =
-    let l = c .before .before .before in
-    line-is layerText (sym (l .line .given .1) ∙ l .before .before .read-line .ensures) (c .answer-order .ensures)
+    let put = c .before in
+    let d = put .before .before .before .before .before .before in
+    printed drawingLayer (drawing-is (d .d2 .given .1) (d .before .before .draw-line .ensures)) (put .put-layer .ensures .put)
 
 pub answer-spec : {M : Type 1} → statement M
 answer-spec =
     tie.close
     (tie.spec
-    read-line-requires
-    enum-told
+    draw-line-requires
+    enum-known-d
     number-of-requires
     put-refused-requires
-    enum-known-line
-    answer-order-requires
+    enum-known-d-2
+    cast-end
+    mul-end
+    array-share-prefix-cells
+    slice-aggregate-put-layer
+    slice-aggregate-put-layer-2
+    put-layer-requires
     returns
     returns-2)
