@@ -18,6 +18,7 @@ use grid::cells_values;
 use grid::number_of;
 use grid::panel_of;
 use libc::STDIN_FILENO;
+use std::num::wrapping_add_u32;
 use trial::cells::filled;
 use trial::cells::snake;
 use trial::print::row;
@@ -51,6 +52,9 @@ const WORDS: usize = 72;
 
 // The refusal's number that is printed of a call that was not made.
 const NOT_MADE: u32 = 999;
+
+// More than the files that are tried with one length.
+const OTHER: u32 = 1000000;
 
 // What a call gave, as it is printed.
 struct Seen {
@@ -297,8 +301,8 @@ fn makes(p: Panel, list: &[u8], n: usize, file: &[u8]) -> bool {
     false
 }
 
-// What the reader makes of a file: 0, it is no layer; 1, a list that makes this layer; 2, anything else.
-fn verdict(p: Panel, file: &[u8]) -> usize {
+// What the reader makes of a file: 0, it is no layer; 1, the list that makes this layer; `OTHER`, anything else.
+fn verdict(p: Panel, file: &[u8]) -> u32 {
     let mut list = [FILL; SHORT];
     let a = read_into(p, file, file.len(), &mut list, SHORT);
     if a.refusal == 16 {
@@ -307,26 +311,22 @@ fn verdict(p: Panel, file: &[u8]) -> usize {
     if makes(p, &list, 2 * (a.count as usize), file) {
         1
     } else {
-        2
+        OTHER
     }
 }
 
-fn one_more(tally: &mut [u32], k: usize) {
-    if k < tally.len() {
-        tally[k] = std::num::wrapping_add_u32(tally[k], 1);
-    }
-}
-
-// Every value at one place of a file.
-fn every_value(p: Panel, other: &mut [u8], i: usize, tally: &mut [u32])
+// The verdicts on a file with every value at one place.
+fn every_value(p: Panel, other: &mut [u8], i: usize) -> u32
     requires { ⌜ i < length (now other) ⌝ }
 {
+    let mut n: u32 = 0;
     let mut v: u32 = 0;
     while v < 256 {
         other[i] = (v % 256) as u8;
-        one_more(tally, verdict(p, other));
+        n = wrapping_add_u32(n, verdict(p, other));
         v += 1;
     }
+    n
 }
 
 // Byte i of a file, if it has one, at place i of another.
@@ -338,27 +338,24 @@ fn put_byte(file: &[u8], other: &mut [u8], i: usize)
     }
 }
 
-// Every value at every place of a file, where the byte of another file is left then.
-fn every_place(p: Panel, file: &[u8], other: &mut [u8], tally: &mut [u32]) {
+// The same at every place, where the byte of another file is left then.
+fn every_place(p: Panel, file: &[u8], other: &mut [u8]) -> u32 {
+    let mut n: u32 = 0;
     let mut i = 0;
     while i < other.len() {
-        every_value(p, other, i, tally);
+        n = wrapping_add_u32(n, every_value(p, other, i));
         put_byte(file, other, i);
         i += 1;
     }
+    n
 }
 
-fn verdicts(p: Panel, file: &[u8], other: &mut [u8]) {
-    let mut tally = [0u32; 3];
-    every_place(p, file, other, &mut tally);
-    row(&tally, b"\n");
-}
-
-// The verdicts on such files, which are a part of a buffer.
-fn verdicts_in(p: Panel, file: &[u8], other: &mut [u8], from: usize, end: usize) {
+// The same of a part of a buffer: how many files were layers, and how many were taken for something else.
+fn verdicts(p: Panel, file: &[u8], other: &mut [u8], from: usize, end: usize) {
     if from <= end {
         if end <= other.len() {
-            verdicts(p, file, &mut other[from..end]);
+            let n = every_place(p, file, &mut other[from..end]);
+            row(&[n % OTHER, n / OTHER], b"\n");
         }
     }
 }
@@ -372,9 +369,9 @@ fn every_case(p: Panel, list: &[u8]) {
     let k = s.count as usize;
     let mut other = [FILL; ROOM + 1];
     put(&file, &mut other, 1);
-    verdicts_in(p, &file, &mut other, 0, k + 1);
-    verdicts_in(p, &file, &mut other, 0, k);
-    verdicts_in(p, &file, &mut other, 1, k);
+    verdicts(p, &file, &mut other, 0, k + 1);
+    verdicts(p, &file, &mut other, 0, k);
+    verdicts(p, &file, &mut other, 1, k);
 }
 
 // A decimal digit more. The low half of its byte is its value.

@@ -1,4 +1,4 @@
--- Both buffers keep their length.
+-- A store keeps the file's length.
 use Prim.Native.Nat.{_-_, _≤_}
 use mathlib.Core.Path.{_≡_}
 use lib.ListN.{length}
@@ -7,10 +7,10 @@ use Rattle.gerber_run.proofs.every_value.Statement.{statement}
 use Rattle.gerber_run.proofs.every_value.Tie as tie
 
 abbrev Inv-loop : tie.InvT-loop
-Inv-loop p other₀ i tally₀ v₀ other tally v = (v ≤ 256) × (length other ≡ length other₀) × (length tally ≡ length tally₀)
+Inv-loop p other₀ i n₀ v₀ other n v = (v ≤ 256) × (length other ≡ length other₀)
 
 abbrev μ-loop : tie.MeasureT-loop
-μ-loop p other₀ i tally₀ v₀ other tally v = 256 - v
+μ-loop p other₀ i n₀ v₀ other n v = 256 - v
 
 loop-holds : tie.Need-loop-holds Inv-loop μ-loop
 loop-holds c = search needs
@@ -24,8 +24,8 @@ slice-write-other c = search needs
 verdict-requires : tie.Need-verdict-requires Inv-loop μ-loop
 verdict-requires c κs = search needs
 
-one-more-requires : tie.Need-one-more-requires Inv-loop μ-loop
-one-more-requires c κs = search needs
+wrapping-add-u32-requires : tie.Need-wrapping-add-u32-requires Inv-loop μ-loop
+wrapping-add-u32-requires c κs = search needs
 
 add-v : tie.Need-add-v Inv-loop μ-loop
 add-v c = search needs
@@ -38,9 +38,6 @@ loop-again c = search needs
 
 same-length : tie.Need-same-length Inv-loop μ-loop
 same-length c = search needs
-
-same-length-2 : tie.Need-same-length-2 Inv-loop μ-loop
-same-length-2 c = search needs
 
 returns : tie.Need-returns Inv-loop μ-loop
 returns c = search needs
@@ -55,10 +52,9 @@ every-value-spec =
     cast-other
     slice-write-other
     verdict-requires
-    one-more-requires
+    wrapping-add-u32-requires
     add-v
     loop-less
     loop-again
     same-length
-    same-length-2
     returns)
