@@ -2,8 +2,7 @@
 -- stays. A wrong definition shows here by its numbers.
 use mathlib.Core.Path.{_≡_, refl}
 use mathlib.Core.Bool.{true, false}
-use mathlib.Core.List.{List, [], _∷_}
-use Rattle.grid.specs.declared.Cell.{Cell}
+use mathlib.Core.List.{[], _∷_}
 use Rattle.grid.specs.Panel.{panel, cell}
 use Rattle.text.specs.Ascii.{ascii}
 use Rattle.gerber.specs.Layer.{plotX, plotY, halfPitch, fourDecimals, straight, turnsFrom}

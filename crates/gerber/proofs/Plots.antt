@@ -63,7 +63,8 @@ module _ (p : Panel) (x y : ℕ) where
       (ap (λ (k : ℕ). k * p .pitch * 500) e ∙ omega arith, refl)
 
   -- down by one pitch, on the same column
-  pub next-row : y + 1 ≤ p .height → (plotY p (cell x y) ≡ plotY p (cell x (y + 1)) + p .pitch * 1000) × (plotX p (cell x (y + 1)) ≡ plotX p (cell x y))
+  pub next-row : y + 1 ≤ p .height
+      → (plotY p (cell x y) ≡ plotY p (cell x (y + 1)) + p .pitch * 1000) × (plotX p (cell x (y + 1)) ≡ plotX p (cell x y))
   unfolding plotX plotY
   next-row h =
       let e : 2 * (p .height - y) + 1 ≡ 2 * (p .height - (y + 1)) + 1 + 2 = omega arith in

@@ -238,9 +238,9 @@ module _ (p : Panel) (s : Cell) (file : List ℕ) (next n : ℕ) (size : n ≡ f
       let (l, f, is) = rest in
       let found : foundList (cellsAhead p file t) ≡ l = ap (λ (t : Trace). foundList (cellsAhead p file t)) q ∙ ap foundList f in
       let whole = s ∷ l in
-      let parts : Parts old 0 (bytes (s ∷ [])) (bytes l) (bytes whole) = record { joined = refl; fits = omega (arith, length-bytes l, ap length is) } in
+      let room : 0 + length (bytes whole) ≤ length old = omega (arith, length-bytes l, ap length is) in
       let first = cell-put old 0 s (omega (arith, ap length is)) in
-      let both = put-both old 0 (bytes (s ∷ [])) (bytes l) (parts .fits) in
+      let both = put-both old 0 (bytes (s ∷ [])) (bytes l) room in
       let size : 0 + length (bytes whole) ≡ 2 * length whole = omega (arith, length-bytes whole) in
       h
       ∙ (λ i. put (e i) 2 (bytes (found i)))

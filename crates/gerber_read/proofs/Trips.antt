@@ -94,7 +94,8 @@ pub writes-back : (p : Panel) (file old scratch out : List ℕ) {new : List ℕ}
 writes-back p file old scratch out {new} {k} f digits room =
     let (l, h, list) = taken p old (f .found) (f .gives .answers) (f .buffer) in
     let layer : layerBytes p (bytes l) ≡ file = ap (layerOf p) (cells-bytes l) ∙ h .same in
-    let fits = and-both (le-leb digitRoom (length scratch) digits) (le-leb (length (layerBytes p (bytes l))) (length out) (omega (arith, ap length layer))) in
+    let enough = le-leb (length (layerBytes p (bytes l))) (length out) (omega (arith, ap length layer)) in
+    let fits = and-both (le-leb digitRoom (length scratch) digits) enough in
     let good : checkLayer p (bytes l) scratch out ≡ Good = sym (after-good _ (h .taken) (expect-yes _ _ fits refl)) in
     let (given, is) = made p (bytes l) scratch out good in (
       ap (λ (b : List ℕ). layerAnswer p b scratch out) list ∙ given ∙ ap (λ (b : List ℕ). BytesAnswer.Given (length b)) layer,

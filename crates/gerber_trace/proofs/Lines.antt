@@ -32,7 +32,8 @@ module _ {p : Panel} (g : GoodPanel p) {c : Cell} (o : OnPanel p c) where
 
   centred-back : (r : List ℕ) → cellAnd c r ≡ centred p (plotX p c) (plotY p c) r
   centred-back r =
-      let centre : isCentre p (plotX p c) (plotY p c) c ≡ true = and-both (is-on o) (and-both (eq-eqb (plotX p c) _ refl) (eq-eqb (plotY p c) _ refl)) in
+      let same = and-both (eq-eqb (plotX p c) _ refl) (eq-eqb (plotY p c) _ refl) in
+      let centre : isCentre p (plotX p c) (plotY p c) c ≡ true = and-both (is-on o) same in
       cond-yes _ _ (ap (isCentre p (plotX p c) (plotY p c)) plotted-back ∙ centre) (ap (λ (d : Cell). cellAnd d r) (sym plotted-back))
 
   pub reads-line : (operation r : List ℕ) → cellAnd c r ≡ lineAt p operation (lineTo p operation c r)

@@ -39,7 +39,8 @@ plottable p list e =
 
 module _ {p : Panel} {list s out : List ℕ} where
   -- a refusal that leaves scratch and the buffer as they were
-  refused : {t new : List ℕ} {r : Refusal} → checkLayer p list s out ≡ Check.Refused r → t ≡ s → new ≡ out → WritesLayer p list s t out new (Refused r)
+  refused : {t new : List ℕ} {r : Refusal} → checkLayer p list s out ≡ Check.Refused r → t ≡ s → new ≡ out
+      → WritesLayer p list s t out new (Refused r)
   refused e same-scratch same-buffer = record {
     gives = gives-bytes _ _ (answer-refused Refused _ e);
     buffer = same-buffer ∙ answer-refused (λ r. out) _ e;
@@ -47,7 +48,8 @@ module _ {p : Panel} {list s out : List ℕ} where
   }
 
   -- of the list, whatever the buffers
-  pub list-refused : {t new : List ℕ} {r : Refusal} → checkList p list ≡ Check.Refused r → t ≡ s → new ≡ out → WritesLayer p list s t out new (Refused r)
+  pub list-refused : {t new : List ℕ} {r : Refusal} → checkList p list ≡ Check.Refused r → t ≡ s → new ≡ out
+      → WritesLayer p list s t out new (Refused r)
   list-refused e = refused (sym (after-refused _ e))
 
   module _ (e : checkList p list ≡ Good) where

@@ -10,7 +10,8 @@ use Rattle.grid.specs.Panel.{area}
 use Rattle.grid.specs.Bytes.{bytes}
 use Rattle.text.specs.Put.{put}
 use Rattle.gerber_read.specs.Read.{foundList, cellsAhead}
-use Rattle.gerber_read.proofs.Found.{Written, written-none, written-size, written-all, written-lost, written-ended, written-room, written-next, ahead-on}
+use Rattle.gerber_read.proofs.Found.{ahead-on, Written, written-none, written-size, written-all}
+use Rattle.gerber_read.proofs.Found.{written-lost, written-ended, written-room, written-next}
 use borrow.Author.Needs.{needs}
 use Rattle.gerber_read.proofs.write_ahead.Statement.{statement}
 use Rattle.gerber_read.proofs.write_ahead.Tie as tie

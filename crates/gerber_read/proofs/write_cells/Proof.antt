@@ -35,8 +35,8 @@ returns c =
     let s = first .before .before .before .before in
     let a = s .args in
     let (good, (size, (some, fits))) = s .pre in
-    all-written (a .p) (a .s) (now (a .file)) (a .next) (a .count) size some (now (a .list)) fits (first .put-cell .ensures) (begin .start-at .ensures)
-    (all .write-ahead .ensures)
+    all-written (a .p) (a .s) (now (a .file)) (a .next) (a .count) size some (now (a .list)) fits
+    (first .put-cell .ensures) (begin .start-at .ensures) (all .write-ahead .ensures)
 
 pub write-cells-spec : {M : Type 1} → statement M
 write-cells-spec =

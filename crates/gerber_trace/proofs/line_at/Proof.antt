@@ -49,8 +49,8 @@ module _ (c : tie.After-known-told) where
   pub behind-a : {y : Aim} → y ≡ behindY (begun .args .p) (O begun) (c .before .x .given .0 .0) (drop (c .before .x .given .0 .1 .0) (F begun))
       → y ≡ lineAt (begun .args .p) (O begun) (drop (begun .args .at) (F begun))
   behind-a e =
-      behind-x (x-read .before)
-      (e ∙ reads-on nothing (F begun) (code "Y") (begun .args .at + 1) (behindY (begun .args .p) (O begun)) (x-read .read-field .ensures) (c .before .x .given .1))
+      let on = reads-on nothing (F begun) (code "Y") (begun .args .at + 1) (behindY (begun .args .p) (O begun)) (x-read .read-field .ensures) in
+      behind-x (x-read .before) (e ∙ on (c .before .x .given .1))
 
 -- behind b and D
 module _ (c : tie.After-known-told2) where
@@ -70,8 +70,8 @@ module _ (c : tie.After-known-told2) where
       → y ≡ lineAt (first .args .p) (O first) (drop (first .args .at) (F first))
   behind-b e =
       let a = x-known .before .x .given .0 in
-      behind-a x-known
-      (e ∙ reads-on nothing (F first) (code "D") (a .1 .0) (behindD (first .args .p) (O first) (a .0)) (y-read .read-field2 .ensures) (c .before .y .given .1))
+      let on = reads-on nothing (F first) (code "D") (a .1 .0) (behindD (first .args .p) (O first) (a .0)) (y-read .read-field2 .ensures) in
+      behind-a x-known (e ∙ on (c .before .y .given .1))
 
 has-operation : (c : tie.Else2) → let k = c .before .before in
     begins (O (first k)) (drop (k .before .y .given .0 .1 .0) (F (first k))) ≡ true
@@ -134,7 +134,8 @@ returns-4 : tie.Need-returns-4
 returns-4 c =
     let k = c .before .before in
     let s = first k in
-    behind-b k (behind-no (O s) (F s) (k .before .y .given .0 .1 .0) nothing (centring k) (sym (c .before .text-at2 .ensures) ∙ not-true _ (c .if2 .taken)))
+    let none = sym (c .before .text-at2 .ensures) ∙ not-true _ (c .if2 .taken) in
+    behind-b k (behind-no (O s) (F s) (k .before .y .given .0 .1 .0) nothing (centring k) none)
 
 add-centred : tie.Need-add-centred
 add-centred c =
