@@ -64,7 +64,8 @@ turns-split a b (c ∷ l) = go (straight a b c) refl (turns-split b c l)
     split : Bool → List Cell
     split t = cond t (goal b c l) b ∷ cond t (later b c l) (goal b c l ∷ later b c l)
 
-    go : (t : Bool) → straight a b c ≡ t → turnsFrom b c l ≡ goal b c l ∷ later b c l → turnsFrom a b (c ∷ l) ≡ goal a b (c ∷ l) ∷ later a b (c ∷ l)
+    go : (t : Bool) → straight a b c ≡ t → turnsFrom b c l ≡ goal b c l ∷ later b c l
+        → turnsFrom a b (c ∷ l) ≡ goal a b (c ∷ l) ∷ later a b (c ∷ l)
     go true e f = ap (λ (t : Bool). cond t (turnsFrom b c l) (b ∷ turnsFrom b c l)) e ∙ f ∙ sym (ap split e)
     go false e f = ap (λ (t : Bool). cond t (turnsFrom b c l) (b ∷ turnsFrom b c l)) e ∙ ap (λ (k : List Cell). b ∷ k) f ∙ sym (ap split e)
 

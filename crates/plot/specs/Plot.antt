@@ -19,7 +19,3 @@ drawingLayer (Given p f) track = layerOf p track
 -- the promise for every input
 abbrev pub Plots : List ℕ → List ℕ → List ℕ → ℕ → Type 0
 Plots input old new k = Printed (ChosenFor (lineIn input)) (drawingLayer (drawingOf (lineIn input))) old new k
-
--- bytes enough for the layer of any track
-abbrev pub layerRoom : ℕ
-layerRoom = 442422
