@@ -56,18 +56,16 @@ const NOT_MADE: u32 = 999;
 // More than the files that are tried with one length.
 const OTHER: u32 = 1000000;
 
-// What a call gave, as it is printed.
-struct Seen {
+// The number of the refusal and the bytes or the cells.
+struct Answer {
     refusal: u32,
     count: u32,
-    sum: u32,
-    kept: bool,
 }
 
-fn show(s: Seen) {
+fn show(a: Answer, sum: u32, kept: bool) {
     text(b" | ");
-    row(&[s.refusal, s.count, s.sum], b" ");
-    if s.kept {
+    row(&[a.refusal, a.count, sum], b" ");
+    if kept {
         text(b"kept");
     } else {
         text(b"FAULT");
@@ -105,12 +103,6 @@ fn sum_front(s: &[u8], k: usize) -> u32 {
 // A byte less.
 fn less(k: usize) -> usize {
     if 0 < k { k - 1 } else { 0 }
-}
-
-// The number of the refusal and the bytes or the cells.
-struct Answer {
-    refusal: u32,
-    count: u32,
 }
 
 fn answer_of(a: BytesAnswer) -> Answer {
@@ -174,37 +166,30 @@ fn stays(scratch: &[u8], out: &[u8], k: usize) -> bool {
     same(scratch, &CLEARED)
 }
 
-// Writes so, with all bytes filled before.
-fn write_in(p: Panel, list: &[u8], digits: usize, out: &mut [u8], room: usize) -> Seen {
+// Writes so, with all bytes filled before, and prints what came of it. The bytes written.
+fn write_in(p: Panel, list: &[u8], digits: usize, out: &mut [u8], room: usize) -> usize {
     fill(out);
     let mut scratch = [FILL; SCRATCH];
     let a = write_into(p, list, &mut scratch, digits, out, room);
     let k = a.count as usize;
-    Seen {
-        refusal: a.refusal,
-        count: a.count,
-        sum: sum_front(out, k),
-        kept: stays(&scratch, out, k),
-    }
+    show(a, sum_front(out, k), stays(&scratch, out, k));
+    k
 }
 
-fn read_in(p: Panel, file: &[u8], k: usize, list: &mut [u8], room: usize) -> Seen {
+// The same of reading. The bytes of the list.
+fn read_in(p: Panel, file: &[u8], k: usize, list: &mut [u8], room: usize) -> usize {
     fill(list);
     let a = read_into(p, file, k, list, room);
     let end = 2 * (a.count as usize);
-    Seen {
-        refusal: a.refusal,
-        count: a.count,
-        sum: sum_front(list, end),
-        kept: filled(list, end, FILL),
-    }
+    show(a, sum_front(list, end), filled(list, end, FILL));
+    end
 }
 
 // Writes a layer of k bytes in a byte too few, with a byte too few of scratch, and in just enough of both.
 fn write_closely(p: Panel, list: &[u8], out: &mut [u8], k: usize) {
-    show(write_in(p, list, SCRATCH, out, less(k)));
-    show(write_in(p, list, 9, out, k));
-    show(write_in(p, list, 10, out, k));
+    write_in(p, list, SCRATCH, out, less(k));
+    write_in(p, list, 9, out, k);
+    write_in(p, list, 10, out, k);
     text(b"\n");
 }
 
@@ -212,18 +197,16 @@ fn write_closely(p: Panel, list: &[u8], out: &mut [u8], k: usize) {
 fn write_four(p: Panel, list: &[u8], out: &mut [u8]) -> usize {
     text(b"write");
     let room = out.len();
-    let first = write_in(p, list, SCRATCH, out, room);
-    let k = first.count as usize;
-    show(first);
+    let k = write_in(p, list, SCRATCH, out, room);
     write_closely(p, list, out, k);
     k
 }
 
 // Reads the list of a layer of k bytes into nothing, into a byte too few, and into just enough.
 fn read_closely(p: Panel, file: &[u8], k: usize, list: &mut [u8], end: usize) {
-    show(read_in(p, file, k, list, 0));
-    show(read_in(p, file, k, list, less(end)));
-    show(read_in(p, file, k, list, end));
+    read_in(p, file, k, list, 0);
+    read_in(p, file, k, list, less(end));
+    read_in(p, file, k, list, end);
     text(b"\n");
 }
 
@@ -231,9 +214,8 @@ fn read_closely(p: Panel, file: &[u8], k: usize, list: &mut [u8], end: usize) {
 fn read_four(p: Panel, file: &[u8], k: usize, list: &mut [u8]) {
     text(b"read");
     let room = list.len();
-    let first = read_in(p, file, k, list, room);
-    show(first);
-    read_closely(p, file, k, list, 2 * (first.count as usize));
+    let end = read_in(p, file, k, list, room);
+    read_closely(p, file, k, list, end);
 }
 
 fn print_front(s: &[u8], k: usize) {
@@ -253,19 +235,19 @@ fn layer_case(p: Panel, list: &[u8]) {
 
 fn write_case(p: Panel, list: &[u8], digits: usize, room: usize) {
     let mut out = [FILL; ROOM];
-    show(write_in(p, list, digits, &mut out, room));
+    write_in(p, list, digits, &mut out, room);
     text(b"\n");
 }
 
 // Reads the first k bytes of a file into a buffer, and into none.
 fn read_case(p: Panel, file: &[u8], k: usize) {
     let mut list = [FILL; LIST];
-    show(read_in(p, file, k, &mut list, LIST));
-    show(read_in(p, file, k, &mut list, 0));
+    read_in(p, file, k, &mut list, LIST);
+    read_in(p, file, k, &mut list, 0);
     text(b"\n");
 }
 
-// Puts as much of a text as fits at a place of a file.
+// Puts a text at a place of a file, if it fits.
 fn put(text: &[u8], file: &mut [u8], at: usize) {
     if at <= file.len() {
         if text.len() <= file.len() - at {
@@ -291,12 +273,18 @@ fn front_is(s: &[u8], k: usize, file: &[u8]) -> bool {
     }
 }
 
+// Writes with room enough.
+fn write_roomy(p: Panel, list: &[u8], out: &mut [u8]) -> Answer {
+    let mut scratch = [FILL; SCRATCH];
+    write_into(p, list, &mut scratch, SCRATCH, out, out.len())
+}
+
 // Whether the layer of the first n bytes of a list is this file.
 fn makes(p: Panel, list: &[u8], n: usize, file: &[u8]) -> bool {
     if n <= list.len() {
         let mut out = [FILL; ROOM];
-        let s = write_in(p, &list[0..n], SCRATCH, &mut out, ROOM);
-        return front_is(&out, s.count as usize, file);
+        let a = write_roomy(p, &list[0..n], &mut out);
+        return front_is(&out, a.count as usize, file);
     }
     false
 }
@@ -365,8 +353,8 @@ fn verdicts(p: Panel, file: &[u8], other: &mut [u8], from: usize, end: usize) {
 fn every_case(p: Panel, list: &[u8]) {
     text(b"\n");
     let mut file = [FILL; ROOM];
-    let s = write_in(p, list, SCRATCH, &mut file, ROOM);
-    let k = s.count as usize;
+    let a = write_roomy(p, list, &mut file);
+    let k = a.count as usize;
     let mut other = [FILL; ROOM + 1];
     put(&file, &mut other, 1);
     verdicts(p, &file, &mut other, 0, k + 1);
@@ -520,7 +508,7 @@ fn large_case(list: &[u8]) {
     read_four(p, &out, k, &mut back);
 }
 
-// The longest lists: with the fewest lines, and with the most.
+// The longest lists, with the fewest lines and with the most, and one that is a cell longer.
 fn largest() {
     let mut list = [0u8; 32768];
     text(b"128 by 128, row by row\n");
@@ -529,6 +517,10 @@ fn largest() {
     text(b"128 by 128, a turn at every cell\n");
     round(&mut list);
     large_case(&list);
+    let mut longer = [0u8; 32770];
+    text(b"128 by 128, a cell too many\n");
+    round(&mut longer);
+    large_case(&longer);
 }
 
 fn main() {
