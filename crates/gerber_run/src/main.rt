@@ -1,13 +1,15 @@
 // Tries the writer and the reader of a Gerber layer on the cases of standard input, then on the largest lists.
 //
 // A line of the input with a colon is a case: behind the colon stands what is done, then numbers.
-//   layer m n pitch x y ..               a list is written and read back, with more room than needed, as much, and less
+//   layer m n pitch x y ..               a list is written and read back, each with room to spare and little
 //   write m n pitch room digits x y ..   a list is written in so many bytes of the buffer and of scratch
 //   read m n pitch                       the lines up to the next # are read, into a buffer and into none
-//   body m n pitch                       the same behind a head of pitch 4000
+//   body m n pitch                       the same behind a good head of pitch 4000
 //   every m n pitch x y ..               the layer of a list is read with each of its bytes changed
-// Other lines are headings. Of each call four words are printed: the refusal's number (0: none), the bytes or the
-// cells, a checksum of what was put, and `kept` if every other byte that was lent is as promised, else `FAULT`.
+// Other lines are headings. Of a call four words are printed: the refusal's number (0: none), the bytes or
+// the cells, a checksum of what was put, and `kept` if every other byte that was lent is as promised, else
+// `FAULT`. Of each kind of change two numbers: the files that are layers, and make the same layer again, and
+// those that are taken for anything but a layer or none.
 use bytes::scan::find;
 use check::same;
 use gerber_read::read_layer;
@@ -289,7 +291,7 @@ fn makes(p: Panel, list: &[u8], n: usize, file: &[u8]) -> bool {
     false
 }
 
-// What the reader makes of a file: 0, it is no layer; 1, the list that makes this layer; `OTHER`, anything else.
+// What the reader makes of a file: 0, no layer; 1, a list that makes this layer again; `OTHER`, anything else.
 fn verdict(p: Panel, file: &[u8]) -> u32 {
     let mut list = [FILL; SHORT];
     let a = read_into(p, file, file.len(), &mut list, SHORT);
@@ -338,7 +340,7 @@ fn every_place(p: Panel, file: &[u8], other: &mut [u8]) -> u32 {
     n
 }
 
-// The same of a part of a buffer: how many files were layers, and how many were taken for something else.
+// The same of a part of a buffer, with the two numbers that are printed.
 fn verdicts(p: Panel, file: &[u8], other: &mut [u8], from: usize, end: usize) {
     if from <= end {
         if end <= other.len() {
@@ -348,18 +350,24 @@ fn verdicts(p: Panel, file: &[u8], other: &mut [u8], from: usize, end: usize) {
     }
 }
 
-// Every value put in at every place, with which each byte is doubled too; in place of every byte; in place of
-// every two, with which each byte is removed too. A pass leaves the layer where the next one takes it.
+// Of a file of k bytes, which stands in a buffer from 1 on: every value put in at every place, with which each
+// byte is doubled too; in place of every byte; in place of every two, with which each byte is removed too. Each
+// leaves the file where the next one takes it.
+fn three_verdicts(p: Panel, file: &[u8], k: usize, other: &mut [u8]) {
+    if k < other.len() {
+        verdicts(p, file, other, 0, k + 1);
+        verdicts(p, file, other, 0, k);
+        verdicts(p, file, other, 1, k);
+    }
+}
+
 fn every_case(p: Panel, list: &[u8]) {
     text(b"\n");
     let mut file = [FILL; ROOM];
     let a = write_roomy(p, list, &mut file);
-    let k = a.count as usize;
     let mut other = [FILL; ROOM + 1];
     put(&file, &mut other, 1);
-    verdicts(p, &file, &mut other, 0, k + 1);
-    verdicts(p, &file, &mut other, 0, k);
-    verdicts(p, &file, &mut other, 1, k);
+    three_verdicts(p, &file, a.count as usize, &mut other);
 }
 
 // A decimal digit more. The low half of its byte is its value.
