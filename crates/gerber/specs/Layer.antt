@@ -1,4 +1,4 @@
--- Document 02, R-2: a list of cells as one layer in the Gerber Layer Format, line by line. A cell's centre is in nanometres: millimetres
+-- Document 02, R-2: a list of cells as one layer in the Gerber Layer Format (RS-274X), line by line. A cell's centre is in nanometres: millimetres
 -- with six decimals, as the first line says.
 use Prim.Native.Nat.{ℕ, _+_, _-_, _*_, _/_, _%_}
 use Prim.Native.Char.{code}
