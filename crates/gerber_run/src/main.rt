@@ -220,6 +220,13 @@ fn read_four(p: Panel, file: &[u8], k: usize, list: &mut [u8]) {
     read_closely(p, file, k, list, end);
 }
 
+// A list there and back. The bytes of its layer.
+fn both_ways(p: Panel, list: &[u8], out: &mut [u8], back: &mut [u8]) -> usize {
+    let k = write_four(p, list, out);
+    read_four(p, out, k, back);
+    k
+}
+
 fn print_front(s: &[u8], k: usize) {
     if k <= s.len() {
         text(&s[0..k]);
@@ -229,9 +236,8 @@ fn print_front(s: &[u8], k: usize) {
 fn layer_case(p: Panel, list: &[u8]) {
     text(b"\n");
     let mut out = [FILL; ROOM];
-    let k = write_four(p, list, &mut out);
     let mut back = [FILL; LIST];
-    read_four(p, &out, k, &mut back);
+    let k = both_ways(p, list, &mut out, &mut back);
     print_front(&out, k);
 }
 
@@ -509,11 +515,9 @@ fn round(list: &mut [u8]) {
 }
 
 fn large_case(list: &[u8]) {
-    let p = panel_of(128, 128, 10000);
     let mut out = [FILL; 442500];
-    let k = write_four(p, list, &mut out);
     let mut back = [FILL; 32800];
-    read_four(p, &out, k, &mut back);
+    both_ways(panel_of(128, 128, 10000), list, &mut out, &mut back);
 }
 
 // The longest lists, with the fewest lines and with the most, and one that is a cell longer.
