@@ -1,6 +1,6 @@
 -- How a test in the code decides a definition: one law for each way that a definition goes by cases.
 -- Each takes what the test showed, so that an answer to `returns` is read off the branches on the way to it.
-use mathlib.Core.Path.{_≡_, refl, subst⁻¹}
+use mathlib.Core.Path.{_≡_, refl, sym, ap, subst⁻¹, _∙_}
 use mathlib.Core.Bool.{Bool, true, false, cond, _&&_, _||_}
 use Rattle.grid.specs.declared.Refusal.{Refusal}
 use Rattle.grid.specs.declared.Check.{Check}
@@ -48,3 +48,11 @@ after-good k {z} e f = subst⁻¹ (λ (c : Check). z ≡ after c k) e f
 
 pub after-refused : {c : Check} {r : Refusal} (k : Check) → c ≡ Refused r → Refused r ≡ after c k
 after-refused {r = r} k e = subst⁻¹ (λ (c : Check). Refused r ≡ after c k) e refl
+
+-- one turn of a loop that tests each place: where the tests from a place on amount to a, a failed one says that a is false, and a passed
+-- one is taken away
+pub turn-failed : {w a : Bool} (t k : Bool) → w ≡ (t && k) → w ≡ a → t ≡ false → false ≡ a
+turn-failed t k u e f = sym (ap (λ (b : Bool). b && k) f) ∙ sym u ∙ e
+
+pub turn-passed : {w a : Bool} (t k : Bool) → w ≡ (t && k) → w ≡ a → t ≡ true → k ≡ a
+turn-passed t k u e f = sym (ap (λ (b : Bool). b && k) f) ∙ sym u ∙ e

@@ -1,6 +1,6 @@
 -- The cells that bytes hold, read from a byte on: the next cell and those behind it, or none where no two bytes are left; how many there
--- are; and what goes by each two successive cells, as the steps do and the letters of a record.
-use Prim.Native.Nat.{ℕ, suc, _+_, _/_, _≤_, _<_}
+-- are, and that an even number of bytes is its cells; and what goes by each two successive cells, as the steps do and the letters of a record.
+use Prim.Native.Nat.{ℕ, suc, _+_, _/_, _%_, _≤_, _<_}
 use native.Mathlib.Numerals.{add-one, add-two}
 use native.Mathlib.Omega.{arith}
 use mathlib.Core.Path.{_≡_, refl, sym, ap, _∙_}
@@ -8,7 +8,7 @@ use mathlib.Core.List.{List, [], _∷_}
 use lib.ListN.{length, drop, getD, length-drop}
 use lib.Seq.{drop-cons}
 use Rattle.grid.specs.declared.Cell.{Cell}
-use Rattle.grid.specs.Bytes.{cellsIn}
+use Rattle.grid.specs.Bytes.{bytes, cellsIn}
 use Rattle.list.specs.List.{cellAt}
 
 pub cells-next : (b : List ℕ) (i : ℕ) → i + 1 < length b → cellsIn (drop i b) ≡ cellAt b i ∷ cellsIn (drop (i + 2) b)
@@ -29,6 +29,12 @@ pub length-cells : (b : List ℕ) → length (cellsIn b) ≡ length b / 2
 length-cells [] = refl
 length-cells (x ∷ []) = refl
 length-cells (x ∷ y ∷ b) = let e = length-cells b in omega arith
+
+-- an even number of bytes is its cells
+pub bytes-cells : (b : List ℕ) → length b % 2 ≡ 0 → bytes (cellsIn b) ≡ b
+bytes-cells [] e = refl
+bytes-cells (x ∷ []) e = absurd (omega arith)
+bytes-cells (x ∷ y ∷ b) e = ap (λ (k : List ℕ). x ∷ y ∷ k) (bytes-cells b (omega arith))
 
 -- of what goes by each two successive cells: the first two of the cells from i, and the rest
 pub pairs-more {ℓ} : {X : Type ℓ} (F : List Cell → X) (G : Cell → Cell → X → X)

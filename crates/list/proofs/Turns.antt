@@ -1,9 +1,8 @@
 -- One turn of each loop over the list: the test of the cell at a byte comes before the tests of the cells behind it, and at the end no
--- test is left. Where the tests from a byte on amount to a, a failed one says that a is false, and a passed one is taken away.
+-- test is left.
 use Prim.Native.Nat.{ℕ, _+_, _≤_, _<_}
-use native.Mathlib.Omega.{arith}
-use mathlib.Core.Path.{_≡_, refl, sym, ap, _∙_}
-use mathlib.Core.Bool.{Bool, true, false, _&&_}
+use mathlib.Core.Path.{_≡_, refl, ap}
+use mathlib.Core.Bool.{true, _&&_}
 use mathlib.Core.List.{List}
 use lib.ListN.{length, drop}
 use Rattle.grid.specs.declared.Panel.{Panel}
@@ -11,12 +10,6 @@ use Rattle.grid.specs.Panel.{onPanel, neighbours}
 use Rattle.grid.specs.Bytes.{cellsIn}
 use Rattle.list.specs.List.{allOn, allSteps, cellAt}
 use Rattle.list.proofs.Cells.{cells-next, cells-end, pairs-more, pairs-end}
-
-pub turn-failed : {w a : Bool} (t k : Bool) → w ≡ (t && k) → w ≡ a → t ≡ false → false ≡ a
-turn-failed t k u e f = sym (ap (λ (b : Bool). b && k) f) ∙ sym u ∙ e
-
-pub turn-passed : {w a : Bool} (t k : Bool) → w ≡ (t && k) → w ≡ a → t ≡ true → k ≡ a
-turn-passed t k u e f = sym (ap (λ (b : Bool). b && k) f) ∙ sym u ∙ e
 
 module _ (b : List ℕ) (i : ℕ) where
   module _ (p : Panel) where

@@ -1,12 +1,13 @@
--- Document 01: what is tested of a list of cells, each test over the whole list; the cell at a byte; the squares.
-use Prim.Native.Nat.{ℕ, _+_, _%_}
+-- Document 01: what is tested of a list of cells, each test over the whole list; the cell at a byte; the squares; a list put into a buffer.
+use Prim.Native.Nat.{ℕ, _+_, _*_, _%_}
 use mathlib.Core.Bool.{Bool, true, false, not, _&&_, _||_}
-use mathlib.Core.List.{List, [], _∷_}
+use mathlib.Core.List.{List, [], _∷_, _++_}
 use lib.Dec.{leb, eqb}
-use lib.ListN.{getD}
+use lib.ListN.{length, drop, getD}
 use Rattle.grid.specs.declared.Panel.{Panel}
 use Rattle.grid.specs.declared.Cell.{Cell}
 use Rattle.grid.specs.Panel.{cell, onPanel, sameCell, neighbours}
+use Rattle.grid.specs.Bytes.{bytes}
 
 -- the cell whose x stands at a byte of a list
 abbrev pub cellAt : List ℕ → ℕ → Cell
@@ -55,3 +56,7 @@ runs s t (c ∷ l) = sameCell c s && sameCell (lastFrom c l) t
 abbrev pub squares : List Cell → ℕ
 squares [] = 0
 squares (c ∷ l) = 100 + squares l
+
+-- a buffer with a list of cells at its front, the bytes behind as they were
+abbrev pub withCells : List Cell → List ℕ → List ℕ
+withCells l out = bytes l ++ drop (2 * length l) out

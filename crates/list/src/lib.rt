@@ -9,8 +9,8 @@ use grid::check_panel;
 use grid::distance;
 ghost use mathlib.Core.Path.{_≡_};
 ghost use Prim.Native.Nat.{_+_, _<_, _≤_};
-ghost use lib.ListN.{length, getD};
-ghost use Rattle.grid.specs.Panel.{onPanel, neighbours};
+ghost use lib.ListN.{length, getD, set};
+ghost use Rattle.grid.specs.Panel.{maxSide, neighbours};
 ghost use Rattle.grid.specs.Bytes.{cellsIn};
 ghost use Rattle.list.specs.List.{cellAt, wholeCells, allOn, allSteps, squares};
 ghost use Rattle.list.specs.Check.{checkWalk, goodCount, checkList};
@@ -31,6 +31,15 @@ pub fn cell_at(list: &[u8], i: usize) -> Cell
         x: byte_at(list, i),
         y: byte_at(list, i + 1),
     }
+}
+
+// A cell in two bytes from i on.
+pub fn put_cell(list: &mut [u8], i: usize, c: Cell)
+    requires { ⌜ (c .x ≤ maxSide) × (c .y ≤ maxSide) × (i + 1 < length (now list)) ⌝ }
+    ensures { λ _. ⌜ now (list .exit) ≡ set (set (now (list .entry)) i (c .x)) (i + 1) (c .y) ⌝ }
+{
+    list[i] = c.x as u8;
+    list[i + 1] = c.y as u8;
 }
 
 // Whether so many bytes hold cells and nothing else: not empty, and two bytes for each cell.

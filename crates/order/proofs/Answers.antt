@@ -1,80 +1,146 @@
 -- An order that is not refused, the track drawn for it, and the promise put together.
-use Prim.Native.Nat.{ℕ, _*_, _≤_}
+use Prim.Native.Nat.{ℕ, _+_, _*_, _≤_}
 use mathlib.Core.Path.{_≡_, refl, sym, ap, subst, _∙_}
 use mathlib.Core.List.{List, _++_}
 use native.Mathlib.Omega.{arith}
 use native.Mathlib.Nat.{zero-add}
-use lib.ListN.{length, drop, length-append}
+use lib.ListN.{length, take, drop, length-append, take-append-drop}
+use lib.Seq.{length-take-le}
 use borrow.Author.Tests.{le-leb}
 use Rattle.grid.specs.declared.Panel.{Panel}
 use Rattle.grid.specs.declared.Cell.{Cell}
 use Rattle.grid.specs.declared.Check.the-variants.{Good}
 use Rattle.grid.specs.declared.CellsAnswer.{CellsAnswer}
 use Rattle.grid.specs.declared.CellsAnswer.the-variants as cells
+use Rattle.grid.specs.Panel.{GoodPanel, OnPanel}
+use Rattle.grid.specs.Track.{All}
 use Rattle.grid.specs.Bytes.{front}
 use Rattle.grid.specs.Check.{checkOrder}
 use Rattle.grid.proofs.Answers.{behind-good}
 use Rattle.grid.proofs.Facts.{clash, area-small}
-use Rattle.grid.proofs.Passed.{good-order}
+use Rattle.grid.proofs.Passed.{GoodOrder, good-order}
 use Rattle.grid.proofs.Tests.{expect-yes, after-good, answer-good}
 use Rattle.count.specs.declared.ClassCount.{ClassCount}
 use Rattle.count.specs.Count.{classCount, count}
 use Rattle.count.proofs.Laws.{bounds}
+use Rattle.list.proofs.Cells.{length-cells}
 use Rattle.bound.specs.declared.BoundAnswer.{BoundAnswer}
-use Rattle.bound.specs.declared.BoundAnswer.the-variants.{Refused, Given}
+use Rattle.bound.specs.declared.BoundAnswer.the-variants as bound
 use Rattle.bound.specs.Bound.{boundOf}
 use Rattle.draw.specs.Draw.{drawCheck, LongestAtFront, Leaves, Draws}
 use Rattle.text.specs.Put.{put, Put}
 use Rattle.order.specs.declared.Line.{Line}
-use Rattle.order.specs.Order.{textOf, Longest, ChosenFor, Printed, AnswersBound}
+use Rattle.order.specs.declared.Line.the-variants.{Other, Order}
+use Rattle.order.specs.declared.Drawing.{Drawing}
+use Rattle.order.specs.declared.Drawing.the-variants.{Given}
+use Rattle.order.specs.Order.{boundDrawing, drawingOf, Longest, Chosen, ChosenFor, drawnCells, DrawsLine, Printed}
 
--- ---- what Bound gives
+-- ---- an order
 
--- where Bound gives class and count, the order is good and they are its own
-pub given-good : (p : Panel) (s t : Cell) (f : ClassCount) → boundOf p s t ≡ Given f → (checkOrder p s t ≡ Good) × (f ≡ classCount p s t)
-given-good p s t f e =
-    let (g, h) = behind-good (checkOrder p s t) Refused (Given (classCount p s t)) (Given f) (λ r q. clash (cc)) e in
-    (g, (cc))
+-- what Bound answers, and the track chosen by it
+pub draws-bound : (p : Panel) (s t : Cell) (b : BoundAnswer) {buffer : List ℕ} → boundOf p s t ≡ b
+    → Chosen b p s t (front (drawnCells (boundDrawing p b)) buffer) → DrawsLine (Order p s t) (boundDrawing p b) buffer
+draws-bound p s t b {buffer} e h = record {
+  answers = ap (boundDrawing p) (sym e);
+  chosen = subst (λ (d : BoundAnswer). Chosen d p s t (front (drawnCells (boundDrawing p b)) buffer)) (sym e) h;
+}
 
--- ---- a drawn track
+-- where Bound gives class and count
+module _ (p : Panel) (s t : Cell) (f : ClassCount) (e : boundOf p s t ≡ bound.Given f) where
+  abbrev n : ℕ
+  n = f .count .0
 
-module _ (p : Panel) (s t : Cell) (q : checkOrder p s t ≡ Good) (n : ℕ) (e : n ≡ count p s t) where
-  pub count-bounds : (2 ≤ n) × (n ≤ 16384)
+  -- the order is good, and they are its own
+  given-good : (checkOrder p s t ≡ Good) × (classCount p s t ≡ f)
+  given-good =
+      let (g, h) = behind-good (checkOrder p s t) bound.Refused (bound.Given (classCount p s t)) (bound.Given f) (λ r q. clash (cc)) e in
+      (g, (cc))
+
+  ready : GoodOrder p s t
+  ready = good-order p s t (given-good .0)
+
+  counted : count p s t ≡ n
+  counted = ap (λ (f : ClassCount). f .count .0) (given-good .1)
+
+  count-bounds : (2 ≤ n) × (n ≤ 16384)
   count-bounds =
-      let o = good-order p s t q in
-      let (some, few) = bounds p s t (o .entry) (o .exit) (o .differ) in
-      (omega arith, omega (arith, area-small (o .panel .sides)))
+      let (some, few) = bounds p s t (ready .entry) (ready .exit) (ready .differ) in
+      (omega (arith, counted), omega (arith, counted, area-small (ready .panel .sides)))
 
-  module _ {old new : List ℕ} (size : 32768 ≡ length old) {r : CellsAnswer} (d : Draws p s t old new r) where
-    drawn : r ≡ cells.Given (record { 0 = n })
-    drawn =
-        let room = le-leb (2 * count p s t) (length old) (omega (arith, count-bounds)) in
-        let passed : drawCheck p s t (length old) ≡ Good = sym (after-good _ q (expect-yes _ _ room refl)) in
-        d .gives .answers ∙ sym (answer-good _ _ passed refl) ∙ ap (λ (k : ℕ). cells.Given (record { 0 = k })) (sym e)
+  -- Draw leaves a longest track in a buffer for the cells of any track
+  module _ {old new : List ℕ} {r : CellsAnswer} (size : length old ≡ 32768) (d : Draws p s t old new r) where
+    answered : r ≡ cells.Given (record { 0 = n })
+    answered =
+        let room = le-leb (2 * count p s t) (length old) (omega (arith, counted, count-bounds)) in
+        let passed : drawCheck p s t (length old) ≡ Good = sym (after-good _ (given-good .0) (expect-yes _ _ room refl)) in
+        d .gives .answers ∙ sym (answer-good _ _ passed refl) ∙ ap (λ (k : ℕ). cells.Given (record { 0 = k })) counted
 
-    pub longest : Longest p s t n (front n new)
-    longest =
-        let f : LongestAtFront p s t n old new = subst (Leaves p s t old new) drawn (d .leaves) in
-        record { size = f .size; track = f .track; none-longer = f .none-longer }
+    pub draws-given : DrawsLine (Order p s t) (Given p f) new
+    draws-given =
+        let left : LongestAtFront p s t n old new = subst (Leaves p s t old new) answered (d .leaves) in
+        draws-bound p s t (bound.Given f) e (record { size = left .size; track = left .track; none-longer = left .none-longer })
+
+-- ---- the track drawn for a line
+
+-- what both texts ask: n cells of a good panel at the front of a buffer
+pub record Drawn (p : Panel) (n : ℕ) (buffer : List ℕ) : Type 0 where
+  pub panel : GoodPanel p
+  pub on : All (OnPanel p) (front n buffer)
+  pub size : length (front n buffer) ≡ n
+  pub some : 2 ≤ n
+  pub few : n ≤ 16384
+  pub fits : 2 * n ≤ length buffer
+  pub lent : length (take (2 * n) buffer) ≡ 2 * n
+
+-- a drawing that is given comes of an answer of Bound that is
+is-given : {p : Panel} {f : ClassCount} (q : Panel) (b : BoundAnswer) → boundDrawing q b ≡ Given p f → (q ≡ p) × (b ≡ bound.Given f)
+is-given q (bound.Refused r) e = clash (cc)
+is-given q (bound.Given g) e = (cc, cc)
+
+-- what is drawn for a line is one; its buffer is long enough, for so many cells are read from its front
+pub drawn : (line : Line) {p : Panel} {f : ClassCount} {buffer : List ℕ} → DrawsLine line (Given p f) buffer → Drawn p (f .count .0) buffer
+drawn Other h = clash (cc (h .answers))
+drawn (Order q s t) {f = f} {buffer} h =
+    let n = f .count .0 in
+    let (same, e) = is-given q (boundOf q s t) (sym (h .answers)) in
+    let longest : Longest q s t n (front n buffer) = subst (λ (b : BoundAnswer). Chosen b q s t (front n buffer)) e (h .chosen) in
+    let (some, few) = count-bounds q s t f e in
+    let list = take (2 * n) buffer in
+    let behind = drop (2 * n) buffer in
+    let whole : length list + length behind ≡ length buffer = sym (length-append list behind) ∙ ap length (take-append-drop (2 * n) buffer) in
+    let fits : 2 * n ≤ length buffer = omega (arith, longest .size, length-cells list, whole) in
+    subst (λ (p : Panel). Drawn p n buffer) same (record {
+      panel = ready q s t f e .panel;
+      on = longest .track .within;
+      size = longest .size;
+      some = some;
+      few = few;
+      fits = fits;
+      lent = length-take-le (2 * n) buffer fits;
+    })
 
 -- ---- the promise
 
+-- an equal line, and an equal answer
+pub line-is : {x y : Line} {d : Drawing} {buffer : List ℕ} → x ≡ y → DrawsLine x d buffer → DrawsLine y d buffer
+line-is {d = d} {buffer} e h = subst (λ (x : Line). DrawsLine x d buffer) e h
+
+pub drawing-is : {line : Line} {d e : Drawing} {buffer : List ℕ} → d ≡ e → DrawsLine line d buffer → DrawsLine line e buffer
+drawing-is {line} {buffer = buffer} q h = subst (λ (d : Drawing). DrawsLine line d buffer) q h
+
 module _ {old new : List ℕ} {k : ℕ} where
-  pub printed : {Choice : List Cell → Type 0} (text : List Cell → List ℕ) (l : List Cell) → Choice l → Put old 0 (text l) new k
-      → Printed Choice text old new k
+  -- the text of what the line came to is put, for the track drawn, whatever text goes by it
+  pub printed : (text : Drawing → List Cell → List ℕ) {line : Line} {d : Drawing} {buffer : List ℕ} → DrawsLine line d buffer
+      → Put old 0 (text d (front (drawnCells d) buffer)) new k → Printed (ChosenFor line) (text (drawingOf line)) old new k
   unfolding put
-  printed text l h f = record {
-    track = l;
-    chosen = h;
-    bytes = f .bytes ∙ ap (λ (n : ℕ). text l ++ drop n old) (sym (f .end));
-    size = f .end ∙ zero-add (length (text l));
-  }
-
-  pub bound-is : {b d : BoundAnswer} (p : Panel) (s t : Cell) → b ≡ d → AnswersBound b p s t old new k → AnswersBound d p s t old new k
-  bound-is p s t e f = subst (λ (b : BoundAnswer). AnswersBound b p s t old new k) e f
-
-  pub line-is : {x y : Line} → x ≡ y → Printed (ChosenFor x) (textOf x) old new k → Printed (ChosenFor y) (textOf y) old new k
-  line-is e f = subst (λ (x : Line). Printed (ChosenFor x) (textOf x) old new k) e f
+  printed text {line} {d} {buffer} h f =
+      let track = front (drawnCells d) buffer in
+      subst (λ (d : Drawing). Printed (ChosenFor line) (text d) old new k) (h .answers) (record {
+        track = track;
+        chosen = h .chosen;
+        bytes = f .bytes ∙ ap (λ (n : ℕ). text d track ++ drop n old) (sym (f .end));
+        size = f .end ∙ zero-add (length (text d track));
+      })
 
   -- the text is within the buffer
   pub within : {Choice : List Cell → Type 0} {text : List Cell → List ℕ} → Printed Choice text old new k → k ≤ length new

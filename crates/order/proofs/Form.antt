@@ -1,19 +1,16 @@
 -- Reading and the form agree: `lineIn` gives an order exactly if the input begins with the order's line (`reads-line`, `is-line`).
 use Prim.Native.Nat.{ℕ, _≤_}
 use mathlib.Core.Path.{_≡_, refl, sym, ap, subst₃, _∙_}
-use mathlib.Core.Bool.{false}
 use mathlib.Core.List.{List}
 use Rattle.grid.specs.declared.Panel.{Panel}
 use Rattle.grid.specs.declared.Cell.{Cell}
 use Rattle.grid.specs.Panel.{panel, cell}
 use Rattle.grid.proofs.Facts.{clash}
-use Rattle.text.specs.Decimal.{isDigit}
-use Rattle.text.specs.Field.{blank, lineFeed, largestNumber, fieldOf, Parsed, field}
-use Rattle.text.specs.Field.Parsed.{nothing, value}
-use Rattle.text.proofs.Numbers.{reads-field, field-read}
+use Rattle.text.specs.Field.{blank, lineFeed, largestNumber, fieldOf, field, andThen}
+use Rattle.text.proofs.Numbers.{reads-next, Begins, goes-on}
 use Rattle.order.specs.declared.Line.{Line}
-use Rattle.order.specs.declared.Line.the-variants.{Order}
-use Rattle.order.specs.Line.{lineOf, andThen, lineIn}
+use Rattle.order.specs.declared.Line.the-variants.{Other, Order}
+use Rattle.order.specs.Line.{lineOf, lineIn}
 
 -- the seven numbers of an order are not too large
 pub record NotTooLarge (p : Panel) (s t : Cell) : Type 0 where
@@ -27,11 +24,6 @@ pub record NotTooLarge (p : Panel) (s t : Cell) : Type 0 where
 
 -- ---- what is written is read
 
--- one number of the line, and what is read behind it
-next : (n e : ℕ) (l : List ℕ) (k : ℕ → List ℕ → Line) {z : Line} → isDigit e ≡ false → n ≤ largestNumber
-    → z ≡ k n l → z ≡ andThen (field e (fieldOf n e l)) k
-next n e l k q h f = f ∙ ap (λ (r : Parsed). andThen r k) (reads-field n e l q h)
-
 -- every order's line is read as the order, whatever is behind it
 pub reads-line : (p : Panel) (s t : Cell) (rest : List ℕ) → NotTooLarge p s t → lineIn (lineOf p s t rest) ≡ Order p s t
 reads-line p s t rest h =
@@ -42,38 +34,21 @@ reads-line p s t rest h =
     let from-sx = fieldOf (s .x) blank from-sy in
     let from-n = fieldOf (p .height) blank from-sx in
     let read : Order p s t ≡ lineIn (lineOf p s t rest) =
-    next (p .width) blank from-n _ refl (h .width)
-    (next (p .height) blank from-sx _ refl (h .height)
-    (next (s .x) blank from-sy _ refl (h .sx)
-    (next (s .y) blank from-tx _ refl (h .sy)
-    (next (t .x) blank from-ty _ refl (h .tx)
-    (next (t .y) blank from-q _ refl (h .ty)
-    (next (p .pitch) lineFeed rest _ refl (h .pitch) refl)))))) in
+    reads-next Other (p .width) blank from-n _ refl (h .width)
+    (reads-next Other (p .height) blank from-sx _ refl (h .height)
+    (reads-next Other (s .x) blank from-sy _ refl (h .sx)
+    (reads-next Other (s .y) blank from-tx _ refl (h .sy)
+    (reads-next Other (t .x) blank from-ty _ refl (h .tx)
+    (reads-next Other (t .y) blank from-q _ refl (h .ty)
+    (reads-next Other (p .pitch) lineFeed rest _ refl (h .pitch) refl)))))) in
     sym read
 
 -- ---- what is read is written so
 
--- bytes begin with a number that is not too large and the byte e, and reading goes on behind it to z
-record Begins (e : ℕ) (l : List ℕ) (k : ℕ → List ℕ → Line) (z : Line) : Type 0 where
-  number : ℕ
-  rest : List ℕ
-  bytes : l ≡ fieldOf number e rest
-  small : number ≤ largestNumber
-  on : k number rest ≡ z
-
 -- reading that goes on to an order has read a number
-goes-on : (e : ℕ) (l : List ℕ) (k : ℕ → List ℕ → Line) {p : Panel} {s t : Cell} → andThen (field e l) k ≡ Order p s t
+order-on : (e : ℕ) (l : List ℕ) (k : ℕ → List ℕ → Line) {p : Panel} {s t : Cell} → andThen Other (field e l) k ≡ Order p s t
     → Begins e l k (Order p s t)
-goes-on e l k {p} {s} {t} q = go (field e l) refl
-  where
-    read : {f : Parsed} → field e l ≡ f → andThen f k ≡ Order p s t
-    read f = ap (λ (x : Parsed). andThen x k) (sym f) ∙ q
-
-    go : (f : Parsed) → field e l ≡ f → Begins e l k (Order p s t)
-    go nothing f = let c = read f in clash (cc)
-    go (value n r) f =
-        let w = field-read e l n r f in
-        record { number = n; rest = r; bytes = w .0; small = w .1; on = read f }
+order-on e l k q = goes-on Other e l k (λ z. clash (cc)) q
 
 -- equal orders have equal parts
 same-parts : {p q : Panel} {s t u v : Cell} → Order p s t ≡ Order q u v → (p ≡ q) × (s ≡ u) × (t ≡ v)
@@ -82,13 +57,13 @@ same-parts e = (cc, cc, cc)
 -- an input that is read as an order begins with the order's line, and its numbers are not too large
 pub is-line : (l : List ℕ) (p : Panel) (s t : Cell) → lineIn l ≡ Order p s t → (rest : List ℕ) × (l ≡ lineOf p s t rest) × NotTooLarge p s t
 is-line l p s t e =
-    let m = goes-on blank l _ e in
-    let n = goes-on blank (m .rest) _ (m .on) in
-    let sx = goes-on blank (n .rest) _ (n .on) in
-    let sy = goes-on blank (sx .rest) _ (sx .on) in
-    let tx = goes-on blank (sy .rest) _ (sy .on) in
-    let ty = goes-on blank (tx .rest) _ (tx .on) in
-    let q = goes-on lineFeed (ty .rest) _ (ty .on) in
+    let m = order-on blank l _ e in
+    let n = order-on blank (m .rest) _ (m .on) in
+    let sx = order-on blank (n .rest) _ (n .on) in
+    let sy = order-on blank (sx .rest) _ (sx .on) in
+    let tx = order-on blank (sy .rest) _ (sy .on) in
+    let ty = order-on blank (tx .rest) _ (tx .on) in
+    let q = order-on lineFeed (ty .rest) _ (ty .on) in
     let made = panel (m .number) (n .number) (q .number) in
     let entry = cell (sx .number) (sy .number) in
     let exit = cell (tx .number) (ty .number) in

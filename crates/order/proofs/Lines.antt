@@ -1,6 +1,6 @@
 -- Reading one number of the line after another: what the code has read so far, and what is still to come.
 use Prim.Native.Nat.{ℕ, zero, suc, _+_, _-_, _<_}
-use mathlib.Core.Path.{_≡_, sym, ap, _∙_}
+use mathlib.Core.Path.{_≡_, ap, _∙_}
 use mathlib.Core.List.{List}
 use native.Mathlib.Omega.{arith}
 use lib.ListN.{drop, getD, set}
@@ -8,10 +8,10 @@ use Rattle.grid.specs.declared.Panel.{Panel}
 use Rattle.grid.specs.Panel.{panel, cell}
 use Rattle.text.specs.declared.Number.{Number}
 use Rattle.text.specs.declared.Number.the-variants.{Bad, Until}
-use Rattle.text.specs.Field.{blank, lineFeed, Parsed, field, parsed}
+use Rattle.text.specs.Field.{blank, lineFeed, field, parsed, andThen}
+use Rattle.text.proofs.Reading.{reads-none, reads-on}
 use Rattle.order.specs.declared.Line.{Line}
 use Rattle.order.specs.declared.Line.the-variants.{Other, Order}
-use Rattle.order.specs.Line.{andThen}
 
 -- the order whose first six numbers stand in v
 abbrev pub orderOf : List ℕ → ℕ → Line
@@ -24,33 +24,25 @@ order-made v q e = ap (λ (p : Panel). Order p (cell (getD v 2 0) (getD v 3 0)) 
 
 -- what is read where k numbers with a blank behind them are still to come; the six of the line stand in v
 abbrev pub lineFrom : ℕ → List ℕ → List ℕ → Line
-lineFrom zero v l = andThen (field lineFeed l) (λ q l. orderOf v q)
-lineFrom (suc k) v l = andThen (field blank l) (λ n l. lineFrom k (set v (5 - k) n) l)
-
--- what reading a number at a position goes on to
-module _ (input : List ℕ) (e i : ℕ) (k : ℕ → List ℕ → Line) {r : Number} (f : parsed input r ≡ field e (drop i input)) where
-  pub reads-none : r ≡ Bad → Other ≡ andThen (field e (drop i input)) k
-  reads-none q = ap (λ (p : Parsed). andThen p k) (ap (parsed input) (sym q) ∙ f)
-
-  pub reads-on : {v j : ℕ} → r ≡ Until v j → k v (drop j input) ≡ andThen (field e (drop i input)) k
-  reads-on q = ap (λ (p : Parsed). andThen p k) (ap (parsed input) (sym q) ∙ f)
+lineFrom zero v l = andThen Other (field lineFeed l) (λ q l. orderOf v q)
+lineFrom (suc k) v l = andThen Other (field blank l) (λ n l. lineFrom k (set v (5 - k) n) l)
 
 -- number i of the first six
 module _ (input v : List ℕ) (from i : ℕ) (h : i < 6) where
   abbrev more : ℕ → List ℕ → Line
   more n l = lineFrom (5 - i) (set v (5 - (5 - i)) n) l
 
-  one-more : andThen (field blank (drop from input)) more ≡ lineFrom (6 - i) v (drop from input)
+  one-more : andThen Other (field blank (drop from input)) more ≡ lineFrom (6 - i) v (drop from input)
   one-more =
       let e : suc (5 - i) ≡ 6 - i = omega arith in
       ap (λ (k : ℕ). lineFrom k v (drop from input)) e
 
   module _ {r : Number} (f : parsed input r ≡ field blank (drop from input)) where
     pub first-none : r ≡ Bad → Other ≡ lineFrom (6 - i) v (drop from input)
-    first-none q = reads-none input blank from more f q ∙ one-more
+    first-none q = reads-none Other input blank from more f q ∙ one-more
 
     pub first-on : (n j : ℕ) → r ≡ Until n j → lineFrom (6 - (i + 1)) (set v i n) (drop j input) ≡ lineFrom (6 - i) v (drop from input)
     first-on n j q =
         let e : 6 - (i + 1) ≡ 5 - i = omega arith in
         let g : i ≡ 5 - (5 - i) = omega arith in
-        (λ t. lineFrom (e t) (set v (g t) n) (drop j input)) ∙ reads-on input blank from more f q ∙ one-more
+        (λ t. lineFrom (e t) (set v (g t) n) (drop j input)) ∙ reads-on Other input blank from more f q ∙ one-more

@@ -4,8 +4,7 @@ use mathlib.Core.List.{List}
 use Rattle.grid.specs.declared.Panel.{Panel}
 use Rattle.grid.specs.declared.Cell.{Cell}
 use Rattle.grid.specs.Panel.{panel, cell}
-use Rattle.text.specs.Field.{blank, lineFeed, fieldOf, Parsed, field}
-use Rattle.text.specs.Field.Parsed.{nothing, value}
+use Rattle.text.specs.Field.{blank, lineFeed, fieldOf, field, andThen}
 use Rattle.order.specs.declared.Line.{Line}
 use Rattle.order.specs.declared.Line.the-variants.{Other, Order}
 
@@ -17,16 +16,11 @@ lineOf p s t rest =
     (fieldOf (t .x) blank (fieldOf (t .y) blank
     (fieldOf (p .pitch) lineFeed rest))))))
 
--- what a number at the front goes on to; nothing is no order
-abbrev pub andThen : Parsed → (ℕ → List ℕ → Line) → Line
-andThen nothing k = Other
-andThen (value v l) k = k v l
-
 -- the order in the first line of an input; bytes after its line feed are not looked at
 abbrev pub lineIn : List ℕ → Line
 lineIn l =
-    andThen (field blank l) (λ m l. andThen (field blank l) (λ n l.
-    andThen (field blank l) (λ sx l. andThen (field blank l) (λ sy l.
-    andThen (field blank l) (λ tx l. andThen (field blank l) (λ ty l.
-    andThen (field lineFeed l) (λ q l.
+    andThen Other (field blank l) (λ m l. andThen Other (field blank l) (λ n l.
+    andThen Other (field blank l) (λ sx l. andThen Other (field blank l) (λ sy l.
+    andThen Other (field blank l) (λ tx l. andThen Other (field blank l) (λ ty l.
+    andThen Other (field lineFeed l) (λ q l.
     Order (panel m n q) (cell sx sy) (cell tx ty))))))))

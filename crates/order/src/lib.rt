@@ -1,4 +1,4 @@
-// One order line in, the text that `foil` prints out, on slices.
+// One order line in, a longest track drawn for it, and the text that `foil` prints out, on slices.
 use bound::BoundAnswer;
 use count::ClassCount;
 use grid::Cell;
@@ -6,16 +6,9 @@ use grid::Panel;
 use grid::Refusal;
 use printout::put_answer;
 use printout::put_refused;
-ghost use mathlib.Core.Path.{_≡_};
-ghost use Prim.Native.Nat.{_≤_};
-ghost use lib.ListN.{length};
-ghost use Rattle.grid.specs.declared.Check.the-variants.{Good};
-ghost use Rattle.grid.specs.Check.{checkOrder};
-ghost use Rattle.count.specs.Count.{classCount};
-ghost use Rattle.bound.specs.declared.BoundAnswer.the-variants.{Given};
-ghost use Rattle.bound.specs.Bound.{boundOf};
-ghost use Rattle.printout.specs.Text.{textRoom};
-ghost use Rattle.order.specs.Order.{AnswersBound, Answers};
+ghost use Rattle.order.specs.declared.Line.the-variants.{Order};
+ghost use Rattle.order.specs.Line.{lineIn};
+ghost use Rattle.order.specs.Order.{DrawsLine, Answers};
 
 mod read;
 
@@ -27,39 +20,39 @@ pub enum Line {
     Order(Panel, Cell, Cell),
 }
 
+// What a line comes to: why it is refused, or the panel, with class and count of the track drawn.
+pub enum Drawing {
+    Refused(Refusal),
+    Given(Panel, ClassCount),
+}
+
 // Bytes enough for the cells of any track, and for the text of any order.
-const CELLS: usize = 32768;
+pub const CELLS: usize = 32768;
 
 pub const TEXT: usize = 16512;
 
-// The `ensures` gives only the length, which lending the array asks.
-fn cell_buffer() -> [u8; CELLS]
-    ensures { λ r. ⌜ 32768 ≡ length r ⌝ }
-{
-    [0; CELLS]
-}
-
-// The answer for a good order.
-fn answer_found(p: Panel, s: Cell, t: Cell, found: ClassCount, out: &mut [u8]) -> usize
-    requires { ⌜ checkOrder p s t ≡ Good ⌝ }
-    requires { ⌜ found ≡ classCount p s t ⌝ }
-    requires { ⌜ textRoom ≤ length (now out) ⌝ }
-    ensures { λ r. ⌜ AnswersBound (Given found) p s t (now (out .entry)) (now (out .exit)) r ⌝ }
-{
-    let mut cells = cell_buffer();
-    draw::draw(p, s, t, &mut cells);
-    let end = 2 * (found.count.0 as usize);
-    put_answer(found.class, found.count, &cells[..end], out)
-}
-
-fn answer_order(p: Panel, s: Cell, t: Cell, out: &mut [u8]) -> usize
-    requires { ⌜ textRoom ≤ length (now out) ⌝ }
-    ensures { λ r. ⌜ AnswersBound (boundOf p s t) p s t (now (out .entry)) (now (out .exit)) r ⌝ }
+// Draws where Bound refuses nothing.
+fn draw_order(p: Panel, s: Cell, t: Cell, cells: &mut [u8; CELLS]) -> Drawing
+    ensures { λ r. ⌜ DrawsLine (Order p s t) r (now (cells .exit)) ⌝ }
 {
     let b = bound::bound(p, s, t);
     match b {
-        BoundAnswer::Refused(r) => put_refused(grid::number_of(r), out),
-        BoundAnswer::Given(found) => answer_found(p, s, t, found, out),
+        BoundAnswer::Refused(r) => Drawing::Refused(r),
+        BoundAnswer::Given(found) => {
+            draw::draw(p, s, t, cells);
+            Drawing::Given(p, found)
+        }
+    }
+}
+
+// Draws a longest track for the order in a line, at the front of the buffer.
+pub fn draw_line(input: &[u8], cells: &mut [u8; CELLS]) -> Drawing
+    ensures { λ r. ⌜ DrawsLine (lineIn (now (input .entry))) r (now (cells .exit)) ⌝ }
+{
+    let line = read_line(input);
+    match line {
+        Line::Other => Drawing::Refused(Refusal::UnknownByte),
+        Line::Order(p, s, t) => draw_order(p, s, t, cells),
     }
 }
 
@@ -67,9 +60,13 @@ fn answer_order(p: Panel, s: Cell, t: Cell, out: &mut [u8]) -> usize
 pub fn answer(input: &[u8], out: &mut [u8; TEXT]) -> usize
     ensures { λ r. ⌜ Answers (now (input .entry)) (now (out .entry)) (now (out .exit)) r ⌝ }
 {
-    let line = read_line(input);
-    match line {
-        Line::Other => put_refused(grid::number_of(Refusal::UnknownByte), out),
-        Line::Order(p, s, t) => answer_order(p, s, t, out),
+    let mut cells = [0; CELLS];
+    let d = draw_line(input, &mut cells);
+    match d {
+        Drawing::Refused(r) => put_refused(grid::number_of(r), out),
+        Drawing::Given(_, found) => {
+            let end = 2 * (found.count.0 as usize);
+            put_answer(found.class, found.count, &cells[..end], out)
+        }
     }
 }

@@ -3,7 +3,7 @@
 --   writes-back    every record that Read accepts is byte for byte the one that Write makes of the panel and list read
 --   read-empty     Read with an empty buffer gives 5 exactly where Letters is not refused
 --   letters-read   what Letters hands back are the letters of the list read
-use Prim.Native.Nat.{ℕ, suc, _+_, _*_, _%_, _≤_, _<_}
+use Prim.Native.Nat.{ℕ, suc, _+_, _*_, _≤_, _<_}
 use mathlib.Core.Path.{_≡_, refl, sym, ap, ap₂, _∙_}
 use mathlib.Core.Bool.{Bool, true, false}
 use mathlib.Core.Logic.{_↔_}
@@ -29,8 +29,9 @@ use Rattle.grid.proofs.Bytes.{length-bytes, cells-bytes}
 use Rattle.grid.proofs.Facts.{clash, and-parts}
 use Rattle.grid.proofs.Passed.{after-passed}
 use Rattle.grid.proofs.Tests.{expect-yes, expect-no, after-good, answer-good, answer-refused}
-use Rattle.list.specs.List.{allOn, allSteps}
+use Rattle.list.specs.List.{allOn, allSteps, withCells}
 use Rattle.list.specs.Check.{checkList}
+use Rattle.list.proofs.Cells.{bytes-cells}
 use Rattle.list.proofs.Whole.{whole}
 use Rattle.list.proofs.Checks.{GoodList, list-whole, list-good, is-list-good}
 use Rattle.step_letters.specs.Letters.{lettersFrom, lettersOf, allKnown, walkOn, walkFrom}
@@ -40,16 +41,9 @@ use Rattle.record_head.specs.Head.{headLength, headOf, hasMark, panelIn, entryI
 use Rattle.record_head.proofs.Heads.{panel-back, entry-back, steps-back, letters-back, head-back, head-is}
 use Rattle.record.specs.declared.ReadAnswer.{ReadAnswer}
 use Rattle.record.specs.Write.{recordOf, recordLength, checkWrite, writeAnswer, writeBuffer, recordMade}
-use Rattle.record.specs.Read.{withCells, checkKnown, cellsRead, checkRecord, checkRead, readAnswer, readBuffer, readValues, listRead, lettersAnswer}
+use Rattle.record.specs.Read.{checkKnown, cellsRead, checkRecord, checkRead, readAnswer, readBuffer, readValues, listRead, lettersAnswer}
 use Rattle.record.proofs.Walks.{length-walk}
 use Rattle.record.proofs.Answers.{GoodRecord, record-good}
-
--- ---- bytes and cells
-
-bytes-cells : (b : List ℕ) → length b % 2 ≡ 0 → bytes (cellsIn b) ≡ b
-bytes-cells [] e = refl
-bytes-cells (x ∷ []) e = absurd (omega arith)
-bytes-cells (x ∷ y ∷ b) e = ap (λ (k : List ℕ). x ∷ y ∷ k) (bytes-cells b (omega arith))
 
 -- ---- a record in front of anything
 

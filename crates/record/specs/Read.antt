@@ -1,8 +1,8 @@
 -- Document 01, "Read" and "Letters": the refusals in order, the answers and the final content of the lent buffer.
 use Prim.Native.Nat.{ℕ, _+_, _*_}
 use mathlib.Core.Path.{_≡_}
-use mathlib.Core.List.{List, [], _++_}
-use lib.ListN.{length, take, drop}
+use mathlib.Core.List.{List, []}
+use lib.ListN.{length, take}
 use lib.Dec.{leb}
 use denote.Ref.{RefT, now}
 use Rattle.grid.specs.declared.Panel.{Panel}
@@ -14,10 +14,10 @@ use Rattle.grid.specs.declared.CellsAnswer.{CellsAnswer}
 use Rattle.grid.specs.declared.Refusal.the-variants.{CellOff, ShortBuffer, UnknownByte}
 use Rattle.grid.specs.Panel.{panel}
 use Rattle.grid.specs.Refusal.{number}
-use Rattle.grid.specs.Bytes.{bytes, PartOf}
+use Rattle.grid.specs.Bytes.{PartOf}
 use Rattle.grid.specs.Check.{expect, after, answer}
 use Rattle.grid.specs.Answer.{refusalNumber, given, cellsAnswer}
-use Rattle.list.specs.List.{allOn}
+use Rattle.list.specs.List.{allOn, withCells}
 use Rattle.step_letters.specs.Letters.{allKnown, walkFrom}
 use Rattle.record_head.specs.Head.{headLength, panelIn, entryIn, stepsIn, lettersIn, checkHead}
 use Rattle.record.specs.declared.ReadAnswer.{ReadAnswer}
@@ -55,10 +55,6 @@ checkRead f list = after (checkRecord f) (expect (leb (2 * length (cellsRead f))
 abbrev pub readAnswer : List ℕ → List ℕ → ReadAnswer
 readAnswer f list =
     answer (checkRead f list) Refused (Given (panelIn f) (record { 0 = length (cellsRead f) }) (headLength + stepsIn f))
-
--- a buffer with a list of cells at its front, the bytes behind as they were
-abbrev pub withCells : List Cell → List ℕ → List ℕ
-withCells l out = bytes l ++ drop (2 * length l) out
 
 -- the list, and the bytes behind it as they were; a refusal changes nothing
 abbrev pub readBuffer : List ℕ → List ℕ → List ℕ

@@ -11,6 +11,7 @@ use grid::on_panel;
 use grid::steps_of;
 use list::cell_at;
 use list::check_list;
+use list::put_cell;
 use record_head::HEAD;
 use record_head::check_head;
 use record_head::head_in;
@@ -21,14 +22,14 @@ use step_letters::step_by;
 use step_letters::write_letters;
 ghost use mathlib.Core.Path.{_≡_};
 ghost use mathlib.Core.Bool.{true};
-ghost use Prim.Native.Nat.{_≤_, _<_, _+_, _*_};
-ghost use lib.ListN.{length, set};
+ghost use Prim.Native.Nat.{_≤_, _<_, _*_};
+ghost use lib.ListN.{length};
 ghost use Rattle.grid.specs.Panel.{OnPanel, onPanel, goodPanel};
 ghost use Rattle.grid.specs.Answer.{cellsAnswer};
-ghost use Rattle.list.specs.List.{allOn};
+ghost use Rattle.list.specs.List.{allOn, withCells};
 ghost use Rattle.step_letters.specs.Letters.{walkFrom, largestPanel};
 ghost use Rattle.record.specs.Write.{Writes};
-ghost use Rattle.record.specs.Read.{checkKnown, checkSteps, checkLetters, recordCells, withCells, Reads, Lettered};
+ghost use Rattle.record.specs.Read.{checkKnown, checkSteps, checkLetters, recordCells, Reads, Lettered};
 
 // What Read answers: why it refuses, or the panel, the cell count and the record length.
 pub enum ReadAnswer {
@@ -118,15 +119,6 @@ fn find_record(file: &[u8]) -> CellsAnswer
     let p = h.panel;
     let s = h.entry;
     count_cells(p, s, letters_in(file))
-}
-
-// A cell in two bytes from i on.
-fn put_cell(list: &mut [u8], i: usize, c: Cell)
-    requires { ⌜ (OnPanel largestPanel c) × (i + 1 < length (now list)) ⌝ }
-    ensures { λ _. ⌜ now (list .exit) ≡ set (set (now (list .entry)) i (c .x)) (i + 1) (c .y) ⌝ }
-{
-    list[i] = c.x as u8;
-    list[i + 1] = c.y as u8;
 }
 
 // The cells that letters lead over, at the front of the buffer.

@@ -15,7 +15,8 @@ use Rattle.grid.proofs.Facts.{and-parts, on}
 use Rattle.list.specs.List.{allOn, noneTwice, cellAt}
 use Rattle.list.proofs.Cells.{cells-next, cells-end}
 use Rattle.list.proofs.Tracks.{all-on}
-use Rattle.list.proofs.Turns.{turn-failed, turn-passed, on-turn}
+use Rattle.grid.proofs.Tests.{turn-failed, turn-passed}
+use Rattle.list.proofs.Turns.{on-turn}
 use Rattle.scratch.specs.Scratch.{place, Markable}
 use Rattle.scratch.proofs.Places.{place-below}
 use Rattle.scratch.proofs.Marks.{free, fresh, fresh-once}

@@ -14,9 +14,13 @@ use Rattle.list.specs.List.{allOn}
 abbrev pub place : Panel → Cell → ℕ
 place p c = (c .y - 1) * p .width + (c .x - 1)
 
--- scratch with its first mn bytes 0 and the rest untouched
+-- scratch with its first k bytes 0 and the rest untouched
+abbrev pub zerosFor : ℕ → List ℕ → List ℕ
+zerosFor k s = replicate k 0 ++ drop k s
+
+-- the same for the places of a panel
 abbrev pub cleared : Panel → List ℕ → List ℕ
-cleared p s = replicate (area p) 0 ++ drop (area p) s
+cleared p s = zerosFor (area p) s
 
 -- scratch enough for the panel, and its first mn bytes are 0
 pub record Clean (p : Panel) (s : List ℕ) : Type 0 where

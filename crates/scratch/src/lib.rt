@@ -10,7 +10,7 @@ ghost use lib.ListN.{length, drop};
 ghost use Rattle.grid.specs.Panel.{goodSides, area, onPanel};
 ghost use Rattle.grid.specs.Bytes.{cellsIn};
 ghost use Rattle.list.specs.List.{noneTwice};
-ghost use Rattle.scratch.specs.Scratch.{place, cleared, Markable};
+ghost use Rattle.scratch.specs.Scratch.{place, zerosFor, cleared, Markable};
 
 // The place of a cell of the panel.
 pub fn place_of(p: Panel, c: Cell) -> usize
@@ -21,17 +21,24 @@ pub fn place_of(p: Panel, c: Cell) -> usize
     (c.y as usize - 1) * (p.width as usize) + (c.x as usize - 1)
 }
 
-// Writes 0 at every place of the panel.
-pub fn clear(p: Panel, scratch: &mut [u8])
-    requires { ⌜ area p ≤ length (now scratch) ⌝ }
-    ensures { λ _. ⌜ now (scratch .exit) ≡ cleared p (now (scratch .entry)) ⌝ }
+// Writes 0 at the first places.
+pub fn clear_front(places: usize, scratch: &mut [u8])
+    requires { ⌜ places ≤ length (now scratch) ⌝ }
+    ensures { λ _. ⌜ now (scratch .exit) ≡ zerosFor places (now (scratch .entry)) ⌝ }
 {
-    let places = grid::area_of(p);
     let mut at = 0;
     while at < places {
         scratch[at] = 0;
         at += 1;
     }
+}
+
+// Writes 0 at every place of the panel.
+pub fn clear(p: Panel, scratch: &mut [u8])
+    requires { ⌜ area p ≤ length (now scratch) ⌝ }
+    ensures { λ _. ⌜ now (scratch .exit) ≡ cleared p (now (scratch .entry)) ⌝ }
+{
+    clear_front(grid::area_of(p), scratch);
 }
 
 // Marks the places of the list's cells in clean scratch. It stops and answers false at a place that

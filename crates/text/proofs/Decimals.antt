@@ -51,3 +51,17 @@ length-decimal (suc k) n h = go (ltb n 10) refl (length-decimal k (n / 10) (omeg
     go false q h =
         let last = digit (n % 10) ∷ [] in
         omega (arith, ap length (decimal-more n (ltb-false n 10 q)), length-append (decimal (n / 10)) last)
+
+-- the number of digits: one, or one more than those before the last
+pub one-digit : (n : ℕ) → n < 10 → length (decimal n) ≡ 1
+one-digit n h = ap length (decimal-small n h)
+
+pub digit-taken : (n : ℕ) → 10 ≤ n → length (decimal n) ≡ length (decimal (n / 10)) + 1
+digit-taken n h = ap length (decimal-more n h) ∙ length-append (decimal (n / 10)) (digit (n % 10) ∷ [])
+
+pub some-digit : (n : ℕ) → 1 ≤ length (decimal n)
+some-digit n = go (ltb n 10) refl
+  where
+    go : (t : Bool) → ltb n 10 ≡ t → 1 ≤ length (decimal n)
+    go true q = omega (arith, one-digit n (ltb-true n 10 q))
+    go false q = omega (arith, digit-taken n (ltb-false n 10 q))

@@ -11,7 +11,7 @@ use borrow.Author.Tests.{ltb-true, ltb-false, leb-true, le-leb, eqb-true, eqb-fa
 use Rattle.grid.proofs.Tests.{cond-yes, cond-no}
 use Rattle.grid.proofs.Facts.{clash, and-left, and-right, and-both}
 use Rattle.text.specs.Decimal.{zeroByte, digit, isDigit, decimal}
-use Rattle.text.specs.Field.{largestNumber, fieldOf, Parsed, moreDigits, numberAt, ended, field}
+use Rattle.text.specs.Field.{largestNumber, fieldOf, Parsed, moreDigits, numberAt, ended, field, andThen}
 use Rattle.text.specs.Field.Parsed.{nothing, value}
 use Rattle.text.proofs.Decimals.{decimal-small, decimal-more, decimal-digit}
 use Rattle.text.proofs.Reading.{digit-low, digit-high, is-digit}
@@ -147,3 +147,32 @@ field-read e l n r q = go (numberAt l) refl
     go nothing p = let c = read p in clash (cc)
     go (value v []) p = let c = read p in clash (cc)
     go (value v (b ∷ k)) p = here v b k p (leb v largestNumber && eqb b e) refl
+
+-- ---- what is read goes on
+
+-- a number as it is written, and what is read behind it
+pub reads-next {ℓ} : {A : Type ℓ} (z : A) (n e : ℕ) (l : List ℕ) (k : ℕ → List ℕ → A) {y : A} → isDigit e ≡ false → n ≤ largestNumber
+    → y ≡ k n l → y ≡ andThen z (field e (fieldOf n e l)) k
+reads-next z n e l k q h f = f ∙ ap (λ (r : Parsed). andThen z r k) (reads-field n e l q h)
+
+-- bytes begin with a number that is not too large and the byte e, and reading goes on behind it to y
+pub record Begins {ℓ} {A : Type ℓ} (e : ℕ) (l : List ℕ) (k : ℕ → List ℕ → A) (y : A) : Type ℓ where
+  pub number : ℕ
+  pub rest : List ℕ
+  pub bytes : l ≡ fieldOf number e rest
+  pub small : number ≤ largestNumber
+  pub on : k number rest ≡ y
+
+-- reading that goes on to something else than z has read a number
+pub goes-on {ℓ} : {A : Type ℓ} (z : A) (e : ℕ) (l : List ℕ) (k : ℕ → List ℕ → A) {y : A} → (z ≡ y → ⊥) → andThen z (field e l) k ≡ y
+    → Begins e l k y
+goes-on {A = A} z e l k {y} other q = go (field e l) refl
+  where
+    read : {f : Parsed} → field e l ≡ f → andThen z f k ≡ y
+    read f = ap (λ (x : Parsed). andThen z x k) (sym f) ∙ q
+
+    go : (f : Parsed) → field e l ≡ f → Begins e l k y
+    go nothing f = absurd (other (read f))
+    go (value n r) f =
+        let w = field-read e l n r f in
+        record { number = n; rest = r; bytes = w .0; small = w .1; on = read f }

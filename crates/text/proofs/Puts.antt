@@ -1,16 +1,16 @@
 -- Texts put into a buffer: one byte, one text behind another, and the buffer's length.
-use Prim.Native.Nat.{ℕ, _+_, _/_, _%_, _^_, _≤_, _<_}
+use Prim.Native.Nat.{ℕ, suc, _+_, _-_, _/_, _%_, _^_, _≤_, _<_}
 use mathlib.Core.Path.{_≡_, sym, ap, subst, _∙_}
 use mathlib.Core.List.{List, [], _∷_, _++_, append-assoc}
 use native.Mathlib.Omega.{arith}
 use native.Mathlib.Numerals.{add-one}
 use native.Mathlib.Nat.{add-zero}
-use lib.ListN.{length, take, drop, set, getD, length-append, length-drop, take-append-drop}
-use lib.Seq.{take-suc, set-split, take-at, drop-append-add, drop-drop, length-take-le}
+use lib.ListN.{length, take, drop, set, getD, length-append, length-drop, length-set, take-append-drop}
+use lib.Seq.{take-suc, drop-cons, getD-set-same, drop-set-lt, set-split, take-at, drop-append-add, drop-drop, length-take-le}
 use Rattle.text.specs.Decimal.{digit, decimal}
 use Rattle.text.specs.Field.{blank, fieldOf}
 use Rattle.text.specs.Put.{put, Put}
-use Rattle.text.proofs.Decimals.{decimal-more, length-decimal}
+use Rattle.text.proofs.Decimals.{decimal-small, decimal-more, length-decimal}
 
 module _ (out : List ℕ) (at : ℕ) where
   pub put-one : (b : ℕ) → at < length out → set out at b ≡ put out at (b ∷ [])
@@ -116,3 +116,43 @@ two-and a b e rest =
 -- a number of 32 bits has at most ten digits
 pub field-length : (n e : ℕ) (rest : List ℕ) → n < 2 ^ 32 → length (fieldOf n e rest) ≤ 11 + length rest
 field-length n e rest h = omega (arith, length-append (decimal n) (e ∷ rest), length-decimal 9 n (omega arith))
+
+-- ---- digits from the last one on
+
+-- a digit stored in front of those from `at` on
+digit-before : (s : List ℕ) (at b : ℕ) → 1 ≤ at → at ≤ length s → drop (at - 1) (set s (at - 1) b) ≡ b ∷ drop at s
+digit-before s at b h g =
+    let k = at - 1 in
+    let e : suc k ≡ at = omega arith in
+    drop-cons (set s k b) k 0 (omega (arith, length-set s k b))
+    ∙ (λ i. getD-set-same s k b 0 (omega arith) i ∷ drop-set-lt (suc k) s k b (omega arith) i)
+    ∙ ap (λ (j : ℕ). b ∷ drop j s) e
+
+-- the digits of a number n are those of r and the ones in scratch from `at` on
+pub record Digits (n r : ℕ) (scratch : List ℕ) (at : ℕ) : Type 0 where
+  pub within : at ≤ length scratch
+  pub digits : decimal n ≡ decimal r ++ drop at scratch
+
+module _ {n r at : ℕ} {s : List ℕ} (d : Digits n r s at) where
+  pub digits-left : length (decimal n) + at ≡ length (decimal r) + length s
+  digits-left =
+      let all = ap length (d .digits) ∙ length-append (decimal r) (drop at s) in
+      omega (arith, d .within, length-drop at s)
+
+  -- the last digit of r is stored in front of them
+  module _ (b : ℕ) (one : 1 ≤ at) where
+    pub digit-stored : 10 ≤ r → b ≡ digit (r % 10) → Digits n (r / 10) (set s (at - 1) b) (at - 1)
+    digit-stored more e = record {
+      within = omega (arith, d .within, length-set s (at - 1) b);
+      digits =
+          d .digits
+          ∙ ap (λ (l : List ℕ). l ++ drop at s) (decimal-more r more ∙ ap (λ (b : ℕ). decimal (r / 10) ++ b ∷ []) (sym e))
+          ∙ append-assoc (decimal (r / 10)) (b ∷ []) (drop at s)
+          ∙ ap (λ (l : List ℕ). decimal (r / 10) ++ l) (sym (digit-before s at b one (d .within)));
+    }
+
+    -- which is the first one where it is all that is left
+    pub first-stored : r < 10 → b ≡ digit r → drop (at - 1) (set s (at - 1) b) ≡ decimal n
+    first-stored last e =
+        digit-before s at b one (d .within)
+        ∙ sym (d .digits ∙ ap (λ (l : List ℕ). l ++ drop at s) (decimal-small r last ∙ ap (λ (b : ℕ). b ∷ []) (sym e)))

@@ -12,7 +12,9 @@ use borrow.Author.Tests.{leb-true, le-leb, lt-leb, eq-eqb, ne-eqb}
 use Rattle.grid.proofs.Tests.{and-yes, and-no, cond-yes, cond-no}
 use Rattle.grid.proofs.Facts.{and-left, and-right, and-both}
 use Rattle.text.specs.Decimal.{zeroByte, isDigit}
-use Rattle.text.specs.Field.{largestNumber, Parsed, moreDigits, ended, field}
+use Rattle.text.specs.declared.Number.{Number}
+use Rattle.text.specs.declared.Number.the-variants.{Bad, Until}
+use Rattle.text.specs.Field.{largestNumber, Parsed, moreDigits, ended, field, parsed, andThen}
 use Rattle.text.specs.Field.Parsed.{nothing, value}
 
 -- ---- digits
@@ -98,3 +100,12 @@ module _ (e : ℕ) (l : List ℕ) (i : ℕ) where
     pub field-digits : (getD l i 0 ≡ zeroByte → ⊥) → isDigit (getD l i 0) ≡ true
         → ended e (moreDigits (getD l i 0 - zeroByte) (drop (i + 1) l)) ≡ field e (drop i l)
     field-digits n q = ap (ended e) (cond-no _ _ (ne-eqb _ _ n) (cond-yes _ _ q refl)) ∙ ap (field e) (sym (here l i h))
+
+-- ---- what a number read at a position goes on to
+
+module _ {ℓ} {A : Type ℓ} (z : A) (input : List ℕ) (e i : ℕ) (k : ℕ → List ℕ → A) {r : Number} (f : parsed input r ≡ field e (drop i input)) where
+  pub reads-none : r ≡ Bad → z ≡ andThen z (field e (drop i input)) k
+  reads-none q = ap (λ (p : Parsed). andThen z p k) (ap (parsed input) (sym q) ∙ f)
+
+  pub reads-on : {v j : ℕ} → r ≡ Until v j → k v (drop j input) ≡ andThen z (field e (drop i input)) k
+  reads-on q = ap (λ (p : Parsed). andThen z p k) (ap (parsed input) (sym q) ∙ f)

@@ -54,3 +54,8 @@ field e l = ended e (numberAt l)
 abbrev pub parsed : List ℕ → Number → Parsed
 parsed input Bad = nothing
 parsed input (Until v next) = value v (drop next input)
+
+-- what a number at the front goes on to, or z where there is none
+abbrev pub andThen {ℓ} : {A : Type ℓ} → A → Parsed → (ℕ → List ℕ → A) → A
+andThen z nothing k = z
+andThen z (value v l) k = k v l

@@ -1,3 +1,5 @@
+pub mod Ascii
+pub mod Front
 pub mod Decimal
 pub mod Field
 pub mod Put

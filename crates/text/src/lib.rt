@@ -2,8 +2,12 @@
 mod read;
 mod write;
 
+pub use read::bytes_from;
 pub use read::read_field;
+pub use read::text_at;
+pub use write::count_digits;
 pub use write::digit_of;
+pub use write::digits_of;
 pub use write::put_byte;
 pub use write::put_bytes;
 pub use write::put_decimal;

@@ -4,7 +4,8 @@ use crate::NINE;
 use crate::Number;
 use crate::ZERO;
 ghost use mathlib.Core.Path.{_≡_};
-ghost use lib.ListN.{drop};
+ghost use lib.ListN.{length, drop};
+ghost use Rattle.text.specs.Front.{begins};
 ghost use Rattle.text.specs.Decimal.{isDigit};
 ghost use Rattle.text.specs.Field.{moreDigits, ended, field, parsed};
 ghost use Rattle.text.specs.Field.Parsed.{value};
@@ -64,4 +65,31 @@ pub fn read_field(input: &[u8], from: usize, end: u8) -> Number
         return Number::Bad;
     }
     read_digits(input, (b - ZERO) as u32, from + 1, end)
+}
+
+// How many bytes of the input are from a place on.
+pub fn bytes_from(input: &[u8], at: usize) -> usize
+    ensures { λ r. ⌜ r ≡ length (drop at (now (input .entry))) ⌝ }
+{
+    if input.len() <= at {
+        return 0;
+    }
+    input.len() - at
+}
+
+// Whether a text stands at a place of the input.
+pub fn text_at(text: &[u8], input: &[u8], at: usize) -> bool
+    ensures { λ r. ⌜ r ≡ begins (now (text .entry)) (drop at (now (input .entry))) ⌝ }
+{
+    if bytes_from(input, at) < text.len() {
+        return false;
+    }
+    let mut i = 0;
+    while i < text.len() {
+        if input[at + i] != text[i] {
+            return false;
+        }
+        i += 1;
+    }
+    true
 }

@@ -3,8 +3,9 @@ use crate::BLANK;
 use crate::ZERO;
 ghost use mathlib.Core.Path.{_≡_};
 ghost use mathlib.Core.List.{[], _∷_};
-ghost use Prim.Native.Nat.{_≤_, _<_, _+_};
+ghost use Prim.Native.Nat.{_≤_, _<_, _+_, _-_};
 ghost use lib.ListN.{length};
+ghost use Rattle.grid.specs.Bytes.{PartOf};
 ghost use Rattle.text.specs.Decimal.{digit, decimal};
 ghost use Rattle.text.specs.Field.{blank, fieldOf};
 ghost use Rattle.text.specs.Put.{Put};
@@ -47,6 +48,37 @@ pub fn put_decimal(n: u32, out: &mut [u8], at: usize) -> usize
     }
     let last = put_decimal(n / 10, out, at);
     put_byte(digit_of(n % 10), out, last)
+}
+
+// The digits of a number, made from the last one on: the part of scratch that holds them, up to its end.
+pub fn digits_of<'a>(n: u32, scratch: &'a mut [u8]) -> &'a mut [u8]
+    requires { ⌜ length (decimal n) ≤ length (now scratch) ⌝ }
+    ensures { λ r. ⌜ PartOf (scratch .entry) (length (now (scratch .entry)) - length (decimal n)) (decimal n) r ⌝ }
+{
+    let room = scratch.len();
+    let mut at = room;
+    let mut rest = n;
+    while 10 <= rest {
+        at -= 1;
+        scratch[at] = digit_of(rest % 10);
+        rest = rest / 10;
+    }
+    at -= 1;
+    scratch[at] = digit_of(rest);
+    &mut scratch[at..]
+}
+
+// How many digits a number has.
+pub fn count_digits(n: u32) -> usize
+    ensures { λ r. ⌜ r ≡ length (decimal n) ⌝ }
+{
+    let mut count = 1;
+    let mut rest = n;
+    while 10 <= rest {
+        count += 1;
+        rest = rest / 10;
+    }
+    count
 }
 
 // A number and the byte `end` behind it.

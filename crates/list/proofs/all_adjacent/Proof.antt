@@ -7,7 +7,8 @@ use mathlib.Core.Path.{_≡_, refl, sym, _∙_}
 use lib.ListN.{length, drop}
 use Rattle.grid.specs.Bytes.{cellsIn}
 use Rattle.list.specs.List.{allSteps}
-use Rattle.list.proofs.Turns.{turn-failed, turn-passed, step-turn, step-end}
+use Rattle.grid.proofs.Tests.{turn-failed, turn-passed}
+use Rattle.list.proofs.Turns.{step-turn, step-end}
 use Rattle.list.proofs.all_adjacent.Statement.{statement}
 use Rattle.list.proofs.all_adjacent.Tie as tie
 

@@ -8,7 +8,8 @@ use lib.ListN.{length, drop}
 use Rattle.grid.specs.Bytes.{cellsIn}
 use Rattle.grid.specs.Panel.{onPanel}
 use Rattle.list.specs.List.{allOn, cellAt}
-use Rattle.list.proofs.Turns.{turn-failed, turn-passed, on-turn, on-end}
+use Rattle.grid.proofs.Tests.{turn-failed, turn-passed}
+use Rattle.list.proofs.Turns.{on-turn, on-end}
 use Rattle.list.proofs.all_on_panel.Statement.{statement}
 use Rattle.list.proofs.all_on_panel.Tie as tie
 

@@ -7,9 +7,8 @@ use mathlib.Core.List.{List}
 use native.Mathlib.Omega.{arith}
 use lib.ListN.{length, drop, getD}
 use denote.Ref.{now}
-use Rattle.grid.proofs.Tests.{expect-yes, expect-no}
+use Rattle.grid.proofs.Tests.{expect-yes, expect-no, turn-failed, turn-passed}
 use Rattle.grid.specs.declared.Check.the-variants.{Refused}
-use Rattle.list.proofs.Turns.{turn-failed, turn-passed}
 use Rattle.step_letters.specs.Letters.{known, allKnown}
 use Rattle.step_letters.proofs.Laws.{byte-refused, byte-leads}
 use Rattle.step_letters.proofs.Lists.{bytes-more, bytes-end}

@@ -14,13 +14,13 @@ use Rattle.grid.specs.declared.Check.the-variants.{Good, Refused}
 use Rattle.grid.specs.declared.Refusal.{Refusal}
 use Rattle.grid.specs.declared.Refusal.the-variants.{ShortBuffer}
 use Rattle.grid.proofs.Answers.{cells-good}
-use Rattle.list.specs.List.{allOn}
+use Rattle.list.specs.List.{allOn, withCells}
 use Rattle.step_letters.specs.Letters.{largestPanel, walkFrom}
 use Rattle.record_head.specs.declared.Head.{Head}
 use Rattle.record_head.specs.Head.{headLength, panelIn}
 use Rattle.record_head.proofs.Heads.{steps-bound}
 use Rattle.record.specs.declared.ReadAnswer.{ReadAnswer}
-use Rattle.record.specs.Read.{withCells, cellsRead, checkRecord, checkRead, Reads}
+use Rattle.record.specs.Read.{cellsRead, checkRecord, checkRead, Reads}
 use Rattle.record.proofs.Answers.{GoodRecord, record-good, record-refused, reads}
 use Rattle.record.proofs.Walks.{all-on-largest}
 use Rattle.record.proofs.read.Statement.{statement}

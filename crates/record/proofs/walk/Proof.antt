@@ -15,9 +15,8 @@ use Rattle.grid.specs.declared.CellsAnswer.the-variants.{Refused, Given}
 use Rattle.grid.specs.declared.Refusal.the-variants.{CellOff}
 use Rattle.grid.specs.Panel.{OnPanel, onPanel}
 use Rattle.grid.specs.Answer.{cellsAnswer}
-use Rattle.grid.proofs.Tests.{and-yes, expect-yes, expect-no, answer-good, answer-refused}
+use Rattle.grid.proofs.Tests.{and-yes, expect-yes, expect-no, answer-good, answer-refused, turn-failed, turn-passed}
 use Rattle.list.specs.List.{allOn}
-use Rattle.list.proofs.Turns.{turn-failed, turn-passed}
 use Rattle.step_letters.specs.Letters.{stepped, largestPanel, walkFrom, walkOn}
 use Rattle.record.specs.Read.{checkSteps}
 use Rattle.step_letters.proofs.Laws.{byte-leads}

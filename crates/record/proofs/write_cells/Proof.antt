@@ -77,7 +77,8 @@ room c =
 put-cell-requires : tie.Need-put-cell-requires Inv-loop μ-loop
 put-cell-requires c κs =
     let start = c .before .before .before in
-    (on-panel-is largestPanel (start .args .s) (first-on start .0), omega (arith, start .pre .1))
+    let o = on-panel-is largestPanel (start .args .s) (first-on start .0) in
+    (o .right, o .bottom, omega (arith, start .pre .1))
 
 loop-holds : tie.Need-loop-holds Inv-loop μ-loop
 loop-holds c =
@@ -119,7 +120,8 @@ put-cell-requires-2 : tie.Need-put-cell-requires-2 Inv-loop μ-loop
 put-cell-requires-2 c κs =
     let told = c .before in
     let in-loop = told .before .before .before .before .before in
-    (on-panel-is largestPanel _ (next-on in-loop (leads told) .0), room in-loop .0)
+    let o = on-panel-is largestPanel _ (next-on in-loop (leads told) .0) in
+    (o .right, o .bottom, room in-loop .0)
 
 add-i : tie.Need-add-i Inv-loop μ-loop
 add-i c = omega arith

@@ -1,63 +1,26 @@
--- The bytes passed are 0 and those ahead are as they were: one store a turn (`fill-more`).
-use native.Mathlib.Nat.{le-antisymm}
-use Prim.Native.Nat.{ℕ, _-_, _≤_}
-use native.Mathlib.Omega.{arith}
-use borrow.Author.Fill.{fill-more}
+-- The places of a panel are as many as its cells.
+use Prim.Native.Nat.{ℕ}
+use mathlib.Core.Path.{ap, _∙_}
+use denote.Ref.{now}
+use Rattle.scratch.specs.Scratch.{zerosFor}
 use borrow.Author.Needs.{needs}
-use mathlib.Core.Path.{_≡_, refl, ap, _∙_}
-use mathlib.Core.List.{List, _++_}
-use lib.ListN.{length, set, drop, replicate, length-set}
 use Rattle.scratch.proofs.clear.Statement.{statement}
 use Rattle.scratch.proofs.clear.Tie as tie
 
-abbrev Inv-loop : tie.InvT-loop
-Inv-loop scratch₀ places at₀ scratch at = (scratch ≡ replicate at 0 ++ drop at scratch₀) × (at ≤ places) × (length scratch ≡ length scratch₀)
-
-abbrev μ-loop : tie.MeasureT-loop
-μ-loop scratch₀ places at₀ scratch at = places - at
-
-area-of-requires : tie.Need-area-of-requires Inv-loop μ-loop
+area-of-requires : tie.Need-area-of-requires
 area-of-requires c κs = search needs
 
-loop-holds : tie.Need-loop-holds Inv-loop μ-loop
-loop-holds c = (refl, omega arith, refl)
+clear-front-requires : tie.Need-clear-front-requires
+clear-front-requires c κs = search needs
 
-slice-write-scratch : tie.Need-slice-write-scratch Inv-loop μ-loop
-slice-write-scratch c = omega arith
+same-length : tie.Need-same-length
+same-length c = search needs
 
-add-at : tie.Need-add-at Inv-loop μ-loop
-add-at c = omega arith
-
-loop-less : tie.Need-loop-less Inv-loop μ-loop
-loop-less c = omega arith
-
-loop-again : tie.Need-loop-again Inv-loop μ-loop
-loop-again c =
-    let l = c .before .loop in
-    let filled = ap (λ (s : List ℕ). set s (l .at) 0) (l .inv .0) ∙ fill-more (l .at) 0 _ (omega arith) in
-    (filled, omega arith, length-set (l .scratch) (l .at) 0 ∙ l .inv .2)
-
-same-length : tie.Need-same-length Inv-loop μ-loop
-same-length c = c .before .loop .inv .2
-
-returns : tie.Need-returns Inv-loop μ-loop
+returns : tie.Need-returns
 returns c =
-    let l = c .before .loop in
-    let s = c .before .before .before .before .args in
-    let e = le-antisymm (l .inv .1) (c .loop-test .left) ∙ c .before .before .area-of .ensures in
-    l .inv .0 ∙ ap (λ (j : ℕ). replicate j 0 ++ drop j (s .scratch .now)) e
+    let front = c .before .before in
+    let size = front .before .before in
+    front .clear-front .ensures ∙ ap (λ (k : ℕ). zerosFor k (now (size .before .before .args .scratch))) (size .area-of .ensures)
 
 pub clear-spec : {M : Type 1} → statement M
-clear-spec =
-    tie.close
-    (tie.spec
-    Inv-loop
-    μ-loop
-    area-of-requires
-    loop-holds
-    slice-write-scratch
-    add-at
-    loop-less
-    loop-again
-    same-length
-    returns)
+clear-spec = tie.close (tie.spec area-of-requires clear-front-requires same-length returns)

@@ -6,8 +6,10 @@ use native.Mathlib.Omega.{arith}
 use denote.Ref.{now}
 use lib.ListN.{length, drop, length-set}
 use Rattle.text.specs.Field.{lineFeed}
+use Rattle.text.proofs.Reading.{reads-none, reads-on}
+use Rattle.order.specs.declared.Line.the-variants.{Other}
 use Rattle.order.specs.Line.{lineIn}
-use Rattle.order.proofs.Lines.{order-made, lineFrom, reads-none, reads-on, first-none, first-on}
+use Rattle.order.proofs.Lines.{order-made, lineFrom, first-none, first-on}
 use borrow.Author.Needs.{needs}
 use Rattle.order.proofs.read.read_line.Statement.{statement}
 use Rattle.order.proofs.read.read_line.Tie as tie
@@ -79,7 +81,7 @@ returns-2 : tie.Need-returns-2 Inv-loop μ-loop
 returns-2 c =
     let f = c .before .before in
     let d = f .before .before in
-    reads-none (bytes d) lineFeed (d .loop .from) _ (f .read-field2 .ensures) (c .enum-told2 .given .1) ∙ whole d (f .before .loop-test .left)
+    reads-none Other (bytes d) lineFeed (d .loop .from) _ (f .read-field2 .ensures) (c .enum-told2 .given .1) ∙ whole d (f .before .loop-test .left)
 
 array-read-panel-of : tie.Need-array-read-panel-of Inv-loop μ-loop
 array-read-panel-of c = search needs
@@ -107,7 +109,7 @@ returns-3 c =
     let f = c .before .before .before .before in
     let d = f .before .before in
     order-made (d .loop .first) _ (c .panel-of .ensures)
-    ∙ reads-on (bytes d) lineFeed (d .loop .from) _ (f .read-field2 .ensures) (c .before .before .b .given .1)
+    ∙ reads-on Other (bytes d) lineFeed (d .loop .from) _ (f .read-field2 .ensures) (c .before .before .b .given .1)
     ∙ whole d (f .before .loop-test .left)
 
 pub read-line-spec : {M : Type 1} → statement M

@@ -1,0 +1,3 @@
+pub mod Examples
+pub mod Plots
+pub mod Heads

@@ -1,0 +1,4 @@
+pub mod Examples
+pub mod Lines
+pub mod Turns
+pub mod RoundTrip

@@ -1,0 +1,4 @@
+pub mod Through
+pub mod Lines
+pub mod Draws
+pub mod Made
