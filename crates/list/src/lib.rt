@@ -110,7 +110,7 @@ fn all_adjacent(list: &[u8]) -> bool
 }
 
 // 7, then 8.
-pub fn check_walk(p: Panel, list: &[u8]) -> Check
+fn check_walk(p: Panel, list: &[u8]) -> Check
     ensures { λ r. ⌜ r ≡ checkWalk p (cellsIn (now (list .entry))) ⌝ }
 {
     if !all_on_panel(p, list) {
