@@ -11,6 +11,6 @@ pub mod router;
 pub mod search;
 
 pub use bound::bound;
-pub use judge::judge;
+pub use judge::{judge, judge_once};
 pub use order::{Bounded, Cell, Order, Refusal};
 pub use router::draw;
