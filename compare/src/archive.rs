@@ -16,47 +16,6 @@ mod c {
             buffer: *mut u8,
             buffer_len: usize,
         ) -> u64;
-        pub fn foil_judge(
-            m: u32,
-            n: u32,
-            pitch: u32,
-            sx: u32,
-            sy: u32,
-            tx: u32,
-            ty: u32,
-            list: *const u8,
-            list_len: usize,
-            scratch: *mut u8,
-            scratch_len: usize,
-        ) -> u64;
-        #[cfg(gcc)]
-        pub fn judge_gcc(
-            m: u32,
-            n: u32,
-            pitch: u32,
-            sx: u32,
-            sy: u32,
-            tx: u32,
-            ty: u32,
-            list: *const u8,
-            list_len: usize,
-            scratch: *mut u8,
-            scratch_len: usize,
-        ) -> u64;
-        #[cfg(clang)]
-        pub fn judge_clang(
-            m: u32,
-            n: u32,
-            pitch: u32,
-            sx: u32,
-            sy: u32,
-            tx: u32,
-            ty: u32,
-            list: *const u8,
-            list_len: usize,
-            scratch: *mut u8,
-            scratch_len: usize,
-        ) -> u64;
     }
 }
 
@@ -93,16 +52,31 @@ pub fn draw(order: &Order, buffer: &mut [u8]) -> Answer {
     })
 }
 
-/// foil_judge, or a call with its arguments and its promises.
+/// foil_judge, or a call with its arguments and its promises, which is declared here once for all of them.
 macro_rules! judge {
     ($name:ident, $call:ident) => {
         pub fn $name(order: &Order, list: &[u8], scratch: &mut [u8]) -> Answer {
+            extern "C" {
+                fn $call(
+                    m: u32,
+                    n: u32,
+                    pitch: u32,
+                    sx: u32,
+                    sy: u32,
+                    tx: u32,
+                    ty: u32,
+                    list: *const u8,
+                    list_len: usize,
+                    scratch: *mut u8,
+                    scratch_len: usize,
+                ) -> u64;
+            }
             let Order { width, height, pitch, entry, exit } = *order;
+            let (at, len) = (list.as_ptr(), list.len());
+            let (marks, room) = (scratch.as_mut_ptr(), scratch.len());
             // SAFETY: both buffers are slices, which do not overlap, and the call stays within their lengths.
             Answer::of(unsafe {
-                let (at, len) = (list.as_ptr(), list.len());
-                let (marks, room) = (scratch.as_mut_ptr(), scratch.len());
-                c::$call(width, height, pitch, entry.0, entry.1, exit.0, exit.1, at, len, marks, room)
+                $call(width, height, pitch, entry.0, entry.1, exit.0, exit.1, at, len, marks, room)
             })
         }
     };
