@@ -9,6 +9,13 @@ fn run(command: &mut Command) {
     assert!(done.success(), "{command:?}: {done}");
 }
 
+/// Compiles a file of c/ and gives the object back.
+fn compile(cc: &str, name: &str, object: &Path, words: &[&str]) -> PathBuf {
+    let source = Path::new("c").join(name).with_extension("c");
+    run(Command::new(cc).args(["-O3", "-fPIC", "-c"]).args(words).arg(source).arg("-o").arg(object));
+    object.to_path_buf()
+}
+
 fn main() {
     let package = PathBuf::from(env::var_os("CARGO_MANIFEST_DIR").unwrap());
     let out = PathBuf::from(env::var_os("OUT_DIR").unwrap());
@@ -21,13 +28,19 @@ fn main() {
     println!("cargo:rustc-link-lib=static=host");
 
     println!("cargo:rerun-if-env-changed=CC");
-    println!("cargo:rerun-if-changed=c/loops.c");
+    println!("cargo:rerun-if-changed=c");
     let cc = env::var("CC").unwrap_or_else(|_| "cc".into());
-    let object = out.join("loops.o");
-    let library = out.join("libloops.a");
-    let source = Path::new("c/loops.c");
-    run(Command::new(cc).args(["-O3", "-fPIC", "-c"]).arg(source).arg("-o").arg(&object));
-    run(Command::new("ar").arg("rcs").arg(&library).arg(&object));
+    let mut objects = vec![compile(&cc, "loops", &out.join("loops.o"), &[])];
+    // Judge in C, once by each compiler that is there, so that both can be timed in one run.
+    for cc in ["gcc", "clang"] {
+        println!("cargo:rustc-check-cfg=cfg({cc})");
+        if Command::new(cc).arg("--version").output().is_ok_and(|said| said.status.success()) {
+            println!("cargo:rustc-cfg={cc}");
+            let name = format!("-DJUDGE=judge_{cc}");
+            objects.push(compile(cc, "judge", &out.join(format!("judge_{cc}.o")), &[&name]));
+        }
+    }
+    run(Command::new("ar").arg("rcs").arg(out.join("libloops.a")).args(objects));
     println!("cargo:rustc-link-search=native={}", out.display());
     println!("cargo:rustc-link-lib=static=loops");
 }

@@ -1,11 +1,25 @@
-//! Judge: whether a list of cells is a track from entry to exit.
+//! Judge: whether a list of cells is a track from entry to exit. Once as the demands are written, each
+//! test over the whole list before the next; and once in one pass, to be timed beside it.
 
 use crate::order::{Order, Refusal};
 
+fn wide(&[x, y]: &[u8; 2]) -> (u32, u32) {
+    (u32::from(x), u32::from(y))
+}
+
+/// The last refusals of the cells, then their number.
+fn judge_ends(order: &Order, cells: &[[u8; 2]]) -> Result<u32, Refusal> {
+    if cells.len() > order.area() {
+        return Err(Refusal::TooManyCells);
+    }
+    if cells.first().map(wide) != Some(order.entry) || cells.last().map(wide) != Some(order.exit) {
+        return Err(Refusal::WrongEnds);
+    }
+    Ok(cells.len() as u32)
+}
+
 /// The refusals of the cells, in order; `marks` has one byte of 0 for each cell of the panel.
 fn judge_cells(order: &Order, cells: &[[u8; 2]], marks: &mut [u8]) -> Result<u32, Refusal> {
-    let wide = |&[x, y]: &[u8; 2]| (u32::from(x), u32::from(y));
-
     if !cells.iter().all(|c| order.holds(wide(c))) {
         return Err(Refusal::CellOff);
     }
@@ -22,17 +36,45 @@ fn judge_cells(order: &Order, cells: &[[u8; 2]], marks: &mut [u8]) -> Result<u32
         }
         *mark = 1;
     }
-    if cells.len() > order.area() {
-        return Err(Refusal::TooManyCells);
-    }
-    if cells.first().map(wide) != Some(order.entry) || cells.last().map(wide) != Some(order.exit) {
-        return Err(Refusal::WrongEnds);
-    }
-    Ok(cells.len() as u32)
+    judge_ends(order, cells)
 }
 
-/// The call Judge.
-pub fn judge(order: &Order, list: &[u8], scratch: &mut [u8]) -> Result<u32, Refusal> {
+/// The same in one pass, which only a cell off the panel ends. Of the forms that were tried, this is the
+/// one that the compiler makes fastest.
+fn walk_cells(order: &Order, cells: &[[u8; 2]], marks: &mut [u8]) -> Result<u32, Refusal> {
+    let (mut last_x, mut last_y) = (0, 0);
+    let mut jump = false;
+    let mut twice = 0;
+    for (i, &[x, y]) in cells.iter().enumerate() {
+        let (x, y) = (u32::from(x), u32::from(y));
+        if x < 1 || order.width < x || y < 1 || order.height < y {
+            return Err(Refusal::CellOff);
+        }
+        let mark = &mut marks[(y as usize - 1) * (order.width as usize) + (x as usize - 1)];
+        twice |= *mark;
+        *mark = 1;
+        let (dx, dy) = (x as i32 - last_x as i32, y as i32 - last_y as i32);
+        if dx * dx + dy * dy != 1 && i != 0 {
+            jump = true;
+        }
+        (last_x, last_y) = (x, y);
+    }
+    if jump {
+        return Err(Refusal::NotNeighbours);
+    }
+    if twice != 0 {
+        return Err(Refusal::Repeated);
+    }
+    judge_ends(order, cells)
+}
+
+/// The call Judge, with the tests of its cells as a function.
+fn judge_by(
+    test: impl Fn(&Order, &[[u8; 2]], &mut [u8]) -> Result<u32, Refusal>,
+    order: &Order,
+    list: &[u8],
+    scratch: &mut [u8],
+) -> Result<u32, Refusal> {
     order.check()?;
     let (cells, odd) = list.as_chunks::<2>();
     if cells.is_empty() || !odd.is_empty() {
@@ -40,7 +82,17 @@ pub fn judge(order: &Order, list: &[u8], scratch: &mut [u8]) -> Result<u32, Refu
     }
     let marks = scratch.get_mut(..order.area()).ok_or(Refusal::ShortBuffer)?;
     marks.fill(0);
-    let verdict = judge_cells(order, cells, marks);
+    let verdict = test(order, cells, marks);
     marks.fill(0);
     verdict
+}
+
+/// The call Judge.
+pub fn judge(order: &Order, list: &[u8], scratch: &mut [u8]) -> Result<u32, Refusal> {
+    judge_by(judge_cells, order, list, scratch)
+}
+
+/// The call Judge in one pass over the list.
+pub fn judge_once(order: &Order, list: &[u8], scratch: &mut [u8]) -> Result<u32, Refusal> {
+    judge_by(walk_cells, order, list, scratch)
 }

@@ -1,6 +1,6 @@
 //! A second implementation of Bound, Draw and Judge, written from the demands and from the
-//! linear-time paper (document 000) alone, and a safe wrapper around the archive's three calls.
-//! The tests compare one with the other; the benchmark times them side by side.
+//! linear-time paper (document 000) alone, and a safe wrapper around the archive's three calls and
+//! around Judge in C. The tests compare one with the other; the benchmark times them side by side.
 
 pub mod archive;
 pub mod bound;
@@ -11,6 +11,6 @@ pub mod router;
 pub mod search;
 
 pub use bound::bound;
-pub use judge::judge;
+pub use judge::{judge, judge_once};
 pub use order::{Bounded, Cell, Order, Refusal};
 pub use router::draw;

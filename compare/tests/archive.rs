@@ -1,8 +1,8 @@
 //! The archive's calls beside the independent implementation: every pair up to 8 by 8, every fault beside
 //! every pitch, and more than a million random and hostile calls, fixed by their seeds.
 
-use compare::archive::{self, Answer};
-use compare::{bound, draw, judge, random::Random, Cell, Order, Refusal};
+use compare::archive::{self, Answer, Judge};
+use compare::{bound, draw, judge, judge_once, random::Random, Cell, Order, Refusal};
 
 const USUAL: u32 = 4_000;
 
@@ -42,6 +42,7 @@ fn compare_draw(order: &Order, buffer: &mut [u8]) -> Answer {
     answer
 }
 
+/// The archive's Judge, the twin's two and the C ones give one answer and leave one scratch.
 fn compare_judge(order: &Order, list: &[u8], scratch: &mut [u8]) -> Answer {
     let before = scratch.to_vec();
     let mut own = before.clone();
@@ -52,6 +53,13 @@ fn compare_judge(order: &Order, list: &[u8], scratch: &mut [u8]) -> Answer {
     // What is tested before the cells leaves the scratch, 18 too.
     let cells_looked_at = matches!(answer.refusal, 0 | 7..=11);
     assert!(cells_looked_at || *scratch == before[..], "{order:?} {list:?}: scratch touched");
+    // The forms that are only timed.
+    let once: Judge = |o, l, s| packed(&judge_once(o, l, s), |&count| (0, count));
+    for (name, timed) in [vec![("Rust", once)], archive::judges_in_c()].concat() {
+        let mut marks = before.clone();
+        assert_eq!(timed(order, list, &mut marks), expected, "{order:?} {list:?}, one pass in {name}");
+        assert!(marks == own, "{order:?} {list:?}: scratch, one pass in {name}");
+    }
     answer
 }
 
@@ -383,4 +391,51 @@ fn random_and_hostile_judgements() {
     }
     // 10 is never met: more than mn cells of the panel have one twice, which is 9.
     met.at_least(100, &[0, 1, 18, 2, 3, 4, 5, 6, 7, 8, 9, 11]);
+}
+
+/// A list along the first row of a panel of two rows, with faults in the given order between its steps: 7
+/// is a cell above the panel, 8 a cell left out, 9 a step back.
+fn with_faults(faults: &[u32]) -> Vec<u8> {
+    let mut list = vec![1, 1, 2, 1];
+    let mut x = 2;
+    let mut go = |cells: &[(u8, u8)]| cells.iter().for_each(|&(x, y)| list.extend([x, y]));
+    for fault in faults {
+        match fault {
+            7 => go(&[(x, 0)]),
+            8 => x += 1,
+            9 => go(&[(x - 1, 1), (x, 1)]),
+            _ => unreachable!(),
+        }
+        x += 1;
+        go(&[(x, 1)]);
+    }
+    list
+}
+
+/// Every list of up to three of the faults 7, 8 and 9, in every order and more than once, with the right
+/// ends, a wrong first cell, a wrong last cell or both, in scratch that holds anything: the lowest number
+/// is the answer, wherever its fault stands.
+#[test]
+fn faults_in_every_order() {
+    let mut random = Random::new(0x5EED_0004);
+    let mut met = Met::new();
+    let more = |lists: Vec<Vec<u32>>| -> Vec<Vec<u32>> {
+        lists.iter().flat_map(|l| [7, 8, 9].map(|f| [&l[..], &[f]].concat())).collect()
+    };
+    let one = more(vec![vec![]]);
+    let two = more(one.clone());
+    let three = more(two.clone());
+    for faults in [vec![vec![]], one, two, three].concat() {
+        let list = with_faults(&faults);
+        let last = (u32::from(list[list.len() - 2]), 1);
+        for (entry, exit) in [((1, 1), last), ((9, 2), last), ((1, 1), (9, 2)), ((9, 2), (10, 2))] {
+            let order = Order::new(12, 2, USUAL, entry, exit);
+            let ends = (entry != (1, 1) || exit != last).then_some(11);
+            let lowest = faults.iter().copied().chain(ends).min().unwrap_or(0);
+            let answer = compare_judge(&order, &list, &mut dirty(&mut random, 30));
+            assert_eq!(answer.refusal, lowest, "{order:?} {faults:?}");
+            met.note(answer);
+        }
+    }
+    met.at_least(1, &[0, 7, 8, 9, 11]);
 }

@@ -1,10 +1,10 @@
 //! Times of Bound, Draw and Judge beside the independent Rust implementation, plain loops in C that
-//! write the same cells, and memcpy of the same bytes. All contenders of a line take turns in one run,
-//! and each one's shortest turn counts. Buffers are not cleared between.
+//! write the same cells, memcpy of the same bytes, and Judge in one pass in Rust and in C. All contenders
+//! of a line take turns in one run, and each one's shortest turn counts. Buffers are not cleared between.
 
 use compare::archive;
 use compare::random::Random;
-use compare::{bound, draw, judge, Order};
+use compare::{bound, draw, judge, judge_once, Order};
 use std::hint::black_box;
 use std::time::Instant;
 
@@ -183,25 +183,47 @@ fn bench_draw(name: &str, jobs: &[Job]) -> f64 {
     each
 }
 
+type JudgeCall = Box<dyn Fn(&Order, &[u8], &mut [u8])>;
+
+/// Judge and its peers: the twin as the demands are written, in one pass, and in C.
+fn judges() -> Vec<(String, JudgeCall)> {
+    let mut all: Vec<(String, JudgeCall)> = vec![
+        ("Rattle".into(), Box::new(|o, l, s| _ = black_box(archive::judge(o, l, s)))),
+        ("Rust".into(), Box::new(|o, l, s| _ = black_box(judge(o, l, s)))),
+        ("Rust, one pass".into(), Box::new(|o, l, s| _ = black_box(judge_once(o, l, s)))),
+    ];
+    for (cc, call) in archive::judges_in_c() {
+        all.push((format!("C by {cc}"), Box::new(move |o, l, s| _ = black_box(call(o, l, s)))));
+    }
+    all
+}
+
 fn bench_judge(name: &str, jobs: &[Job]) {
     let room = jobs.iter().map(|j| j.order.area()).max().unwrap();
-    let (mut a, mut b) = (vec![0; room], vec![0; room]);
-    let t = times(
-        jobs.len(),
-        &mut [
-            &mut || {
-                for j in jobs {
-                    black_box(archive::judge(&j.order, black_box(&j.track), black_box(&mut a)));
-                }
-            },
-            &mut || {
-                for j in jobs {
-                    _ = black_box(judge(&j.order, black_box(&j.track), black_box(&mut b)));
-                }
-            },
-        ],
-    );
-    println!("| {name} | {} | {} | {} |", time(t[0]), time(t[1]), ratio(t[0], t[1]));
+    let mut runs: Vec<Box<dyn FnMut() + '_>> = Vec::new();
+    for (_, call) in judges() {
+        let mut marks = vec![0u8; room];
+        runs.push(Box::new(move || {
+            for j in jobs {
+                call(&j.order, black_box(&j.track), black_box(&mut marks));
+            }
+        }));
+    }
+    let mut contenders: Vec<&mut dyn FnMut()> = Vec::new();
+    for run in &mut runs {
+        contenders.push(run);
+    }
+    let t = times(jobs.len(), &mut contenders);
+    let all: Vec<String> = t.iter().map(|&t| time(t)).collect();
+    let ratios: Vec<String> = t[1..].iter().map(|&peer| ratio(t[0], peer)).collect();
+    println!("| {name} | {} | {} |", all.join(" | "), ratios.join(" | "));
+}
+
+fn head_of_judge() {
+    let names: Vec<String> = judges().into_iter().map(|(name, _)| name).collect();
+    let ratios: Vec<String> = names[1..].iter().map(|peer| format!("/ {peer}")).collect();
+    println!("\nJudge, of the tracks drawn\n\n| orders | {} | {} |", names.join(" | "), ratios.join(" | "));
+    println!("|{}", "---|".repeat(2 * names.len()));
 }
 
 /// Random orders on panels whose sides a function gives.
@@ -242,7 +264,7 @@ fn main() {
     bench_draw("128 by 128, (128,64) to (1,1)", &one((128, 64), (1, 1)));
     bench_draw("128 by 128, (40,50) to (90,81)", &one((40, 50), (90, 81)));
     println!("\nEach cell, 128 by 128 / 32 by 32: {:.2}", each[2] / each[1]);
-    println!("\nJudge, of the tracks drawn\n\n| orders | Rattle | Rust | Rattle / Rust |\n|---|---|---|---|");
+    head_of_judge();
     for (name, jobs) in &sizes {
         bench_judge(name, jobs);
     }

@@ -1,3 +1,5 @@
 pub mod Checks
-pub mod Ends
+pub mod Verdicts
+pub mod Walks
+pub mod Each
 pub mod Theorem

@@ -1,5 +1,5 @@
-// Judge: whether a list of cells is a track from entry to exit. Repeats are found by marking cells
-// in lent scratch, so the time is linear in the list.
+// Judge: whether a list of cells is a track from entry to exit. It walks the list once: after each
+// cell the kept numbers and the marks in lent scratch decide the answer for the list up to there.
 use grid::Cell;
 use grid::Cells;
 use grid::CellsAnswer;
@@ -11,20 +11,22 @@ use grid::area_of;
 use grid::check_order;
 use grid::expect;
 use grid::same_cell;
+use judge_walk::Kept;
+use judge_walk::start;
+use judge_walk::take_cell;
 use list::cell_at;
-use list::check_walk;
 use list::whole_cells;
-use scratch::all_once;
 use scratch::clear;
 ghost use mathlib.Core.Path.{_≡_};
-ghost use mathlib.Core.Bool.{true};
+ghost use mathlib.Core.Bool.{true, _&&_};
 ghost use Prim.Native.Nat.{_≤_};
 ghost use lib.ListN.{length};
-ghost use Rattle.grid.specs.Panel.{goodSides, area};
+ghost use Rattle.grid.specs.Panel.{cell, sameCell, goodSides, area};
 ghost use Rattle.grid.specs.Bytes.{cellsIn};
-ghost use Rattle.list.specs.List.{wholeCells, runs};
-ghost use Rattle.scratch.specs.Scratch.{cleared};
-ghost use Rattle.judge.specs.Judge.{sizesCheck, endsCheck, cellsCheck, Judges};
+ghost use Rattle.list.specs.List.{wholeCells};
+ghost use Rattle.scratch.specs.Scratch.{cleared, Clean};
+ghost use Rattle.judge.specs.Judge.{sizesCheck, cellsCheck, Judges};
+ghost use Rattle.judge.specs.Walk.{Decides, Walked};
 
 // The refusals that are tested before any cell is looked at.
 fn check_sizes(p: Panel, entry: Cell, exit: Cell, bytes: usize, room: usize) -> Check
@@ -37,32 +39,60 @@ fn check_sizes(p: Panel, entry: Cell, exit: Cell, bytes: usize, room: usize) -> 
     )
 }
 
-// Whether the first cell of the list is the entry and the last is the exit.
-fn ends_at(entry: Cell, exit: Cell, list: &[u8]) -> bool
-    requires { ⌜ wholeCells (length (now list)) ≡ true ⌝ }
-    ensures { λ r. ⌜ r ≡ runs entry exit (cellsIn (now (list .entry))) ⌝ }
+// Whether the first cell is the entry and the last the exit.
+fn ends_at(kept: Kept, exit: Cell) -> bool
+    ensures { λ r. ⌜ r ≡ (kept .begins && sameCell (cell (kept .x) (kept .y)) exit) ⌝ }
 {
-    if !same_cell(cell_at(list, 0), entry) {
-        return false;
+    let last = Cell {
+        x: kept.x,
+        y: kept.y,
+    };
+    if kept.begins {
+        return same_cell(last, exit);
     }
-    same_cell(cell_at(list, list.len() - 2), exit)
+    false
 }
 
-// The last refusals of the cells: their number, and the ends.
-fn check_ends(p: Panel, entry: Cell, exit: Cell, list: &[u8]) -> Check
-    requires { ⌜ wholeCells (length (now list)) ≡ true ⌝ }
-    ensures { λ r. ⌜ r ≡ endsCheck p entry exit (cellsIn (now (list .entry))) ⌝ }
+// The answer for a list that the kept numbers stand for: the refusals of its cells, in order.
+fn verdict(p: Panel, exit: Cell, kept: Kept) -> Check
+    ensures { λ r. ⌜ Decides p exit kept r ⌝ }
 {
-    if area_of(p) < list.len() / 2 {
+    if kept.off != 0 {
+        return Check::Refused(Refusal::CellOff);
+    }
+    if kept.jump != 0 {
+        return Check::Refused(Refusal::NotNeighbours);
+    }
+    if kept.twice != 0 {
+        return Check::Refused(Refusal::Repeated);
+    }
+    if area_of(p) < kept.bytes / 2 {
         return Check::Refused(Refusal::TooManyCells);
     }
-    if !ends_at(entry, exit, list) {
-        return Check::Refused(Refusal::WrongEnds);
-    }
-    Check::Good
+    expect(ends_at(kept, exit), Refusal::WrongEnds, Check::Good)
 }
 
-// The refusals of the cells. Scratch is cleared first, so that it is clean whichever test fails.
+// Walks the list in clean scratch. Only a cell off the panel ends the walk: 7 is tested before all
+// else, so that no later cell changes it, while a later 7 comes before an 8, and an 8 before a 9.
+fn walk(p: Panel, entry: Cell, list: &[u8], scratch: &mut [u8]) -> Kept
+    requires good { ⌜ goodSides p ≡ true ⌝ }
+    requires whole { ⌜ wholeCells (length (now list)) ≡ true ⌝ }
+    requires clean { ⌜ Clean p (now scratch) ⌝ }
+    ensures { λ r. ⌜ Walked p entry (cellsIn (now (list .entry))) (now (scratch .entry)) r (now (scratch .exit)) ⌝ }
+{
+    let mut k = start();
+    let mut at = 0;
+    while at < list.len() {
+        k = take_cell(p, entry, k, cell_at(list, at), scratch);
+        if k.off != 0 {
+            return k;
+        }
+        at = k.bytes;
+    }
+    k
+}
+
+// The refusals of the cells. Scratch is lent dirty and left clean, whichever test fails.
 fn check_cells(p: Panel, entry: Cell, exit: Cell, list: &[u8], scratch: &mut [u8]) -> Check
     requires good { ⌜ goodSides p ≡ true ⌝ }
     requires whole { ⌜ wholeCells (length (now list)) ≡ true ⌝ }
@@ -70,15 +100,10 @@ fn check_cells(p: Panel, entry: Cell, exit: Cell, list: &[u8], scratch: &mut [u8
     ensures told { λ r. ⌜ r ≡ cellsCheck p entry exit (cellsIn (now (list .entry))) ⌝ }
     ensures left { λ _. ⌜ now (scratch .exit) ≡ cleared p (now (scratch .entry)) ⌝ }
 {
+    clear(p, scratch); // whatever was lent
+    let kept = walk(p, entry, list, scratch);
     clear(p, scratch);
-    let walk = check_walk(p, list);
-    if let Check::Refused(fault) = walk {
-        return Check::Refused(fault);
-    }
-    if !all_once(p, list, scratch) {
-        return Check::Refused(Refusal::Repeated);
-    }
-    check_ends(p, entry, exit, list)
+    verdict(p, exit, kept)
 }
 
 // Whether the list is a track from entry to exit, and how many cells it has.

@@ -182,6 +182,42 @@ fn wrong_ends() {
     try_list(b"\x01\x01");
 }
 
+// Two faults in both orders where the lists above have one, and three in every order: a cell off the
+// panel (0,1), a jump from (1,1) to (3,1), and (3,2) twice.
+fn three_faults() {
+    text(b"7, 8, 9:\n");
+    try_list(b"\x01\x01\x02\x01\x01\x01\x00\x01\x01\x02");
+    try_list(b"\x00\x01\x01\x01\x02\x01\x01\x01\x01\x02");
+    try_list(b"\x00\x01\x01\x01\x03\x01\x03\x02\x02\x02\x03\x02");
+    try_list(b"\x00\x01\x03\x02\x02\x02\x03\x02\x01\x01\x03\x01");
+    try_list(b"\x01\x01\x03\x01\x00\x01\x03\x02\x02\x02\x03\x02");
+    try_list(b"\x01\x01\x03\x01\x03\x02\x02\x02\x03\x02\x00\x01");
+    try_list(b"\x03\x02\x02\x02\x03\x02\x00\x01\x01\x01\x03\x01");
+    try_list(b"\x03\x02\x02\x02\x03\x02\x01\x01\x03\x01\x00\x01");
+}
+
+// 11 in front or at the end, with 8 and 9 in both orders; then with one of them, and with 7.
+fn faults_and_ends() {
+    text(b"8, 9, 11:\n");
+    try_list(b"\x01\x01\x03\x01\x02\x01\x03\x01\x03\x02");
+    try_list(b"\x01\x01\x02\x01\x01\x01\x03\x01\x03\x02");
+    try_list(b"\x02\x01\x03\x02\x03\x01\x03\x02\x02\x02\x01\x02");
+    try_list(b"\x02\x01\x01\x01\x02\x01\x03\x02\x02\x02\x01\x02");
+    try_list(b"\x02\x01\x03\x02\x02\x02\x01\x02");
+    try_list(b"\x01\x01\x02\x01\x01\x01\x02\x01");
+    try_list(b"\x02\x01\x02\x02\x02\x03");
+    try_list(b"\x01\x01\x02\x01\x02\x00");
+}
+
+// One cell: off the panel, the entry, the exit, another.
+fn one_cell() {
+    text(b"one cell:\n");
+    try_list(b"\x04\x01");
+    try_list(b"\x01\x01");
+    try_list(b"\x01\x02");
+    try_list(b"\x03\x02");
+}
+
 // The first bytes of the snake, its last cell changed to (x, y), on the panel of 128 by 128 from
 // (1,1) to the exit, with the first bytes of scratch.
 fn try_snake(
@@ -214,8 +250,9 @@ fn try_large(bytes: usize, x: u8, y: u8, exit: Cell, room: usize) {
 }
 
 // All cells of the largest panel, with the right exit and another, and with scratch too short; then
-// with a cell more, the one above the last and one off the panel; and two rows with their first
-// cell again at the end.
+// with a cell more, the one above the last and one off the panel; two rows with their first cell
+// again at the end; and the last cell changed to the first, which is 8, 9 and 11, and to the one
+// before the last but one, which is 9 and 11.
 fn large() {
     text(b"128 by 128:\n");
     try_large(32768, 1, 128, Cell { x: 1, y: 128 }, 16400);
@@ -224,6 +261,8 @@ fn large() {
     try_large(32770, 1, 127, Cell { x: 1, y: 127 }, 16400);
     try_large(32770, 1, 129, Cell { x: 1, y: 128 }, 16400);
     try_large(514, 1, 1, Cell { x: 1, y: 2 }, 16400);
+    try_large(32768, 1, 1, Cell { x: 1, y: 128 }, 16400);
+    try_large(32768, 3, 128, Cell { x: 1, y: 128 }, 16400);
 }
 
 fn main() {
@@ -235,5 +274,8 @@ fn main() {
     not_neighbours();
     repeated();
     wrong_ends();
+    three_faults();
+    faults_and_ends();
+    one_cell();
     large();
 }

@@ -4,3 +4,5 @@ pub mod Whole
 pub mod Tracks
 pub mod Checks
 pub mod Squares
+pub mod Behind
+pub mod Apart

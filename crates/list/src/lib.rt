@@ -1,18 +1,17 @@
-// Lists of cells, x and y for each: the cell at a place, the tests that Judge and Write share, what
-// Write tests before its buffer, and the squares of a list.
+// Lists of cells, x and y for each: the cell at a place, how far two cells are apart, what Write tests
+// before its buffer, and the squares of a list.
 use grid::Cell;
 use grid::Check;
 use grid::Panel;
 use grid::Refusal;
 use grid::area_of;
 use grid::check_panel;
-use grid::distance;
 ghost use mathlib.Core.Path.{_≡_};
-ghost use Prim.Native.Nat.{_+_, _<_, _≤_};
+ghost use Prim.Native.Nat.{_+_, _*_, _<_, _≤_};
 ghost use lib.ListN.{length, getD, set};
-ghost use Rattle.grid.specs.Panel.{maxSide, neighbours};
+ghost use Rattle.grid.specs.Panel.{maxSide, dist, neighbours};
 ghost use Rattle.grid.specs.Bytes.{cellsIn};
-ghost use Rattle.list.specs.List.{cellAt, wholeCells, allOn, allSteps, squares};
+ghost use Rattle.list.specs.List.{cellAt, InBytes, squaredDistance, wholeCells, allOn, allSteps, squares};
 ghost use Rattle.list.specs.Check.{checkWalk, goodCount, checkList};
 
 pub fn byte_at(s: &[u8], i: usize) -> u32
@@ -63,17 +62,29 @@ fn all_on_panel(p: Panel, list: &[u8]) -> bool
     true
 }
 
-// One step in y, or one in x.
+// The square of how far two coordinates are apart.
+fn square_apart(a: u32, b: u32) -> u32
+    requires { ⌜ (a < 256) × (b < 256) ⌝ }
+    ensures { λ r. ⌜ r ≡ dist a b * dist a b ⌝ }
+{
+    let d = a as i32 - b as i32;
+    (d * d) as u32
+}
+
+// The square of the straight distance between two cells.
+pub fn squared_distance(a: Cell, b: Cell) -> u32
+    requires { ⌜ InBytes a × InBytes b ⌝ }
+    ensures { λ r. ⌜ r ≡ squaredDistance a b ⌝ }
+{
+    square_apart(a.x, b.x) + square_apart(a.y, b.y)
+}
+
+// Whether two cells are neighbours: by the square, since no branch then goes by the direction.
 fn adjacent(a: Cell, b: Cell) -> bool
+    requires { ⌜ InBytes a × InBytes b ⌝ }
     ensures { λ r. ⌜ r ≡ neighbours a b ⌝ }
 {
-    if a.x == b.x {
-        return distance(a.y, b.y) == 1;
-    }
-    if a.y == b.y {
-        return distance(a.x, b.x) == 1;
-    }
-    false
+    squared_distance(a, b) == 1
 }
 
 // Whether the cells whose x stand at i and at i + 2 are neighbours.
@@ -98,8 +109,8 @@ fn all_adjacent(list: &[u8]) -> bool
     true
 }
 
-// What Judge and Write both test of the cells: 7, then 8.
-pub fn check_walk(p: Panel, list: &[u8]) -> Check
+// 7, then 8.
+fn check_walk(p: Panel, list: &[u8]) -> Check
     ensures { λ r. ⌜ r ≡ checkWalk p (cellsIn (now (list .entry))) ⌝ }
 {
     if !all_on_panel(p, list) {

@@ -1,4 +1,3 @@
 pub mod Places
 pub mod Marks
-pub mod Marking
 pub mod Clean

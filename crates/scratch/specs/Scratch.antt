@@ -1,18 +1,21 @@
 -- Document 01, "Judge": the scratch of a panel, a byte for each of its cells in front and bytes behind that no call touches.
 use Prim.Native.Nat.{ℕ, _+_, _-_, _*_, _≤_}
 use mathlib.Core.Path.{_≡_}
-use mathlib.Core.Bool.{true}
+use mathlib.Core.Bool.{Bool}
 use mathlib.Core.List.{List, _++_}
-use lib.ListN.{length, take, drop, replicate}
+use lib.Dec.{eqb}
+use lib.ListN.{length, take, drop, getD, replicate}
 use Rattle.grid.specs.declared.Panel.{Panel}
 use Rattle.grid.specs.declared.Cell.{Cell}
-use Rattle.grid.specs.Panel.{area, goodSides}
-use Rattle.grid.specs.Bytes.{cellsIn}
-use Rattle.list.specs.List.{allOn}
+use Rattle.grid.specs.Panel.{area}
 
 -- the place of a cell, row by row
 abbrev pub place : Panel → Cell → ℕ
 place p c = (c .y - 1) * p .width + (c .x - 1)
+
+-- the place of a cell holds 0
+abbrev pub unmarked : Panel → List ℕ → Cell → Bool
+unmarked p s c = eqb (getD s (place p c) 0) 0
 
 -- scratch with its first k bytes 0 and the rest untouched
 abbrev pub zerosFor : ℕ → List ℕ → List ℕ
@@ -26,9 +29,3 @@ cleared p s = zerosFor (area p) s
 pub record Clean (p : Panel) (s : List ℕ) : Type 0 where
   pub room : area p ≤ length s
   pub zeros : take (area p) s ≡ replicate (area p) 0
-
--- what marking wants: a panel with good sides, a list of cells that are all on it, and clean scratch
-pub record Markable (p : Panel) (list s : List ℕ) : Type 0 where
-  pub sides : goodSides p ≡ true
-  pub on : allOn p (cellsIn list) ≡ true
-  pub clean : Clean p s

@@ -1,89 +1,42 @@
--- The tests in document 01's order. Scratch is as clearing left it: the search for repeats brings it back to that.
+-- The walk finds the scratch clean, and clearing takes away its marks (`cleared-again`); what the walk keeps decides (`decided`).
 use borrow.Author.Needs.{needs}
-use borrow.Author.Tests.{not-true, not-false}
-use mathlib.Core.Path.{_≡_, sym, _∙_}
-use Rattle.grid.specs.declared.Check.the-variants.{Good}
-use Rattle.grid.specs.Bytes.{cellsIn}
-use Rattle.grid.proofs.Tests.{expect-yes, expect-no, after-good, after-refused}
-use Rattle.list.specs.Check.{checkWalk}
-use Rattle.list.proofs.Checks.{walk-good}
-use Rattle.scratch.proofs.Clean.{clean}
+use mathlib.Core.Path.{_∙_}
+use Rattle.scratch.proofs.Clean.{clean, cleared-again}
+use Rattle.judge.proofs.Walks.{decided}
 use Rattle.judge.proofs.check_cells.Statement.{statement}
 use Rattle.judge.proofs.check_cells.Tie as tie
 
-abbrev cleared-at : tie.After-check-walk → tie.After-clear
-cleared-at c = c .before .before .before
-
-abbrev begin : tie.After-check-walk → tie.Start
-begin c = cleared-at c .before .before .before .before
-
-walks : (c : tie.After-enum-told)
-    → checkWalk (begin (c .before .before) .args .p) (cellsIn (begin (c .before .before) .args .list .now)) ≡ Good
-walks c = sym (c .before .before .check-walk .ensures) ∙ c .enum-told .given .1
+abbrev begin : tie.After-clear → tie.Start
+begin c = c .before .before .before .before
 
 clear-requires : tie.Need-clear-requires
 clear-requires c κs = search needs
 
-check-walk-requires : tie.Need-check-walk-requires
-check-walk-requires c κs = search needs
+walk-requires : tie.Need-walk-requires
+walk-requires c κs =
+    let d = c .before .before .before in
+    let s = begin d in
+    (s .pre .0, (s .pre .1 .0, clean _ _ (s .pre .1 .1) (d .clear .ensures)))
 
-enum-known-walk : tie.Need-enum-known-walk
-enum-known-walk c = search needs
+clear-requires-2 : tie.Need-clear-requires-2
+clear-requires-2 c κs = search needs
+
+verdict-requires : tie.Need-verdict-requires
+verdict-requires c κs = search needs
 
 same-length : tie.Need-same-length
 same-length c = search needs
 
 returns : tie.Need-returns
 returns c =
-    let w = c .before .before .before in
-    (after-refused _ (sym (w .check-walk .ensures) ∙ c .before .walk .given .1), cleared-at w .clear .ensures)
-
-enum-told : tie.Need-enum-told
-enum-told c = search needs
-
-all-once-requires : tie.Need-all-once-requires
-all-once-requires c κs =
-    let w = c .before .before .before in
-    let s = begin w in
-    let (on, next) = walk-good (s .args .p) (cellsIn (s .args .list .now)) (walks (c .before)) in
-    record { sides = s .pre .0; on = on; clean = clean _ _ (s .pre .1 .1) (cleared-at w .clear .ensures) }
-
-same-length-2 : tie.Need-same-length-2
-same-length-2 c = search needs
-
-returns-2 : tie.Need-returns-2
-returns-2 c =
-    let o = c .before .before .before in
-    let w = o .before .before in
-    let t = expect-no _ _ (sym (o .all-once .ensures .0) ∙ not-true _ (c .if1 .taken)) in
-    (after-good _ (walks w) t, o .all-once .ensures .1 ∙ cleared-at (w .before .before) .clear .ensures)
-
-check-ends-requires : tie.Need-check-ends-requires
-check-ends-requires c κs = search needs
-
-same-length-3 : tie.Need-same-length-3
-same-length-3 c = search needs
-
-returns-3 : tie.Need-returns-3
-returns-3 c =
-    let o = c .before .before .before .before in
-    let w = o .before .before in
-    let t = expect-yes _ _ (sym (o .all-once .ensures .0) ∙ not-false _ (c .before .if1 .left)) (c .check-ends .ensures) in
-    (after-good _ (walks w) t, o .all-once .ensures .1 ∙ cleared-at (w .before .before) .clear .ensures)
+    let d = c .before .before .before in
+    let w = d .before .before .before .before in
+    let first = w .before .before .before .before in
+    let a = begin first .args in
+    let again = cleared-again (a .p) (a .scratch .now) (w .walk .last .1 .1 .1 .0) (first .clear .ensures) (w .walk .ensures .rest) in
+    (decided _ _ _ _ (w .walk .ensures) (c .verdict .ensures), d .clear2 .ensures ∙ again)
 
 pub check-cells-spec : {M : Type 1} → statement M
 check-cells-spec =
     tie.close
-    (tie.spec
-    clear-requires
-    check-walk-requires
-    enum-known-walk
-    same-length
-    returns
-    enum-told
-    all-once-requires
-    same-length-2
-    returns-2
-    check-ends-requires
-    same-length-3
-    returns-3)
+    (tie.spec clear-requires walk-requires clear-requires-2 verdict-requires same-length returns)

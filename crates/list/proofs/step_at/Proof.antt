@@ -1,5 +1,6 @@
--- The two cells are those at the two places.
+-- The two cells are those at the two places, and their coordinates are bytes.
 use borrow.Author.Needs.{needs}
+use Prim.Native.Nat.{_+_}
 use mathlib.Core.Path.{_∙_}
 use Rattle.grid.specs.Panel.{neighbours}
 use Rattle.list.proofs.step_at.Statement.{statement}
@@ -15,7 +16,12 @@ cell-at-requires-2 : tie.Need-cell-at-requires-2
 cell-at-requires-2 c κs = search needs
 
 adjacent-requires : tie.Need-adjacent-requires
-adjacent-requires c κs = search needs
+adjacent-requires c κs =
+    let byte = c .before .before .shared-slice-known .given in
+    let i = c .before .before .before .args .i in (
+      rw (c .before .cell-at .ensures) (record { column = byte i .fits; row = byte (i + 1) .fits }),
+      rw (c .cell-at2 .ensures) (record { column = byte (i + 2) .fits; row = byte (i + 2 + 1) .fits }),
+    )
 
 returns : tie.Need-returns
 returns c = c .adjacent .ensures ∙ (λ i. neighbours (c .before .before .cell-at .ensures i) (c .before .cell-at2 .ensures i))
