@@ -1,4 +1,4 @@
--- Document 01: what is tested of a list of cells, each test over the whole list; the cell at a byte; the squares; a list put into a buffer.
+-- Document 01: what is tested of a list of cells, each test over the whole list; the cell at a byte; a list put into a buffer.
 use Prim.Native.Nat.{ℕ, _+_, _*_, _%_, _<_}
 use mathlib.Core.Bool.{Bool, true, false, not, _&&_, _||_}
 use mathlib.Core.List.{List, [], _∷_, _++_}
@@ -60,11 +60,6 @@ lastFrom c (d ∷ l) = lastFrom d l
 abbrev pub runs : Cell → Cell → List Cell → Bool
 runs s t [] = false
 runs s t (c ∷ l) = sameCell c s && sameCell (lastFrom c l) t
-
--- the squares in hundredths: 100 for each cell
-abbrev pub squares : List Cell → ℕ
-squares [] = 0
-squares (c ∷ l) = 100 + squares l
 
 -- a buffer with a list of cells at its front, the bytes behind as they were
 abbrev pub withCells : List Cell → List ℕ → List ℕ
