@@ -405,7 +405,7 @@ fn with_faults(faults: &[u32]) -> Vec<u8> {
 /// is the answer, wherever its fault stands.
 #[test]
 fn faults_in_every_order() {
-    let mut random = Random::new(0x5EED_0004);
+    let mut random = Random::new(0x5EED_0009);
     let mut met = Met::new();
     let more = |lists: Vec<Vec<u32>>| -> Vec<Vec<u32>> {
         lists.iter().flat_map(|l| [7, 8, 9].map(|f| [&l[..], &[f]].concat())).collect()

@@ -63,9 +63,8 @@ fn random_orders() {
     let mut random = Random::new(0x5EED_0008);
     for largest in [5, 16, 128].repeat(100) {
         let (width, height) = (random.within(1, largest), random.within(1, largest));
-        let mut cell = || (random.within(1, width), random.within(1, height));
-        let (entry, exit) = (cell(), cell());
-        prints_as_expected(&Order::new(width, height, random.within(1_000, 10_000), entry, exit));
+        let pitch = random.within(1_000, 10_000);
+        prints_as_expected(&random.order(width, height, pitch));
     }
 }
 

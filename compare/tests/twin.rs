@@ -46,8 +46,7 @@ fn random_orders() {
     let mut random = Random::new(0x1D5E);
     for _ in 0..4_000 {
         let (width, height) = (random.within(1, 128), random.within(1, 128));
-        let mut cell = || (random.within(1, width), random.within(1, height));
-        let order = Order::new(width, height, USUAL, cell(), cell());
+        let order = random.order(width, height, USUAL);
         if order.entry != order.exit {
             draws_and_accepts(&order);
         }

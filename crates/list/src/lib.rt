@@ -10,8 +10,8 @@ ghost use mathlib.Core.Path.{_≡_};
 ghost use Prim.Native.Nat.{_+_, _*_, _<_, _≤_};
 ghost use lib.ListN.{length, getD, set};
 ghost use Rattle.grid.specs.Panel.{maxSide, dist, neighbours};
-ghost use Rattle.grid.specs.Bytes.{cellsIn};
-ghost use Rattle.list.specs.List.{cellAt, InBytes, squaredDistance, wholeCells, allOn, allSteps};
+ghost use Rattle.grid.specs.Bytes.{InBytes, cellsIn};
+ghost use Rattle.list.specs.List.{cellAt, squaredDistance, wholeCells, allOn, allSteps};
 ghost use Rattle.list.specs.Check.{checkWalk, goodCount, checkList};
 
 pub fn byte_at(s: &[u8], i: usize) -> u32

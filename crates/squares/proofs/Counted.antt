@@ -1,5 +1,5 @@
 -- The law of R-4: a list has 100 hundredths of a square for each cell, less 44 for each corner.
-use Prim.Native.Nat.{_+_, _*_, _≤_}
+use Prim.Native.Nat.{_+_, _-_, _*_, _≤_}
 use native.Mathlib.Omega.{arith}
 use mathlib.Core.Path.{_≡_, refl}
 use mathlib.Core.Bool.{Bool, true, false, cond}
@@ -22,7 +22,7 @@ squares-counted [] = refl
 squares-counted (a ∷ []) = refl
 squares-counted (a ∷ b ∷ l) = omega (arith, counted-from a b l)
 
--- a list has no more corners than cells
+-- a corner lies between two other cells
 at-most-one : (t : Bool) → cond t 1 0 ≤ 1
 at-most-one true = omega arith
 at-most-one false = omega arith
@@ -31,7 +31,7 @@ few-from : (a b : Cell) (l : List Cell) → cornersFrom a b l ≤ length l
 few-from a b [] = omega arith
 few-from a b (c ∷ l) = omega (arith, at-most-one (cornerBetween a c), few-from b c l)
 
-pub corners-few : (l : List Cell) → corners l ≤ length l
+pub corners-few : (l : List Cell) → corners l ≤ length l - 2
 corners-few [] = omega arith
 corners-few (a ∷ []) = omega arith
 corners-few (a ∷ b ∷ l) = omega (arith, few-from a b l)

@@ -1,15 +1,16 @@
 -- One turn of the loop over the list: the cell behind the one at a byte, and the corners behind it; at the end none is left.
 use Prim.Native.Nat.{ℕ, _+_, _≤_, _<_}
 use native.Mathlib.Omega.{arith}
-use mathlib.Core.Path.{_≡_, refl, sym, ap, _∙_}
+use mathlib.Core.Path.{_≡_, sym, ap, _∙_}
 use mathlib.Core.Bool.{cond}
-use mathlib.Core.List.{List, [], _∷_}
+use mathlib.Core.List.{List, _∷_}
 use lib.ListN.{length, drop, length-drop}
 use Rattle.grid.specs.declared.Cell.{Cell}
 use Rattle.grid.specs.Bytes.{cellsIn}
 use Rattle.list.specs.List.{cellAt}
-use Rattle.list.proofs.Cells.{cells-next}
+use Rattle.list.proofs.Cells.{cells-next, length-cells}
 use Rattle.squares.specs.Squares.{cornerBetween, corners}
+use Rattle.squares.proofs.Counted.{corners-few}
 
 module _ (b : List ℕ) (i : ℕ) where
   pub corner-turn : i + 5 < length b
@@ -26,13 +27,4 @@ module _ (b : List ℕ) (i : ℕ) where
           ∙ ap (λ (k : List Cell). cellAt b (i + 2) ∷ k) (cells-next b (i + 4) (omega arith))
 
   pub corner-end : length b ≤ i + 5 → corners (cellsIn (drop i b)) ≡ 0
-  corner-end h = few (drop i b) (omega (arith, length-drop i b))
-    where
-      few : (k : List ℕ) → length k ≤ 5 → corners (cellsIn k) ≡ 0
-      few [] e = refl
-      few (x ∷ []) e = refl
-      few (x ∷ y ∷ []) e = refl
-      few (x ∷ y ∷ z ∷ []) e = refl
-      few (x ∷ y ∷ z ∷ w ∷ []) e = refl
-      few (x ∷ y ∷ z ∷ w ∷ v ∷ []) e = refl
-      few (x ∷ y ∷ z ∷ w ∷ v ∷ u ∷ k) e = absurd (omega arith)
+  corner-end h = omega (arith, corners-few (cellsIn (drop i b)), length-cells (drop i b), length-drop i b)
