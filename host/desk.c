@@ -26,6 +26,19 @@ static int order_in(const char *line, struct order *o)
     return read == 8 && end == '\n';
 }
 
+/* The squares of a list of cells in hundredths: 100 for each cell, less 44 for each corner, which is a cell where the
+ * cells before and after it differ in both x and y. */
+static uint32_t squares_of(const uint8_t *list, uint32_t cells)
+{
+    uint32_t squares = 100 * cells;
+    for (uint32_t k = 2; k < cells; k++) {
+        const uint8_t *before = list + 2 * (k - 2), *after = list + 2 * k;
+        if (before[0] != after[0] && before[1] != after[1])
+            squares -= 44;
+    }
+    return squares;
+}
+
 /* Prints the sheet of an order; the pitch, which the desk's buyers know in millimetres, in these. */
 static void sheet(struct order o)
 {
@@ -39,8 +52,9 @@ static void sheet(struct order o)
     }
     uint32_t cells = foil_count_in(drawn);
     uint64_t judged = foil_judge(o.m, o.n, o.pitch, o.sx, o.sy, o.tx, o.ty, track, 2 * (size_t)cells, scratch, sizeof scratch);
-    printf("class %" PRIu32 " (%s), %" PRIu32 " cells, %" PRIu32 " steps, %" PRIu32 ".00 squares, judged %s\n",
-           foil_class_in(bound), class_names[foil_class_in(bound)], cells, cells - 1, cells,
+    uint32_t squares = squares_of(track, cells);
+    printf("class %" PRIu32 " (%s), %" PRIu32 " cells, %" PRIu32 " steps, %" PRIu32 ".%02" PRIu32 " squares, judged %s\n",
+           foil_class_in(bound), class_names[foil_class_in(bound)], cells, cells - 1, squares / 100, squares % 100,
            judged == drawn && cells == foil_count_in(bound) ? "good" : "bad");
 }
 

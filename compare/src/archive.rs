@@ -2,23 +2,6 @@
 
 use crate::order::Order;
 
-mod c {
-    extern "C" {
-        pub fn foil_bound(m: u32, n: u32, pitch: u32, sx: u32, sy: u32, tx: u32, ty: u32) -> u64;
-        pub fn foil_draw(
-            m: u32,
-            n: u32,
-            pitch: u32,
-            sx: u32,
-            sy: u32,
-            tx: u32,
-            ty: u32,
-            buffer: *mut u8,
-            buffer_len: usize,
-        ) -> u64;
-    }
-}
-
 /// An answer taken apart: refusal, class and count, each 0 where there is none.
 #[derive(Clone, Copy, Debug, PartialEq, Eq)]
 pub struct Answer {
@@ -37,47 +20,39 @@ impl Answer {
     }
 }
 
+/// Calls a function in C that takes an order's seven numbers and then these, and answers as the archive's
+/// calls do.
+macro_rules! call {
+    ($call:ident($order:expr $(, $name:ident: $type:ty = $value:expr)*)) => {{
+        extern "C" {
+            fn $call(m: u32, n: u32, pitch: u32, sx: u32, sy: u32, tx: u32, ty: u32 $(, $name: $type)*) -> u64;
+        }
+        let Order { width, height, pitch, entry, exit } = *$order;
+        // SAFETY: beside numbers only slices are passed, which do not overlap, each as its pointer and its
+        // length; the call stays within their lengths, and writes to the mutable ones only.
+        Answer::of(unsafe { $call(width, height, pitch, entry.0, entry.1, exit.0, exit.1 $(, $value)*) })
+    }};
+}
+
 pub fn bound(order: &Order) -> Answer {
-    let Order { width, height, pitch, entry, exit } = *order;
-    // SAFETY: numbers only.
-    Answer::of(unsafe { c::foil_bound(width, height, pitch, entry.0, entry.1, exit.0, exit.1) })
+    call!(foil_bound(order))
 }
 
 pub fn draw(order: &Order, buffer: &mut [u8]) -> Answer {
-    let Order { width, height, pitch, entry, exit } = *order;
-    // SAFETY: the buffer is the slice's, and the call writes within its length.
-    Answer::of(unsafe {
-        let (at, len) = (buffer.as_mut_ptr(), buffer.len());
-        c::foil_draw(width, height, pitch, entry.0, entry.1, exit.0, exit.1, at, len)
-    })
+    call!(foil_draw(order, buffer: *mut u8 = buffer.as_mut_ptr(), buffer_len: usize = buffer.len()))
 }
 
-/// foil_judge, or a call with its arguments and its promises, which is declared here once for all of them.
+/// foil_judge, or a call with its arguments and its promises.
 macro_rules! judge {
     ($name:ident, $call:ident) => {
         pub fn $name(order: &Order, list: &[u8], scratch: &mut [u8]) -> Answer {
-            extern "C" {
-                fn $call(
-                    m: u32,
-                    n: u32,
-                    pitch: u32,
-                    sx: u32,
-                    sy: u32,
-                    tx: u32,
-                    ty: u32,
-                    list: *const u8,
-                    list_len: usize,
-                    scratch: *mut u8,
-                    scratch_len: usize,
-                ) -> u64;
-            }
-            let Order { width, height, pitch, entry, exit } = *order;
-            let (at, len) = (list.as_ptr(), list.len());
-            let (marks, room) = (scratch.as_mut_ptr(), scratch.len());
-            // SAFETY: both buffers are slices, which do not overlap, and the call stays within their lengths.
-            Answer::of(unsafe {
-                $call(width, height, pitch, entry.0, entry.1, exit.0, exit.1, at, len, marks, room)
-            })
+            call!($call(
+                order,
+                list: *const u8 = list.as_ptr(),
+                list_len: usize = list.len(),
+                scratch: *mut u8 = scratch.as_mut_ptr(),
+                scratch_len: usize = scratch.len()
+            ))
         }
     };
 }

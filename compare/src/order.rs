@@ -83,3 +83,15 @@ impl Order {
         Ok(())
     }
 }
+
+/// An order for every two cells, equal or not, of a panel.
+pub fn pairs(width: u32, height: u32, pitch: u32) -> impl Iterator<Item = Order> {
+    let cells = move || (1..=height).flat_map(move |y| (1..=width).map(move |x| (x, y)));
+    cells().flat_map(move |entry| cells().map(move |exit| Order::new(width, height, pitch, entry, exit)))
+}
+
+/// The same for every panel up to `side` by `side`.
+pub fn every_pair(side: u32, pitch: u32) -> impl Iterator<Item = Order> {
+    let panels = (1..=side).flat_map(move |m| (1..=side).map(move |n| (m, n)));
+    panels.flat_map(move |(width, height)| pairs(width, height, pitch))
+}

@@ -1,5 +1,7 @@
 //! A small generator of pseudorandom numbers (xorshift64*), so that a seed fixes every test.
 
+use crate::order::Order;
+
 pub struct Random(u64);
 
 impl Random {
@@ -28,5 +30,11 @@ impl Random {
 
     pub fn byte(&mut self) -> u8 {
         (self.next() >> 56) as u8
+    }
+
+    /// An order between two cells of a panel, which may be the same.
+    pub fn order(&mut self, width: u32, height: u32, pitch: u32) -> Order {
+        let mut cell = || (self.within(1, width), self.within(1, height));
+        Order::new(width, height, pitch, cell(), cell())
     }
 }

@@ -2,7 +2,7 @@
 //! every pitch, and more than a million random and hostile calls, fixed by their seeds.
 
 use compare::archive::{self, Answer, Judge};
-use compare::{bound, draw, judge, judge_once, random::Random, Cell, Order, Refusal};
+use compare::{bound, draw, every_pair, judge, judge_once, random::Random, Cell, Order, Refusal};
 
 const USUAL: u32 = 4_000;
 
@@ -82,30 +82,20 @@ impl Met {
     }
 }
 
-/// Calls for every two cells, equal or not, of every panel up to `side` by `side`.
-fn every_pair(side: u32, mut call: impl FnMut(&Order)) {
-    for (width, height) in (1..=side).flat_map(|m| (1..=side).map(move |n| (m, n))) {
-        let cells = || (1..=height).flat_map(move |y| (1..=width).map(move |x| (x, y)));
-        for (entry, exit) in cells().flat_map(|s| cells().map(move |t| (s, t))) {
-            call(&Order::new(width, height, USUAL, entry, exit));
-        }
-    }
-}
-
 #[test]
 fn every_pair_up_to_eight_by_eight() {
-    every_pair(8, |order| {
-        compare_bound(order);
+    for order in every_pair(8, USUAL) {
+        compare_bound(&order);
         let mut buffer = [0xA5; 2 * 64 + 2];
-        let count = compare_draw(order, &mut buffer).count as usize;
+        let count = compare_draw(&order, &mut buffer).count as usize;
         if count > 0 {
-            compare_draw(order, &mut [0x5A; 2 * 64][..2 * count]);
-            compare_draw(order, &mut [0x5A; 2 * 64][..2 * count - 1]);
+            compare_draw(&order, &mut [0x5A; 2 * 64][..2 * count]);
+            compare_draw(&order, &mut [0x5A; 2 * 64][..2 * count - 1]);
         }
         let mut scratch = [0xA5; 66];
-        compare_judge(order, &buffer[..2 * count], &mut scratch);
-        compare_judge(order, &buffer[..2 * count], &mut scratch[..order.area() - 1]);
-    });
+        compare_judge(&order, &buffer[..2 * count], &mut scratch);
+        compare_judge(&order, &buffer[..2 * count], &mut scratch[..order.area() - 1]);
+    }
 }
 
 /// What stands first among the refusals, told without either implementation: 1, then 18.
@@ -212,11 +202,9 @@ fn same_at_every_pitch(order: &Order, random: &mut Random) {
 #[test]
 fn a_pitch_in_the_range_changes_nothing() {
     let mut random = Random::new(0x5EED_0007);
-    every_pair(6, |order| {
-        if order.entry != order.exit {
-            same_at_every_pitch(order, &mut random);
-        }
-    });
+    for order in every_pair(6, USUAL).filter(|order| order.entry != order.exit) {
+        same_at_every_pitch(&order, &mut random);
+    }
     for _ in 0..1_000 {
         let order = order(&mut random, 2);
         if order.at(USUAL).check().is_ok() {
@@ -417,7 +405,7 @@ fn with_faults(faults: &[u32]) -> Vec<u8> {
 /// is the answer, wherever its fault stands.
 #[test]
 fn faults_in_every_order() {
-    let mut random = Random::new(0x5EED_0004);
+    let mut random = Random::new(0x5EED_0009);
     let mut met = Met::new();
     let more = |lists: Vec<Vec<u32>>| -> Vec<Vec<u32>> {
         lists.iter().flat_map(|l| [7, 8, 9].map(|f| [&l[..], &[f]].concat())).collect()

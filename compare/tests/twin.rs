@@ -2,17 +2,12 @@
 //! draws, the count is the longest track's wherever a full search is short enough, and the pitch is refused
 //! where it must be and changes nothing elsewhere.
 
-use compare::{bound, draw, judge, random::Random, search, Order, Refusal};
+use compare::{bound, draw, judge, pairs, random::Random, search, Order, Refusal};
 
 const USUAL: u32 = 4_000;
 
 fn orders(width: u32, height: u32) -> impl Iterator<Item = Order> {
-    let cells = move || (1..=height).flat_map(move |y| (1..=width).map(move |x| (x, y)));
-    cells().flat_map(move |entry| {
-        cells()
-            .filter(move |&exit| exit != entry)
-            .map(move |exit| Order::new(width, height, USUAL, entry, exit))
-    })
+    pairs(width, height, USUAL).filter(|order| order.entry != order.exit)
 }
 
 fn draws_and_accepts(order: &Order) {
@@ -51,8 +46,7 @@ fn random_orders() {
     let mut random = Random::new(0x1D5E);
     for _ in 0..4_000 {
         let (width, height) = (random.within(1, 128), random.within(1, 128));
-        let mut cell = || (random.within(1, width), random.within(1, height));
-        let order = Order::new(width, height, USUAL, cell(), cell());
+        let order = random.order(width, height, USUAL);
         if order.entry != order.exit {
             draws_and_accepts(&order);
         }

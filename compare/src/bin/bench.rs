@@ -232,10 +232,9 @@ fn mix(seed: u64, jobs: usize, sides: impl Fn(&mut Random) -> (u32, u32)) -> Vec
     let mut found = Vec::new();
     while found.len() < jobs {
         let (width, height) = sides(&mut random);
-        let mut cell = || (random.within(1, width), random.within(1, height));
-        let (entry, exit) = (cell(), cell());
-        if entry != exit {
-            found.push(Job::new(Order::new(width, height, PITCH, entry, exit)));
+        let order = random.order(width, height, PITCH);
+        if order.entry != order.exit {
+            found.push(Job::new(order));
         }
     }
     found

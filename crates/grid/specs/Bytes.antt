@@ -1,10 +1,15 @@
 -- A cell list is bytes: x then y for each cell. And where a part of a slice of bytes begins.
-use Prim.Native.Nat.{ℕ, _+_, _*_}
+use Prim.Native.Nat.{ℕ, _+_, _*_, _≤_}
 use mathlib.Core.Path.{_≡_}
 use mathlib.Core.List.{List, [], _∷_}
 use lib.ListN.{take}
 use denote.Ref.{RefT}
 use Rattle.grid.specs.declared.Cell.{Cell}
+
+-- a cell whose coordinates are bytes, as those of a cell in a list are
+pub record InBytes (c : Cell) : Type 0 where
+  pub across : c .x ≤ 255
+  pub down : c .y ≤ 255
 
 -- the bytes of a list of cells
 abbrev pub bytes : List Cell → List ℕ

@@ -14,8 +14,9 @@ use borrow.Author.Tests.{eqb-true, eqb-false, eq-eqb, ne-eqb}
 use Rattle.grid.specs.declared.Panel.{Panel}
 use Rattle.grid.specs.declared.Cell.{Cell}
 use Rattle.grid.specs.Panel.{cell, GoodSides, area, onPanel, OnPanel, sameCell, neighbours}
+use Rattle.grid.specs.Bytes.{InBytes}
 use Rattle.grid.proofs.Facts.{and-parts, on, is-on}
-use Rattle.list.specs.List.{InBytes, squaredDistance, allOn, allSteps, among, lastFrom}
+use Rattle.list.specs.List.{squaredDistance, allOn, allSteps, among, lastFrom}
 use Rattle.list.proofs.Apart.{step-by-squares}
 use Rattle.list.proofs.Behind.{all-on-append, last-behind, steps-behind, among-behind, none-twice-behind}
 use Rattle.scratch.specs.Scratch.{place, unmarked, Clean}
@@ -67,7 +68,7 @@ is-off p c n = by-test (onPanel p c) refl
 
 -- they are in bytes, and so is the last cell that is kept
 pub in-bytes : {p : Panel} {c : Cell} → GoodSides p → OnPanel p c → InBytes c
-in-bytes g o = record { column = omega arith; row = omega arith }
+in-bytes g o = record { across = omega arith; down = omega arith }
 
 last-in-bytes : {p : Panel} → GoodSides p → (d : Cell) (l : List Cell) → InBytes d → allOn p l ≡ true → InBytes (lastFrom d l)
 last-in-bytes g d [] b e = b
@@ -79,7 +80,7 @@ pub kept-in-bytes : {p : Panel} {s : Cell} {l : List Cell} {k : Kept} {marks : L
     → GoodSides p → Stands p s l k marks → k .off ≡ 0 → InBytes (cell (k .x) (k .y))
 kept-in-bytes {l = l} g z f =
     let e = sym (z .off) ∙ eq-eqb _ _ f in
-    subst⁻¹ InBytes (z .on e .last) (last-in-bytes g (cell 0 0) l (record { column = omega arith; row = omega arith }) e)
+    subst⁻¹ InBytes (z .on e .last) (last-in-bytes g (cell 0 0) l (record { across = omega arith; down = omega arith }) e)
 
 -- ---- the start
 

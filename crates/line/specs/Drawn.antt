@@ -7,11 +7,7 @@ use Rattle.grid.specs.declared.Cell.{Cell}
 use Rattle.grid.specs.Panel.{dist}
 use Rattle.grid.specs.Track.{TrackIn}
 use Rattle.grid.specs.Bytes.{bytes}
-
--- a cell whose coordinates are bytes
-pub record InBytes (c : Cell) : Type 0 where
-  pub across : c .x ≤ 255
-  pub down : c .y ≤ 255
+pub use Rattle.grid.specs.Bytes.{InBytes}
 
 -- four numbers that are bytes
 pub record Bytes (p q p' q' : ℕ) : Type 0 where

@@ -3,6 +3,5 @@ pub mod Turns
 pub mod Whole
 pub mod Tracks
 pub mod Checks
-pub mod Squares
 pub mod Behind
 pub mod Apart

@@ -1,5 +1,5 @@
--- Document 01: what is tested of a list of cells, each test over the whole list; the cell at a byte; the squares; a list put into a buffer.
-use Prim.Native.Nat.{ℕ, _+_, _*_, _%_, _<_}
+-- Document 01: what is tested of a list of cells, each test over the whole list; the cell at a byte; a list put into a buffer.
+use Prim.Native.Nat.{ℕ, _+_, _*_, _%_}
 use mathlib.Core.Bool.{Bool, true, false, not, _&&_, _||_}
 use mathlib.Core.List.{List, [], _∷_, _++_}
 use lib.Dec.{leb, eqb}
@@ -12,11 +12,6 @@ use Rattle.grid.specs.Bytes.{bytes}
 -- the cell whose x stands at a byte of a list
 abbrev pub cellAt : List ℕ → ℕ → Cell
 cellAt b i = cell (getD b i 0) (getD b (i + 1) 0)
-
--- a cell whose coordinates are bytes, as those of a cell in a list are
-pub record InBytes (c : Cell) : Type 0 where
-  pub column : c .x < 256
-  pub row : c .y < 256
 
 -- the square of the straight distance between two cells
 abbrev pub squaredDistance : Cell → Cell → ℕ
@@ -60,11 +55,6 @@ lastFrom c (d ∷ l) = lastFrom d l
 abbrev pub runs : Cell → Cell → List Cell → Bool
 runs s t [] = false
 runs s t (c ∷ l) = sameCell c s && sameCell (lastFrom c l) t
-
--- the squares in hundredths: 100 for each cell
-abbrev pub squares : List Cell → ℕ
-squares [] = 0
-squares (c ∷ l) = 100 + squares l
 
 -- a buffer with a list of cells at its front, the bytes behind as they were
 abbrev pub withCells : List Cell → List ℕ → List ℕ

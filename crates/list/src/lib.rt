@@ -1,5 +1,5 @@
-// Lists of cells, x and y for each: the cell at a place, how far two cells are apart, what Write tests
-// before its buffer, and the squares of a list.
+// Lists of cells, x and y for each: the cell at a place, how far two cells are apart, and what Write tests
+// before its buffer.
 use grid::Cell;
 use grid::Check;
 use grid::Panel;
@@ -10,8 +10,8 @@ ghost use mathlib.Core.Path.{_≡_};
 ghost use Prim.Native.Nat.{_+_, _*_, _<_, _≤_};
 ghost use lib.ListN.{length, getD, set};
 ghost use Rattle.grid.specs.Panel.{maxSide, dist, neighbours};
-ghost use Rattle.grid.specs.Bytes.{cellsIn};
-ghost use Rattle.list.specs.List.{cellAt, InBytes, squaredDistance, wholeCells, allOn, allSteps, squares};
+ghost use Rattle.grid.specs.Bytes.{InBytes, cellsIn};
+ghost use Rattle.list.specs.List.{cellAt, squaredDistance, wholeCells, allOn, allSteps};
 ghost use Rattle.list.specs.Check.{checkWalk, goodCount, checkList};
 
 pub fn byte_at(s: &[u8], i: usize) -> u32
@@ -150,12 +150,4 @@ pub fn check_list(p: Panel, list: &[u8]) -> Check
         return Check::Refused(Refusal::StepCount);
     }
     Check::Good
-}
-
-// The squares of a list of at most 16,384 cells, in hundredths.
-pub fn squares_of(list: &[u8]) -> u32
-    requires { ⌜ length (now list) ≤ 32768 ⌝ }
-    ensures { λ r. ⌜ r ≡ squares (cellsIn (now (list .entry))) ⌝ }
-{
-    100 * ((list.len() / 2) as u32)
 }

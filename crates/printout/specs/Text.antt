@@ -3,7 +3,7 @@ use Prim.Native.Nat.{ℕ, _-_}
 use mathlib.Core.List.{List, [], _∷_, _++_}
 use lib.ListN.{length}
 use Rattle.grid.specs.declared.Cell.{Cell}
-use Rattle.list.specs.List.{squares}
+use Rattle.squares.specs.Squares.{squares}
 use Rattle.step_letters.specs.Letters.{lettersOf}
 use Rattle.text.specs.Field.{blank, lineFeed, fieldOf}
 

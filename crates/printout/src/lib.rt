@@ -1,7 +1,7 @@
 // The lines that `foil` prints, put into a buffer; each function gives the place behind them.
 use grid::Cells;
 use grid::steps_of;
-use list::squares_of;
+use squares::squares_of;
 use step_letters::write_letters;
 use text::BLANK;
 use text::LINE_FEED;

@@ -1,6 +1,6 @@
 -- Letters and steps undo each other: the letter of a step to a neighbour leads to that neighbour, and a letter is that of the step
 -- it makes. Along a list and along letters, by induction.
-use Prim.Native.Nat.{ℕ, _+_, _-_, _≤_, _<_}
+use Prim.Native.Nat.{ℕ, _+_, _-_, _≤_}
 use mathlib.Core.Path.{_≡_, refl, sym, ap, ap₂, _∙_, subst⁻¹}
 use mathlib.Core.Bool.{Bool, true, false, cond}
 use mathlib.Core.Logic.{⊎-elim}
@@ -41,39 +41,42 @@ by-letter P n e s w b k =
     at : (a : ℕ) → P a → eqb b a ≡ true → P b
     at a p h = subst⁻¹ P (eqb-true b a h) p
 
--- ---- the four steps, in numbers
+-- ---- steps
 
-step-up : (a b c d : ℕ) → dist a b + dist c d ≡ 1 → d < c → (a ≡ b) × (c - 1 ≡ d)
-unfolding dist
-step-up a b c d e h = omega arith
+-- where a step from a to b goes, by its letter
+pub data Goes (a b : Cell) : ℕ → Type 0 where
+  up : a .x ≡ b .x → b .y + 1 ≡ a .y → Goes a b north
+  right : a .x + 1 ≡ b .x → a .y ≡ b .y → Goes a b east
+  down : a .x ≡ b .x → a .y + 1 ≡ b .y → Goes a b south
+  left : b .x + 1 ≡ a .x → a .y ≡ b .y → Goes a b west
 
-step-right : (a b c d : ℕ) → dist a b + dist c d ≡ 1 → a < b → (a + 1 ≡ b) × (c ≡ d)
-unfolding dist
-step-right a b c d e h = omega arith
-
-step-down : (a b c d : ℕ) → dist a b + dist c d ≡ 1 → c < d → (a ≡ b) × (c + 1 ≡ d)
-unfolding dist
-step-down a b c d e h = omega arith
-
-step-left : (a b c d : ℕ) → dist a b + dist c d ≡ 1 → c ≤ d → b ≤ a → d ≤ c → (a - 1 ≡ b) × (c ≡ d)
-unfolding dist
-step-left a b c d e h i j = omega arith
-
-pub stepped-letter : (a b : Cell) → neighbours a b ≡ true → stepped a (letter a b) ≡ b
-unfolding stepped letter apart
-stepped-letter a b e = at (ltb (b .y) (a .y)) (ltb (a .x) (b .x)) (ltb (a .y) (b .y)) refl refl refl
+pub goes : (a b : Cell) → neighbours a b ≡ true → Goes a b (letter a b)
+unfolding letter apart dist
+goes a b h = at (ltb (b .y) (a .y)) (ltb (a .x) (b .x)) (ltb (a .y) (b .y)) refl refl refl
   where
     one : dist (a .x) (b .x) + dist (a .y) (b .y) ≡ 1
-    one = eqb-true _ 1 e
+    one = eqb-true _ 1 h
 
     at : (n e s : Bool) → ltb (b .y) (a .y) ≡ n → ltb (a .x) (b .x) ≡ e → ltb (a .y) (b .y) ≡ s
-        → stepped a (cond n north (cond e east (cond s south west))) ≡ b
-    at true e s h i j = let (x, y) = step-up (a .x) (b .x) (a .y) (b .y) one (ltb-true _ _ h) in cell-eq x y
-    at false true s h i j = let (x, y) = step-right (a .x) (b .x) (a .y) (b .y) one (ltb-true _ _ i) in cell-eq x y
-    at false false true h i j = let (x, y) = step-down (a .x) (b .x) (a .y) (b .y) one (ltb-true _ _ j) in cell-eq x y
+        → Goes a b (cond n north (cond e east (cond s south west)))
+    at true e s h i j = let n = ltb-true (b .y) (a .y) h in up (omega (arith, one)) (omega (arith, one))
+    at false true s h i j = let e = ltb-true (a .x) (b .x) i in right (omega (arith, one)) (omega (arith, one))
+    at false false true h i j = let s = ltb-true (a .y) (b .y) j in down (omega (arith, one)) (omega (arith, one))
     at false false false h i j =
-        let (x, y) = step-left (a .x) (b .x) (a .y) (b .y) one (ltb-false _ _ h) (ltb-false _ _ i) (ltb-false _ _ j) in
-        cell-eq x y
+        let n = ltb-false (b .y) (a .y) h in
+        let e = ltb-false (a .x) (b .x) i in
+        let s = ltb-false (a .y) (b .y) j in
+        left (omega (arith, one)) (omega (arith, one))
+
+leads-to : {a b : Cell} {k : ℕ} → Goes a b k → stepped a k ≡ b
+unfolding stepped
+leads-to (up x y) = cell-eq x (omega arith)
+leads-to (right x y) = cell-eq x y
+leads-to (down x y) = cell-eq x y
+leads-to (left x y) = cell-eq (omega arith) y
+
+pub stepped-letter : (a b : Cell) → neighbours a b ≡ true → stepped a (letter a b) ≡ b
+stepped-letter a b e = leads-to (goes a b e)
 
 pub letter-stepped : (c : Cell) → 1 ≤ c .x → 1 ≤ c .y → (b : ℕ) → known b ≡ true → letter c (stepped c b) ≡ b
 unfolding stepped letter

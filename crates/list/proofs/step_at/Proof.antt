@@ -1,5 +1,6 @@
 -- The two cells are those at the two places, and their coordinates are bytes.
 use borrow.Author.Needs.{needs}
+use native.Mathlib.Omega.{arith}
 use Prim.Native.Nat.{_+_}
 use mathlib.Core.Path.{_∙_}
 use Rattle.grid.specs.Panel.{neighbours}
@@ -19,8 +20,8 @@ adjacent-requires : tie.Need-adjacent-requires
 adjacent-requires c κs =
     let byte = c .before .before .shared-slice-known .given in
     let i = c .before .before .before .args .i in (
-      rw (c .before .cell-at .ensures) (record { column = byte i .fits; row = byte (i + 1) .fits }),
-      rw (c .cell-at2 .ensures) (record { column = byte (i + 2) .fits; row = byte (i + 2 + 1) .fits }),
+      rw (c .before .cell-at .ensures) (record { across = omega (arith, byte i .fits); down = omega (arith, byte (i + 1) .fits) }),
+      rw (c .cell-at2 .ensures) (record { across = omega (arith, byte (i + 2) .fits); down = omega (arith, byte (i + 2 + 1) .fits) }),
     )
 
 returns : tie.Need-returns

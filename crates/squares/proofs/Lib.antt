@@ -1,0 +1,5 @@
+pub mod Examples
+pub mod Facts
+pub mod Counted
+pub mod TwoByTwo
+pub mod Turns
