@@ -1,5 +1,7 @@
 -- A cell that fits is an exit, since a track with the count's cells exists; and an exit fits, since no track is longer than the count.
+use Prim.Native.Nat.{_≤_}
 use mathlib.Core.Path.{_≡_, sym, ap, _∙_}
+use mathlib.Core.Logic.{_≢_}
 use mathlib.Core.Bool.{true, false, not, true≢false}
 use native.Mathlib.Nat.{le-trans, le-of-eq}
 use lib.Dec.{leb}
@@ -29,10 +31,14 @@ module _ (p : Panel) (s : Cell) (w : Cells) (c : Cell) where
         enough = le-trans (leb-true _ _ enough) (le-of-eq (sym (r .1 .1)));
       }
 
+  -- another cell than s, with count enough
+  pub is-fit : s ≢ c → w .0 ≤ count p s c → fits p s w c ≡ true
+  is-fit d h = and-both (ap not (ne-same s c d)) (le-leb _ _ h)
+
   exit-fits : Exit p s w c → fits p s w c ≡ true
   exit-fits x =
-      let d : ¬ (s ≡ c) = λ q. x .other (sym q) in
-      and-both (ap not (ne-same s c d)) (le-leb _ _ (le-trans (x .enough) (no-longer p s c d (x .cells) (x .track))))
+      let d : s ≢ c = λ q. x .other (sym q) in
+      is-fit d (le-trans (x .enough) (no-longer p s c d (x .cells) (x .track)))
 
   pub no-fit : fits p s w c ≡ false → ¬ Exit p s w c
   no-fit e x = true≢false (sym (exit-fits x) ∙ e)

@@ -3,17 +3,17 @@
 use Prim.Native.Nat.{ℕ, _*_, _/_, _%_, _≤_, _<_}
 use mathlib.Core.Path.{_≡_, refl, sym, ap, _∙_, subst, subst⁻¹}
 use mathlib.Core.Logic.{_≢_, inl, inr}
-use mathlib.Core.Bool.{Bool, true, false, cond, not, true≢false}
+use mathlib.Core.Bool.{Bool, true, false, cond, true≢false}
 use native.Mathlib.Omega.{arith}
 use native.Mathlib.Decide.{ℕ-discrete}
-use borrow.Author.Tests.{le-leb, eqb-true}
+use borrow.Author.Tests.{eqb-true}
 use Rattle.grid.specs.declared.Panel.{Panel}
 use Rattle.grid.specs.declared.Cell.{Cell}
 use Rattle.grid.specs.declared.Cells.{Cells}
 use Rattle.grid.specs.declared.Check.the-variants.{Good}
 use Rattle.grid.specs.Check.{checkEntry}
 use Rattle.grid.specs.Panel.{OnPanel, area, black, cell}
-use Rattle.grid.proofs.Facts.{and-both, ne-same, ne-x}
+use Rattle.grid.proofs.Facts.{ne-x}
 use Rattle.count.specs.declared.ClassCount.{ClassCount}
 use Rattle.count.specs.Count.{odd}
 use Rattle.count.specs.ByColour.{coloured, byColour}
@@ -25,6 +25,7 @@ use Rattle.exit.specs.Exit.{fits, firstFit, exitOf}
 use Rattle.exit.specs.First.{Before}
 use Rattle.exit.specs.Most.{most}
 use Rattle.exit.proofs.Answers.{searched}
+use Rattle.exit.proofs.Fitting.{is-fit}
 use Rattle.exit.proofs.Reading.{FirstOn, first-on, none-on}
 
 -- a cell that passes a test is not read before the first one
@@ -58,7 +59,7 @@ module _ (p : Panel) (s : Cell) (w : Cells) (g : checkEntry p s ≡ Good) (wide 
   near x l u n {o} {b} eo eb h =
       let colours : byColour p s (cell x 1) ≡ coloured (area p) o b (black (cell x 1)) = λ i. coloured (area p) (eo i) (eb i) (black (cell x 1)) in
       let enough = subst⁻¹ (λ (r : ClassCount). w .0 ≤ r .count .0) (class-by-colour p s (cell x 1) wide high ∙ colours) h in
-      let fit = and-both (ap not (ne-same s (cell x 1) n)) (le-leb _ _ enough) in
+      let fit = is-fit p s w (cell x 1) n enough in
       let f = found-by p s w (cell x 1) (record { left = l; right = omega arith; top = omega arith; bottom = omega arith }) fit in
       let not-below : ¬ (1 < f .c .y) = λ q. f .not-after (inl q) in
       let low = f .first .on .top in

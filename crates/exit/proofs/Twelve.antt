@@ -4,11 +4,11 @@
 use Prim.Native.Nat.{ℕ, _+_, _-_, _*_, _/_, _%_, _≤_, _<_}
 use mathlib.Core.Path.{_≡_, refl, sym, ap, _∙_}
 use mathlib.Core.Logic.{_≢_, _↔_}
-use mathlib.Core.Bool.{false, cond, not}
+use mathlib.Core.Bool.{false, cond}
 use native.Mathlib.Omega.{arith}
 use native.Mathlib.Nat.{mul-comm, le-trans}
 use native.Mathlib.Decide.{decLe, decLt, ℕ-discrete}
-use borrow.Author.Tests.{le-leb, le-ltb, eqb-false}
+use borrow.Author.Tests.{le-ltb, eqb-false}
 use Rattle.grid.specs.declared.Panel.{Panel}
 use Rattle.grid.specs.declared.Cell.{Cell}
 use Rattle.grid.specs.declared.Cells.{Cells}
@@ -16,7 +16,7 @@ use Rattle.grid.specs.declared.Refusal.the-variants.{NoExit}
 use Rattle.grid.specs.declared.Check.the-variants.{Good}
 use Rattle.grid.specs.Check.{checkEntry}
 use Rattle.grid.specs.Panel.{OnPanel, area, black, cell, turned, turnedCell}
-use Rattle.grid.proofs.Facts.{and-both, ne-same, ne-x, ne-y}
+use Rattle.grid.proofs.Facts.{ne-x, ne-y}
 use Rattle.grid.proofs.Passed.{good-entry}
 use Rattle.grid.proofs.Moves.{turn-on, black-turned}
 use Rattle.grid.proofs.Tests.{cond-no, both-branches}
@@ -27,11 +27,13 @@ use Rattle.plan.proofs.Decided.{decidedCount, decided-odd, decided-even}
 use Rattle.plan.proofs.Rows.{f2-row}
 use Rattle.plan.proofs.CornerLeg.{no-f3}
 use Rattle.exit.specs.declared.ExitAnswer.the-variants.{Refused}
+use Rattle.exit.specs.declared.Search.the-variants.{Nothing}
 use Rattle.exit.specs.Exit.{exitOf}
 use Rattle.exit.specs.First.{Exit}
 use Rattle.exit.specs.Most.{most}
-use Rattle.exit.proofs.Fitting.{fit-exit}
-use Rattle.exit.proofs.Most.{at-most}
+use Rattle.exit.proofs.Fitting.{fit-exit, is-fit}
+use Rattle.exit.proofs.Most.{none-above}
+use Rattle.exit.proofs.Answers.{searched}
 use Rattle.exit.proofs.Theorem.{refuses-none}
 
 -- 1 for a black cell, as the laws of counts have it
@@ -162,7 +164,7 @@ pub colours-decide : (p : Panel) (s : Cell) (w : Cells) → checkEntry p s ≡ G
     → (exitOf p s w ≡ Refused NoExit) ↔ (most p s < w .0)
 colours-decide p s w g m n = (
   (λ q. elim (decLt (most p s) (w .0)) [ yes h ↦ h | no h ↦ absurd (refuses-none p s w g .0 q (a .d) (exit (omega arith))) ]),
-  (λ h. refuses-none p s w g .1 (λ d x. omega (arith, h, x .enough, at-most p (x .track)))),
+  (λ h. sym (searched p s w Nothing g (none-above p s w os h))),
 )
   where
     os : OnPanel p s
@@ -172,4 +174,4 @@ colours-decide p s w g m n = (
     a = allowed p s m n os
 
     exit : w .0 ≤ most p s → Exit p s w (a .d)
-    exit h = fit-exit p s w (a .d) os (a .on) (and-both (ap not (ne-same s (a .d) (a .other))) (le-leb _ _ (le-trans h (a .enough))))
+    exit h = fit-exit p s w (a .d) os (a .on) (is-fit p s w (a .d) (a .other) (le-trans h (a .enough)))

@@ -48,7 +48,7 @@ abbrev pub cellFound : Search → Cell
 cellFound (At c) = c
 cellFound Nothing = cell 0 0
 
--- the first cell of the list that passes the test
+-- the first cell of the list that passes the test (find)
 abbrev pub first : (Cell → Bool) → List Cell → Search
 first f [] = Nothing
 first f (c ∷ l) = cond (f c) (At c) (first f l)

@@ -1,4 +1,4 @@
--- How many cells a track from a cell can have, by the colours alone: where more are wanted, the code does not search. No promise rests on it.
+-- How many cells a track from a cell can have, by the colours alone: where more are wanted, the code does not search. No call's promise rests on it.
 use Prim.Native.Nat.{ℕ, _*_, _/_}
 use mathlib.Core.Bool.{cond}
 use Rattle.grid.specs.declared.Panel.{Panel}

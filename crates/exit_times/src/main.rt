@@ -1,22 +1,24 @@
 // Times Exit beside a plain scan, which asks Bound of each cell in reading order until one has the wanted
 // count, and compares what they give. A line gives the sides, the wanted count and the entries' colour
-// (0 white, 1 black) and, behind the colon, for how many of the entries Exit gave a cell and how many
-// answers were not the scan's. Standard error has, in the same order, the processor's time of a call of
+// (0 white, 1 black) and, behind the colon, for how many of the entries the scan found a cell, for how
+// many none, and how many of Exit's answers were others. Standard error has, in the same order, the processor's time of a call of
 // Exit and of a scan, in tenths of a nanosecond, the shortest of some turns, each with the turn's sum.
 use bound::bound_values;
 use exit::ExitAnswer;
 use grid::Cell;
 use grid::Cells;
 use grid::Panel;
+use grid::area_of;
 use grid::panel_of;
 use libc::STDERR_FILENO;
 use std::num::wrapping_add_u32;
 use std::num::wrapping_sub_u64;
 use trial::PITCH;
+use trial::cells::Tally;
 use trial::cells::same;
-use trial::print::named;
+use trial::cells::tallied;
 use trial::print::row;
-use trial::print::text;
+use trial::print::tally;
 
 // How many entries a case has.
 const ENTRIES: u32 = 64;
@@ -76,22 +78,24 @@ fn is_exit(c: Case, entry: Cell, t: Cell) -> bool {
     c.wanted.0 <= b.count.0
 }
 
-fn scan_row(c: Case, entry: Cell, y: u32) -> Cell {
-    for x in 0..c.panel.width {
-        let t = Cell { x: x + 1, y };
-        if is_exit(c, entry, t) {
-            return t;
-        }
+// The cell that is read behind t.
+fn next(p: Panel, t: Cell) -> Cell {
+    if t.x < p.width {
+        return Cell { x: t.x + 1, y: t.y };
     }
-    nothing()
+    Cell {
+        x: 1,
+        y: wrapping_add_u32(t.y, 1),
+    }
 }
 
 fn scan(c: Case, entry: Cell) -> Cell {
-    for y in 0..c.panel.height {
-        let t = scan_row(c, entry, y + 1);
-        if t.x != 0 {
+    let mut t = Cell { x: 1, y: 1 };
+    for _i in 0..area_of(c.panel) {
+        if is_exit(c, entry, t) {
             return t;
         }
+        t = next(c.panel, t);
     }
     nothing()
 }
@@ -180,27 +184,14 @@ fn say(c: Case, scanned: bool) {
 
 // ---- cases
 
-struct Totals {
-    given: u32,
-    wrong: u32,
-}
-
-fn add_one(n: Totals, c: Case, i: u32) -> Totals {
-    let t = answer(c, i, false);
-    let mut next = n;
-    if t.x != 0 {
-        next.given = wrapping_add_u32(n.given, 1);
-    }
-    if !same(t, answer(c, i, true)) {
-        next.wrong = wrapping_add_u32(n.wrong, 1);
-    }
-    next
-}
-
-fn compared(c: Case) -> Totals {
-    let mut n = Totals { given: 0, wrong: 0 };
+fn compared(c: Case) -> Tally {
+    let mut n = Tally {
+        given: 0,
+        none: 0,
+        wrong: 0,
+    };
     for i in 0..ENTRIES {
-        n = add_one(n, c, i);
+        n = tallied(n, answer(c, i, true), answer(c, i, false));
     }
     n
 }
@@ -211,11 +202,8 @@ fn try_case(m: u32, n: u32, wanted: u32, colour: u32) {
         wanted: Cells(wanted),
         colour,
     };
-    let found = compared(c);
     row(&[m, n, wanted, colour], b": ");
-    named(b"given ", found.given);
-    named(b", wrong ", found.wrong);
-    text(b"\n");
+    tally(compared(c));
     say(c, false);
     say(c, true);
     io::write_all(STDERR_FILENO, b"\n");

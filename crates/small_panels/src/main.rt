@@ -13,19 +13,20 @@ use grid::number_of;
 use grid::panel_of;
 use trial::PITCH;
 use trial::cells::Order;
+use trial::cells::Tally;
 use trial::cells::is_track;
 use trial::cells::same;
+use trial::cells::tallied;
 use trial::print::named;
+use trial::print::tally;
 use trial::print::text;
 
-// Pairs and cells for each class, and the wrong pairs; exits to be given, to be refused, and wrong ones.
+// Pairs and cells for each class, and the wrong pairs; and how Exit answered.
 struct Totals {
     pairs: [u32; 6],
     cells: [u32; 6],
     wrong: u32,
-    exits: u32,
-    none: u32,
-    wrong_exits: u32,
+    exits: Tally,
 }
 
 fn add(a: u32, b: u32) -> u32 {
@@ -206,16 +207,12 @@ fn ask(p: Panel, entry: Cell, wanted: u32) -> Cell {
 }
 
 fn add_wanted(t: Totals, panel: Panel, entry: Cell, wanted: u32, best: &[u32]) -> Totals {
-    let c = scan(panel, entry, wanted, best);
     let mut next = t;
-    if c.x == 0 {
-        next.none = add(t.none, 1);
-    } else {
-        next.exits = add(t.exits, 1);
-    }
-    if !same(c, ask(panel, entry, wanted)) {
-        next.wrong_exits = add(t.wrong_exits, 1);
-    }
+    next.exits = tallied(
+        t.exits,
+        scan(panel, entry, wanted, best),
+        ask(panel, entry, wanted),
+    );
     next
 }
 
@@ -263,9 +260,11 @@ fn all_panels() -> Totals {
         pairs: [0; 6],
         cells: [0; 6],
         wrong: 0,
-        exits: 0,
-        none: 0,
-        wrong_exits: 0,
+        exits: Tally {
+            given: 0,
+            none: 0,
+            wrong: 0,
+        },
     };
     for code in 0..25 {
         let far = nth(code);
@@ -293,8 +292,6 @@ fn main() {
     print_class(t, 5);
     named(b"wrong ", t.wrong);
     text(b"\n");
-    named(b"exits ", t.exits);
-    named(b", none ", t.none);
-    named(b", wrong ", t.wrong_exits);
-    text(b"\n");
+    text(b"exits: ");
+    tally(t.exits);
 }

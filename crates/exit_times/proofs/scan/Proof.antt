@@ -1,29 +1,32 @@
--- The measure is what is left of the rows.
+-- The measure is what is left of the cells.
 use Prim.Native.Nat.{_-_, _≤_}
 use borrow.Author.Needs.{needs}
 use Rattle.exit_times.proofs.scan.Statement.{statement}
 use Rattle.exit_times.proofs.scan.Tie as tie
 
 abbrev Inv-loop : tie.InvT-loop
-Inv-loop c entry y₀ y-end y = y ≤ y-end
+Inv-loop c entry t₀ i₀ end t i = i ≤ end
 
 abbrev μ-loop : tie.MeasureT-loop
-μ-loop c entry y₀ y-end y = y-end - y
+μ-loop c entry t₀ i₀ end t i = end - i
+
+area-of-requires : tie.Need-area-of-requires Inv-loop μ-loop
+area-of-requires c κs = search needs
 
 loop-holds : tie.Need-loop-holds Inv-loop μ-loop
 loop-holds c = search needs
 
-add-scan-row : tie.Need-add-scan-row Inv-loop μ-loop
-add-scan-row c = search needs
-
-scan-row-requires : tie.Need-scan-row-requires Inv-loop μ-loop
-scan-row-requires c κs = search needs
+is-exit-requires : tie.Need-is-exit-requires Inv-loop μ-loop
+is-exit-requires c κs = search needs
 
 returns : tie.Need-returns Inv-loop μ-loop
 returns c = search needs
 
-add-y : tie.Need-add-y Inv-loop μ-loop
-add-y c = search needs
+next-requires : tie.Need-next-requires Inv-loop μ-loop
+next-requires c κs = search needs
+
+add--i : tie.Need-add--i Inv-loop μ-loop
+add--i c = search needs
 
 loop-less : tie.Need-loop-less Inv-loop μ-loop
 loop-less c = search needs
@@ -43,11 +46,12 @@ scan-spec =
     (tie.spec
     Inv-loop
     μ-loop
+    area-of-requires
     loop-holds
-    add-scan-row
-    scan-row-requires
+    is-exit-requires
     returns
-    add-y
+    next-requires
+    add--i
     loop-less
     loop-again
     nothing-requires
