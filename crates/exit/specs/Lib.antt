@@ -1,1 +1,3 @@
 pub mod Exit
+pub mod First
+pub mod Most

@@ -1,13 +1,17 @@
-// Exit: a cell to which some track from the entry has at least a wanted number of cells.
+// Exit: the first cell, rows from the top and each from the left, to which some track from the entry has
+// at least a wanted number of cells.
+use cases::is_black;
 use grid::Cell;
 use grid::Cells;
 use grid::Check;
 use grid::Panel;
 use grid::Refusal;
+use grid::area_of;
 ghost use mathlib.Core.Path.{_≡_};
 ghost use Prim.Native.Nat.{_≤_};
 ghost use Rattle.grid.specs.Panel.{OnPanel, GoodSides};
-ghost use Rattle.exit.specs.Exit.{row, reading, fits, Exits, first};
+ghost use Rattle.exit.specs.Exit.{row, reading, fits, first, firstFit, Exits};
+ghost use Rattle.exit.specs.Most.{most};
 
 // What Exit answers.
 pub enum ExitAnswer {
@@ -72,6 +76,31 @@ fn in_panel(p: Panel, entry: Cell, wanted: Cells) -> Search
     Search::Nothing
 }
 
+// The most cells that a track from the entry can have, by the colours alone.
+fn most_from(p: Panel, entry: Cell) -> u32
+    requires { ⌜ GoodSides p ⌝ }
+    ensures { λ r. ⌜ r ≡ most p entry ⌝ }
+{
+    let area = area_of(p) as u32;
+    if is_black(entry) {
+        2 * (area / 2)
+    } else {
+        area
+    }
+}
+
+// The first fit. Where the colours say that there is none, no cell is looked at.
+fn first_fit(p: Panel, entry: Cell, wanted: Cells) -> Search
+    requires { ⌜ GoodSides p ⌝ }
+    requires { ⌜ OnPanel p entry ⌝ }
+    ensures { λ r. ⌜ r ≡ firstFit p entry wanted ⌝ }
+{
+    if most_from(p, entry) < wanted.0 {
+        return Search::Nothing;
+    }
+    in_panel(p, entry, wanted)
+}
+
 // The call.
 pub fn find_exit(p: Panel, entry: Cell, wanted: Cells) -> ExitAnswer
     ensures { λ r. ⌜ Exits p entry wanted r ⌝ }
@@ -80,7 +109,7 @@ pub fn find_exit(p: Panel, entry: Cell, wanted: Cells) -> ExitAnswer
     if let Check::Refused(r) = checked {
         return ExitAnswer::Refused(r);
     }
-    let found = in_panel(p, entry, wanted);
+    let found = first_fit(p, entry, wanted);
     if let Search::At(c) = found {
         return ExitAnswer::Given(c);
     }

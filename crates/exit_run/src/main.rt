@@ -38,6 +38,39 @@ fn found() {
     answer(2, 2, 1, 1, 0);
 }
 
+// Of several cells that fit the first: in the entry's row and in one above it, in a column and in a row,
+// and far from the top on panels of three columns and of three rows.
+fn first_of_several() {
+    answer(4, 4, 1, 1, 16);
+    answer(4, 4, 2, 1, 16);
+    answer(4, 4, 4, 4, 16);
+    answer(4, 4, 1, 1, 15);
+    answer(3, 3, 1, 1, 9);
+    answer(3, 3, 3, 3, 9);
+    answer(3, 3, 2, 1, 8);
+    answer(1, 5, 1, 2, 3);
+    answer(1, 5, 1, 5, 3);
+    answer(3, 128, 2, 128, 384);
+    answer(3, 128, 2, 128, 383);
+    answer(128, 3, 128, 2, 384);
+    answer(127, 127, 127, 126, 16128);
+    answer(128, 128, 128, 128, 16384);
+    answer(1, 2, 1, 1, 1);
+    answer(2, 1, 2, 1, 2);
+}
+
+// Wanted counts that the colours rule out, by one: all cells of an odd panel from a black entry, and one
+// cell more than there are.
+fn ruled_out() {
+    answer(3, 3, 2, 1, 9);
+    answer(3, 3, 1, 1, 10);
+    answer(5, 1, 4, 1, 5);
+    answer(4, 4, 1, 1, 17);
+    answer(127, 127, 126, 127, 16129);
+    answer(127, 127, 127, 127, 16130);
+    answer(128, 128, 1, 1, 16385);
+}
+
 // Wanted counts that no cell has, and input that is refused before.
 fn refused() {
     answer(5, 1, 3, 1, 4);
@@ -80,6 +113,8 @@ fn pitch_and_more() {
 
 fn main() {
     found();
+    first_of_several();
+    ruled_out();
     refused();
     pitches();
     pitch_and_more();

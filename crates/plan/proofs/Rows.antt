@@ -152,7 +152,7 @@ module _ (p : Panel) (s t : Cell) where
   unfolding f2
   f2-not e = ap (λ (b : Bool). eqb (p .height) 2 && b) e ∙ and-false (eqb (p .height) 2)
 
-  f2-row : s .x < t .x → s .y ≡ t .y → f2 p s t ≡ false
+  pub f2-row : s .x < t .x → s .y ≡ t .y → f2 p s t ≡ false
   f2-row l e =
       let a = ne-eqb (s .x) (t .x) (λ (q : s .x ≡ t .x). omega arith) in
       let b = eq-eqb (s .y) (t .y) e in

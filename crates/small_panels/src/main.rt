@@ -1,23 +1,32 @@
-// Every ordered pair of different cells on every panel up to 5 by 5: Bound's count and Draw's track
-// against a search through all tracks from the entry, which knows nothing of the router. Prints, for
-// each class, the number of pairs and the sum of their counts; then how many pairs were wrong.
+// Every panel up to 5 by 5 against a search through all tracks from an entry, which knows nothing of the
+// router: for every ordered pair of different cells Bound's count and Draw's track; for every entry and
+// wanted count Exit's cell, against a plain scan of what the search found. Prints, for each class, the
+// number of pairs and the sum of their counts; how many pairs were wrong; how often Exit was to give a
+// cell, how often none, and how often it answered otherwise.
 use bound::bound_values;
+use exit::ExitAnswer;
 use grid::Cell;
+use grid::Cells;
 use grid::Panel;
 use grid::cells_values;
+use grid::number_of;
 use grid::panel_of;
 use trial::PITCH;
 use trial::cells::Order;
+use trial::cells::Tally;
 use trial::cells::is_track;
 use trial::cells::same;
+use trial::cells::tallied;
 use trial::print::named;
+use trial::print::tally;
 use trial::print::text;
 
-// Pairs and cells for each class, and the wrong pairs.
+// Pairs and cells for each class, and the wrong pairs; and how Exit answered.
 struct Totals {
     pairs: [u32; 6],
     cells: [u32; 6],
     wrong: u32,
+    exits: Tally,
 }
 
 fn add(a: u32, b: u32) -> u32 {
@@ -151,7 +160,74 @@ fn add_pair(t: Totals, o: Order, best: &[u32]) -> Totals {
     next
 }
 
-// Each exit of an entry.
+// ---- exits
+
+// Whether the search found a track of so many cells to c.
+fn reaches(best: &[u32], c: Cell, wanted: u32) -> bool {
+    let at = place(c) as usize;
+    if at < best.len() {
+        return wanted <= best[at];
+    }
+    false
+}
+
+// Whether c is another cell of the panel than the entry, and such a track leads to it.
+fn is_exit(p: Panel, entry: Cell, wanted: u32, best: &[u32], c: Cell) -> bool {
+    if !on(p, c) {
+        return false;
+    }
+    if same(entry, c) {
+        return false;
+    }
+    reaches(best, c, wanted)
+}
+
+// The first exit, rows from the top and each from the left, or (0, 0).
+fn scan(p: Panel, entry: Cell, wanted: u32, best: &[u32]) -> Cell {
+    for code in 0..25 {
+        let c = nth(code);
+        if is_exit(p, entry, wanted, best, c) {
+            return c;
+        }
+    }
+    Cell { x: 0, y: 0 }
+}
+
+// The cell that Exit gives, (0, 0) for 12, and a cell of no panel for another refusal.
+fn ask(p: Panel, entry: Cell, wanted: u32) -> Cell {
+    match exit::find_exit(p, entry, Cells(wanted)) {
+        ExitAnswer::Given(c) => c,
+        ExitAnswer::Refused(r) => {
+            if number_of(r) == 12 {
+                return Cell { x: 0, y: 0 };
+            }
+            Cell { x: 99, y: 99 }
+        }
+    }
+}
+
+fn add_wanted(t: Totals, panel: Panel, entry: Cell, wanted: u32, best: &[u32]) -> Totals {
+    let mut next = t;
+    next.exits = tallied(
+        t.exits,
+        scan(panel, entry, wanted, best),
+        ask(panel, entry, wanted),
+    );
+    next
+}
+
+// Each wanted count of an entry, up to two more than the largest of these panels has cells.
+fn add_every_wanted(t: Totals, panel: Panel, entry: Cell, best: &[u32]) -> Totals {
+    let mut next = t;
+    for wanted in 0..28 {
+        next = add_wanted(next, panel, entry, wanted, best);
+    }
+    next
+}
+
+// ---- the panels
+
+// Each exit and each wanted count of an entry.
 fn add_exits(t: Totals, panel: Panel, entry: Cell) -> Totals {
     let mut best = [0u32; 36];
     visit(panel, entry, 0, 1, 25, &mut best);
@@ -164,7 +240,7 @@ fn add_exits(t: Totals, panel: Panel, entry: Cell) -> Totals {
             }
         }
     }
-    next
+    add_every_wanted(next, panel, entry, &best)
 }
 
 // Each entry of a panel.
@@ -184,6 +260,11 @@ fn all_panels() -> Totals {
         pairs: [0; 6],
         cells: [0; 6],
         wrong: 0,
+        exits: Tally {
+            given: 0,
+            none: 0,
+            wrong: 0,
+        },
     };
     for code in 0..25 {
         let far = nth(code);
@@ -211,4 +292,6 @@ fn main() {
     print_class(t, 5);
     named(b"wrong ", t.wrong);
     text(b"\n");
+    text(b"exits: ");
+    tally(t.exits);
 }

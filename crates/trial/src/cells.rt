@@ -155,3 +155,26 @@ pub fn snake(list: &mut [u8]) {
         i += 2;
     }
 }
+
+// ---- searches for a cell
+
+// How often a search was to give a cell, how often none, and how often it answered otherwise.
+pub struct Tally {
+    pub given: u32,
+    pub none: u32,
+    pub wrong: u32,
+}
+
+// One search more; (0, 0) stands for no cell.
+pub fn tallied(t: Tally, expected: Cell, got: Cell) -> Tally {
+    let mut next = t;
+    if expected.x == 0 {
+        next.none = std::num::wrapping_add_u32(t.none, 1);
+    } else {
+        next.given = std::num::wrapping_add_u32(t.given, 1);
+    }
+    if !same(expected, got) {
+        next.wrong = std::num::wrapping_add_u32(t.wrong, 1);
+    }
+    next
+}

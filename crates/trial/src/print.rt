@@ -1,4 +1,5 @@
 // Text and numbers to standard output.
+use crate::cells::Tally;
 use libc::STDOUT_FILENO;
 
 pub fn text(s: &[u8]) {
@@ -26,4 +27,11 @@ pub fn row(numbers: &[u32], end: &[u8]) {
         i += 1;
     }
     text(end);
+}
+
+pub fn tally(t: Tally) {
+    named(b"given ", t.given);
+    named(b", none ", t.none);
+    named(b", wrong ", t.wrong);
+    text(b"\n");
 }

@@ -3,7 +3,7 @@ use borrow.Author.Needs.{needs}
 use mathlib.Core.Path.{_≡_, sym, _∙_}
 use Rattle.grid.specs.declared.Check.the-variants.{Good}
 use Rattle.grid.specs.Check.{checkEntry}
-use Rattle.grid.proofs.Tests.{after-refused}
+use Rattle.grid.proofs.Tests.{after-refused, answer-refused}
 use Rattle.grid.proofs.Passed.{good-entry}
 use Rattle.exit.proofs.Answers.{exits, searched}
 use Rattle.exit.proofs.find_exit.Statement.{statement}
@@ -16,7 +16,9 @@ enum-known-checked : tie.Need-enum-known-checked
 enum-known-checked c = search needs
 
 returns : tie.Need-returns
-returns c = exits _ _ _ _ (sym (after-refused _ (sym (c .before .before .before .check-entry .ensures) ∙ c .before .checked .given .1)))
+returns c =
+    let refused = sym (c .before .before .before .check-entry .ensures) ∙ c .before .checked .given .1 in
+    exits _ _ _ (answer-refused _ _ (sym (after-refused _ refused)))
 
 enum-told : tie.Need-enum-told
 enum-told c = search needs
@@ -24,20 +26,26 @@ enum-told c = search needs
 passed : (c : tie.After-enum-told) → let a = c .before .before .before .args in checkEntry (a .p) (a .entry) ≡ Good
 passed c = sym (c .before .before .check-entry .ensures) ∙ c .enum-told .given .1
 
-in-panel-requires : tie.Need-in-panel-requires
-in-panel-requires c κs = let (g, o) = good-entry _ _ (passed c) in (g .sides, o)
+first-fit-requires : tie.Need-first-fit-requires
+first-fit-requires c κs = let (g, o) = good-entry _ _ (passed c) in (g .sides, o)
 
 enum-known-found : tie.Need-enum-known-found
 enum-known-found c = search needs
 
 returns-2 : tie.Need-returns-2
-returns-2 c = searched _ _ _ _ (passed (c .before .before .before .before)) (sym (c .before .found .given .1) ∙ c .before .before .before .in-panel .ensures)
+returns-2 c =
+    let a = c .before .before .before .before .before .before .before .args in
+    let e = sym (c .before .found .given .1) ∙ c .before .before .before .first-fit .ensures in
+    exits _ _ _ (searched (a .p) (a .entry) (a .wanted) _ (passed (c .before .before .before .before)) e)
 
 enum-told-2 : tie.Need-enum-told-2
 enum-told-2 c = search needs
 
 returns-3 : tie.Need-returns-3
-returns-3 c = searched _ _ _ _ (passed (c .before .before .before)) (sym (c .enum-told2 .given .1) ∙ c .before .before .in-panel .ensures)
+returns-3 c =
+    let a = c .before .before .before .before .before .before .args in
+    let e = sym (c .enum-told2 .given .1) ∙ c .before .before .first-fit .ensures in
+    exits _ _ _ (searched (a .p) (a .entry) (a .wanted) _ (passed (c .before .before .before)) e)
 
 pub find-exit-spec : {M : Type 1} → statement M
 find-exit-spec =
@@ -47,7 +55,7 @@ find-exit-spec =
     enum-known-checked
     returns
     enum-told
-    in-panel-requires
+    first-fit-requires
     enum-known-found
     returns-2
     enum-told-2

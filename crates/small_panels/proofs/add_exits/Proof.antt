@@ -45,6 +45,12 @@ loop-less c = search needs
 loop-again : tie.Need-loop-again Inv-loop μ-loop
 loop-again c = search needs
 
+slice-aggregate-add-every-wanted : tie.Need-slice-aggregate-add-every-wanted Inv-loop μ-loop
+slice-aggregate-add-every-wanted c = search needs
+
+add-every-wanted-requires : tie.Need-add-every-wanted-requires Inv-loop μ-loop
+add-every-wanted-requires c κs = search needs
+
 returns : tie.Need-returns Inv-loop μ-loop
 returns c = search needs
 
@@ -65,4 +71,6 @@ add-exits-spec =
     add-code
     loop-less
     loop-again
+    slice-aggregate-add-every-wanted
+    add-every-wanted-requires
     returns)

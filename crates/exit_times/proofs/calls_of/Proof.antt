@@ -1,0 +1,50 @@
+-- The measure is what is left of the tries.
+use Prim.Native.Nat.{_-_, _≤_}
+use borrow.Author.Needs.{needs}
+use Rattle.exit_times.proofs.calls_of.Statement.{statement}
+use Rattle.exit_times.proofs.calls_of.Tie as tie
+
+abbrev Inv-loop : tie.InvT-loop
+Inv-loop c scanned calls₀ k₀ calls k = k ≤ 16
+
+abbrev μ-loop : tie.MeasureT-loop
+μ-loop c scanned calls₀ k₀ calls k = 16 - k
+
+loop-holds : tie.Need-loop-holds Inv-loop μ-loop
+loop-holds c = search needs
+
+timed-requires : tie.Need-timed-requires Inv-loop μ-loop
+timed-requires c κs = search needs
+
+returns : tie.Need-returns Inv-loop μ-loop
+returns c = search needs
+
+wrapping-add-u32-requires : tie.Need-wrapping-add-u32-requires Inv-loop μ-loop
+wrapping-add-u32-requires c κs = search needs
+
+add--k : tie.Need-add--k Inv-loop μ-loop
+add--k c = search needs
+
+loop-less : tie.Need-loop-less Inv-loop μ-loop
+loop-less c = search needs
+
+loop-again : tie.Need-loop-again Inv-loop μ-loop
+loop-again c = search needs
+
+returns-2 : tie.Need-returns-2 Inv-loop μ-loop
+returns-2 c = search needs
+
+pub calls-of-spec : {M : Type 1} → statement M
+calls-of-spec =
+    tie.close
+    (tie.spec
+    Inv-loop
+    μ-loop
+    loop-holds
+    timed-requires
+    returns
+    wrapping-add-u32-requires
+    add--k
+    loop-less
+    loop-again
+    returns-2)
