@@ -92,14 +92,7 @@ pub fn class_count(p: Panel, s: Cell, t: Cell) -> ClassCount
     if 3 < shorter_side(p) {
         return by_colour(p, s, t);
     }
-    // Taken apart, so that the answer above stays in registers: if this one were handed on whole, both
-    // would go through the memory that the call writes to.
-    let found = line_by_line(p, s, t);
-    let count = found.count;
-    ClassCount {
-        class: found.class,
-        count: count,
-    }
+    line_by_line(p, s, t)
 }
 
 // Class and count of an order: equal terminals are class 6, tried before class 1.
@@ -115,7 +108,8 @@ pub fn order_class_count(p: Panel, s: Cell, t: Cell) -> ClassCount
             count: Cells(1),
         };
     }
-    // Taken apart as in `class_count`, and here again: by a function for both it would not be.
+    // Taken apart, so that all answers stay in registers: if this one were handed on whole, they would go
+    // through the memory that the call writes to.
     let found = class_count(p, s, t);
     let count = found.count;
     ClassCount {
