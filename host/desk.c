@@ -6,7 +6,7 @@
 #include <inttypes.h>
 #include <stdio.h>
 
-static const char *const class_names[] = {"", "F1", "F2*", "C0", "C1", "C2"};
+static const char *const class_names[] = {"", "F1", "F2*", "C0", "C1", "C2", "spot"};
 
 static uint8_t track[FOIL_MAX_BYTES];
 static uint8_t scratch[FOIL_MAX_CELLS];

@@ -2,10 +2,10 @@
  *
  * A panel has m columns and n rows, each from 1 to 128, and a pitch in micrometres, from 1,000 to 10,000. A
  * cell is (x, y), x from 1 to m and y from 1 to n; (1, 1) is the upper left, and y grows downward. A track
- * is a list of cells from the entry to the exit, each a neighbour of the one before, none twice. A cell list
- * is bytes: x then y for each cell. A call takes an order as seven numbers: the panel's three, then entry
- * and exit; on an order's line the pitch stands last. No answer and no byte that is written depends on a
- * pitch within its range.
+ * is a list of cells from the entry to the exit, each a neighbour of the one before, none twice. Entry and
+ * exit may be one cell, which is then the only track. A cell list is bytes: x then y for each cell. A call
+ * takes an order as seven numbers: the panel's three, then entry and exit; on an order's line the pitch
+ * stands last. No answer and no byte that is written depends on a pitch within its range.
  *
  * Link with libhost.a, the archive that `rt staticlib host` writes to target/staticlib. The calls keep
  * no state, call nothing but memcpy and memset, and may be made from several threads at once on different buffers.
@@ -25,13 +25,13 @@
 extern "C" {
 #endif
 
-/* Why a call refuses. The first that holds, in the order given at each call, is the one. */
+/* Why a call refuses. The first that holds, in the order given at each call, is the one. 4 is withdrawn (it
+ * was for equal terminals, which are accepted now) and stays free. */
 enum foil_refusal {
     FOIL_OK = 0,                /* nothing is refused */
     FOIL_SIDE = 1,              /* a side is 0 or above 128 */
     FOIL_ENTRY_OFF = 2,         /* the entry is off the panel */
     FOIL_EXIT_OFF = 3,          /* the exit is off the panel */
-    FOIL_SAME_CELL = 4,         /* entry and exit are the same cell */
     FOIL_SHORT_BUFFER = 5,      /* the buffer, or the scratch, is too short */
     FOIL_LIST_LENGTH = 6,       /* the list is empty or has an odd number of bytes */
     FOIL_CELL_OFF = 7,          /* some cell of the list is off the panel */
@@ -57,24 +57,27 @@ static inline uint32_t foil_refusal_in(uint64_t answer) { return (uint32_t)(answ
 static inline uint32_t foil_class_in(uint64_t answer) { return (uint32_t)(answer >> 24) & 0xFFu; }
 static inline uint32_t foil_count_in(uint64_t answer) { return (uint32_t)answer & 0xFFFFFFu; }
 
-/* Bound: the class of the order, 1 to 5, and the number of cells of a longest track.
- * Refused, in order: 1, 18, 2, 3, 4. */
+/* Bound: the class of the order, 1 to 6, and the number of cells of a longest track. Equal terminals are
+ * class 6 with 1 cell, and nothing else is.
+ * Refused, in order: 1, 18, 2, 3. */
 uint64_t foil_bound(uint32_t m, uint32_t n, uint32_t pitch,
                     uint32_t entry_x, uint32_t entry_y, uint32_t exit_x, uint32_t exit_y);
 
 /* Draw: writes a longest track from entry to exit at the front of the buffer and gives its number of
- * cells, the count of foil_bound. It takes 2 bytes for each cell; FOIL_MAX_BYTES are always enough.
- * Refused, in order: 1, 18, 2, 3, 4; 5, the buffer is shorter than 2 bytes for each cell of the count.
+ * cells, the count of foil_bound. It takes 2 bytes for each cell; FOIL_MAX_BYTES are always enough. For
+ * equal terminals it writes that cell.
+ * Refused, in order: 1, 18, 2, 3; 5, the buffer is shorter than 2 bytes for each cell of the count.
  * After: the bytes behind the track are as before; a refusal changes no byte. The class is 0. */
 uint64_t foil_draw(uint32_t m, uint32_t n, uint32_t pitch,
                    uint32_t entry_x, uint32_t entry_y, uint32_t exit_x, uint32_t exit_y,
                    uint8_t *buffer, size_t buffer_len);
 
 /* Judge: whether a list is a track from entry to exit, and its number of cells. It need not be longest.
- * Refused, in order: 1, 18, 2, 3, 4; 6; 5, the scratch is shorter than m * n bytes (FOIL_MAX_CELLS are
+ * For equal terminals the list of that one cell is accepted, and no other.
+ * Refused, in order: 1, 18, 2, 3; 6; 5, the scratch is shorter than m * n bytes (FOIL_MAX_CELLS are
  * always enough); 7, 8, 9, 10, 11, each over the whole list before the next.
- * After: the list is as before. A refusal of 1 to 6 or of 18 leaves the scratch as before; otherwise,
- * accepted or refused, its first m * n bytes are 0 and the rest as before. The class is 0. */
+ * After: the list is as before. A refusal of 1, 18, 2, 3, 6 or 5 leaves the scratch as before;
+ * otherwise, accepted or refused, its first m * n bytes are 0 and the rest as before. The class is 0. */
 uint64_t foil_judge(uint32_t m, uint32_t n, uint32_t pitch,
                     uint32_t entry_x, uint32_t entry_y, uint32_t exit_x, uint32_t exit_y,
                     const uint8_t *list, size_t list_len, uint8_t *scratch, size_t scratch_len);

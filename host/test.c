@@ -1,4 +1,5 @@
-/* Tests the three calls from C: the table of orders, the cases that are only run, hostile numbers, and pitches.
+/* Tests the three calls from C: the table of orders, the cases that are only run, equal terminals, hostile
+ * numbers, and pitches.
  *
  * The archive is not compiled with the sanitizers, so they see the code of this file only. What the calls
  * do is seen by fences: every buffer that a call gets stands against a page that may be neither read nor
@@ -228,13 +229,21 @@ static void good(struct order o, uint32_t class, uint32_t count)
     EXPECT(judge(o, drawn, enough, area + 17) == answer(0, 0, count));
     EXPECT(judge(o, drawn, enough, area - 1) == answer(FOIL_SHORT_BUFFER, 0, 0));
     EXPECT(judge(o, drawn, enough - 1, area) == answer(FOIL_LIST_LENGTH, 0, 0));
-    EXPECT(judge(o, drawn, enough - 2, area) == answer(FOIL_WRONG_ENDS, 0, 0));
+    EXPECT(judge(o, drawn, enough - 2, area) == answer(count > 1 ? FOIL_WRONG_ENDS : FOIL_LIST_LENGTH, 0, 0));
     EXPECT(judge(o, drawn, 0, 0) == answer(FOIL_LIST_LENGTH, 0, 0));
     EXPECT(judge(o, drawn, 0, area) == answer(FOIL_LIST_LENGTH, 0, 0));
     EXPECT(judge(o, drawn, enough, 0) == answer(FOIL_SHORT_BUFFER, 0, 0));
     drawn[enough - 1] = 0;
     EXPECT(judge(o, drawn, enough, area) == answer(FOIL_CELL_OFF, 0, 0));
     at_every_pitch(o, class, count);
+}
+
+/* An order with equal terminals: the track is that cell, told without Judge. */
+static void spot(uint32_t m, uint32_t n, uint32_t x, uint32_t y)
+{
+    struct order o = {m, n, USUAL, x, y, x, y};
+    good(o, 6, 1);
+    EXPECT(draw(o, 2) == answer(0, 0, 1) && drawn[0] == x && drawn[1] == y);
 }
 
 static void table(void)
@@ -256,12 +265,34 @@ static void table(void)
     good((struct order){2, 2, USUAL, 1, 1, 1, 2}, 2, 4);
 }
 
+/* Equal terminals where different ones near by are of class 1, 2, 3, 4 and 5, and in the corners of the
+ * largest panel. */
+static void spots(void)
+{
+    spot(5, 1, 3, 1);
+    spot(1, 5, 1, 3);
+    spot(5, 1, 1, 1);
+    spot(6, 2, 3, 2);
+    spot(2, 6, 2, 3);
+    spot(4, 3, 1, 2);
+    spot(3, 3, 2, 2);
+    spot(3, 3, 2, 1);
+    spot(7, 5, 1, 1);
+    spot(7, 5, 7, 5);
+    spot(128, 1, 128, 1);
+    spot(1, 128, 1, 128);
+    spot(128, 128, 1, 1);
+    spot(128, 128, 1, 128);
+    spot(128, 128, 128, 1);
+    spot(128, 128, 128, 128);
+}
+
 static void run_only(void)
 {
     bad((struct order){129, 1, USUAL, 1, 1, 2, 1}, FOIL_SIDE);
     bad((struct order){1, 129, USUAL, 1, 1, 1, 2}, FOIL_SIDE);
     bad((struct order){1, 1, USUAL, 1, 1, 2, 1}, FOIL_EXIT_OFF);
-    bad((struct order){1, 1, USUAL, 1, 1, 1, 1}, FOIL_SAME_CELL);
+    spot(1, 1, 1, 1);
     struct order large = {128, 128, USUAL, 1, 1, 1, 128};
     EXPECT(draw(large, 32768) == answer(0, 0, 16384));
     EXPECT(draw(large, 32767) == answer(FOIL_SHORT_BUFFER, 0, 0));
@@ -285,11 +316,10 @@ static void hostile(void)
         bad((struct order){128, 128, k, k, k, k, k}, FOIL_PITCH);
         bad((struct order){128, 128, USUAL, k, k, k, k}, FOIL_ENTRY_OFF);
     }
-    bad((struct order){128, 128, USUAL, 128, 128, 128, 128}, FOIL_SAME_CELL);
     bad((struct order){128, 128, USUAL, 128, 129, 128, 129}, FOIL_ENTRY_OFF);
 }
 
-/* Each fault of an order, and several at once, beside every pitch. */
+/* Each fault of an order, and several at once, beside every pitch; with equal terminals too. */
 static void faults_at_every_pitch(void)
 {
     static const struct {
@@ -301,13 +331,13 @@ static void faults_at_every_pitch(void)
         {FOIL_SIDE, {129, 5, USUAL, 1, 1, 2, 2}},
         {FOIL_SIDE, {7, 129, USUAL, 1, 1, 2, 2}},
         {FOIL_SIDE, {0, 0, USUAL, 0, 0, 0, 0}},
+        {FOIL_SIDE, {129, 5, USUAL, 1, 1, 1, 1}},
         {FOIL_ENTRY_OFF, {7, 5, USUAL, 0, 1, 2, 2}},
         {FOIL_ENTRY_OFF, {7, 5, USUAL, 1, 6, 2, 2}},
         {FOIL_ENTRY_OFF, {7, 5, USUAL, 8, 1, 8, 1}},
+        {FOIL_ENTRY_OFF, {7, 5, USUAL, 1, 0, 1, 0}},
         {FOIL_EXIT_OFF, {7, 5, USUAL, 1, 1, 8, 2}},
         {FOIL_EXIT_OFF, {7, 5, USUAL, 1, 1, 2, 0}},
-        {FOIL_SAME_CELL, {7, 5, USUAL, 1, 1, 1, 1}},
-        {FOIL_SAME_CELL, {7, 5, USUAL, 7, 5, 7, 5}},
     };
     for (size_t i = 0; i < sizeof cases / sizeof *cases; i++)
         for (size_t j = 0; j < PITCHES; j++) {
@@ -317,15 +347,30 @@ static void faults_at_every_pitch(void)
         }
 }
 
-/* One list for each refusal of the cells, and two faults at once in both orders, at every pitch. */
+/* A list, and what Judge says of it at the usual pitch. */
+struct judged {
+    uint32_t refusal, count;
+    size_t size;
+    uint8_t bytes[16];
+};
+
+/* Judges lists for one order, at every pitch. */
+static void judge_lists(struct order o, const struct judged *cases, size_t size)
+{
+    size_t area = (size_t)o.m * o.n;
+    for (size_t i = 0; i < size; i++)
+        for (size_t j = 0; j < PITCHES; j++) {
+            o.pitch = pitches[j];
+            uint64_t expected = answer(refusal_at(o.pitch, cases[i].refusal), 0, good_pitch(o.pitch) ? cases[i].count : 0);
+            EXPECT(judge(o, cases[i].bytes, cases[i].size, area) == expected);
+            EXPECT(judge(o, cases[i].bytes, cases[i].size, area + 3) == expected);
+        }
+}
+
+/* One list for each refusal of the cells, and two faults at once in both orders. */
 static void lists(void)
 {
-    struct order o = {3, 2, USUAL, 1, 1, 1, 2};
-    static const struct {
-        uint32_t refusal, count;
-        size_t size;
-        uint8_t bytes[16];
-    } cases[] = {
+    static const struct judged cases[] = {
         {FOIL_OK, 6, 12, {1, 1, 2, 1, 3, 1, 3, 2, 2, 2, 1, 2}},
         {FOIL_OK, 2, 4, {1, 1, 1, 2}},
         {FOIL_OK, 4, 8, {1, 1, 2, 1, 2, 2, 1, 2}},
@@ -342,16 +387,40 @@ static void lists(void)
         {FOIL_WRONG_ENDS, 0, 4, {1, 1, 2, 1}},
         {FOIL_WRONG_ENDS, 0, 2, {1, 1}},
     };
-    for (size_t i = 0; i < sizeof cases / sizeof *cases; i++)
-        for (size_t j = 0; j < PITCHES; j++) {
-            o.pitch = pitches[j];
-            uint64_t expected = answer(refusal_at(o.pitch, cases[i].refusal), 0, good_pitch(o.pitch) ? cases[i].count : 0);
-            EXPECT(judge(o, cases[i].bytes, cases[i].size, 6) == expected);
-            EXPECT(judge(o, cases[i].bytes, cases[i].size, 9) == expected);
-        }
+    judge_lists((struct order){3, 2, USUAL, 1, 1, 1, 2}, cases, sizeof cases / sizeof *cases);
 }
 
-/* Every pair on panels up to 5 by 5: what is drawn is judged good with the bound's count. */
+/* Lists for equal terminals, (2,1): the one cell alone is accepted, and a list back to it is no track. */
+static void spot_lists(void)
+{
+    static const struct judged cases[] = {
+        {FOIL_OK, 1, 2, {2, 1}},
+        {FOIL_LIST_LENGTH, 0, 0, {0}},
+        {FOIL_LIST_LENGTH, 0, 1, {2}},
+        {FOIL_LIST_LENGTH, 0, 3, {2, 1, 2}},
+        {FOIL_CELL_OFF, 0, 2, {2, 0}},
+        {FOIL_CELL_OFF, 0, 2, {4, 1}},
+        {FOIL_CELL_OFF, 0, 6, {2, 1, 2, 0, 2, 1}},
+        {FOIL_CELL_OFF, 0, 6, {2, 1, 2, 1, 2, 3}},
+        {FOIL_NOT_NEIGHBOURS, 0, 4, {2, 1, 2, 1}},
+        {FOIL_NOT_NEIGHBOURS, 0, 4, {1, 1, 1, 1}},
+        {FOIL_NOT_NEIGHBOURS, 0, 6, {2, 1, 1, 2, 2, 1}},
+        {FOIL_REPEATED, 0, 6, {2, 1, 3, 1, 2, 1}},
+        {FOIL_REPEATED, 0, 10, {2, 1, 3, 1, 3, 2, 2, 2, 2, 1}},
+        {FOIL_REPEATED, 0, 14, {2, 1, 1, 1, 1, 2, 2, 2, 3, 2, 3, 1, 2, 1}},
+        {FOIL_WRONG_ENDS, 0, 2, {1, 2}},
+        {FOIL_WRONG_ENDS, 0, 2, {2, 2}},
+        {FOIL_WRONG_ENDS, 0, 2, {3, 1}},
+        {FOIL_WRONG_ENDS, 0, 4, {2, 1, 3, 1}},
+        {FOIL_WRONG_ENDS, 0, 4, {3, 1, 2, 1}},
+        {FOIL_WRONG_ENDS, 0, 6, {1, 1, 2, 1, 3, 1}},
+        {FOIL_WRONG_ENDS, 0, 12, {2, 1, 1, 1, 1, 2, 2, 2, 3, 2, 3, 1}},
+    };
+    judge_lists((struct order){3, 2, USUAL, 2, 1, 2, 1}, cases, sizeof cases / sizeof *cases);
+}
+
+/* Every pair on panels up to 5 by 5: what is drawn is judged good with the bound's count, and equal terminals
+ * and no others are of class 6. */
 static void pairs(void)
 {
     for (uint32_t m = 1; m <= 5; m++)
@@ -359,11 +428,13 @@ static void pairs(void)
             for (uint32_t s = 0; s < m * n; s++)
                 for (uint32_t t = 0; t < m * n; t++) {
                     struct order o = {m, n, USUAL, s % m + 1, s / m + 1, t % m + 1, t / m + 1};
+                    if (s == t) {
+                        spot(m, n, o.sx, o.sy);
+                        continue;
+                    }
                     uint64_t bound = foil_bound(SEVEN(o));
-                    if (s == t)
-                        bad(o, FOIL_SAME_CELL);
-                    else
-                        good(o, foil_class_in(bound), foil_count_in(bound));
+                    EXPECT(foil_class_in(bound) >= 1 && foil_class_in(bound) <= 5);
+                    good(o, foil_class_in(bound), foil_count_in(bound));
                 }
 }
 
@@ -373,10 +444,12 @@ int main(void)
     for_list = fenced();
     for_scratch = fenced();
     table();
+    spots();
     run_only();
     hostile();
     faults_at_every_pitch();
     lists();
+    spot_lists();
     pairs();
     printf("%lu checks, %lu faults\n", checks, faults);
     return faults != 0;

@@ -64,8 +64,6 @@ uint64_t JUDGE(uint32_t m, uint32_t n, uint32_t pitch, uint32_t sx, uint32_t sy,
         return refuse(2);
     if (!on_panel(m, n, tx, ty))
         return refuse(3);
-    if (sx == tx && sy == ty)
-        return refuse(4);
     if (len == 0 || len % 2 != 0)
         return refuse(6);
     if (room < (size_t)m * n)

@@ -1,4 +1,4 @@
-//! Class and count, as document 01 lists them: the first line that fits decides.
+//! Class and count, as document 01 lists them, R-6's class 6 in front: the first line that fits decides.
 
 use crate::order::{Bounded, Cell, Order, Refusal};
 
@@ -6,8 +6,11 @@ fn is_white((x, y): Cell) -> bool {
     (x + y) % 2 == 0
 }
 
-/// Class and count of two different cells of a good panel.
+/// Class and count of two cells of a good panel, equal or not.
 pub fn class_count(width: u32, height: u32, entry: Cell, exit: Cell) -> Bounded {
+    if entry == exit {
+        return Bounded { class: 6, count: 1 };
+    }
     if width < height {
         let turn = |(x, y): Cell| (y, x);
         return class_count(height, width, turn(entry), turn(exit));

@@ -20,9 +20,11 @@ pub fn letters(list: &[u8]) -> String {
     steps(list).into_iter().map(letter).collect()
 }
 
-/// The squares of a track of two cells or more, in hundredths: 100 for each of its ends, and for a cell
-/// between them 100 if the direction stays there, 56 if it changes.
+/// The squares of a track, in hundredths: 100 for each of its ends, which are one in a track of one cell, and
+/// for a cell between them 100 if the direction stays there, 56 if it changes.
 pub fn squares(list: &[u8]) -> u32 {
+    let steps = steps(list);
+    let ends = if steps.is_empty() { 100 } else { 200 };
     let between = |pair: &[(i16, i16)]| if pair[0] == pair[1] { 100 } else { 56 };
-    200 + steps(list).windows(2).map(between).sum::<u32>()
+    ends + steps.windows(2).map(between).sum::<u32>()
 }

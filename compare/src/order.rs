@@ -15,14 +15,13 @@ pub struct Order {
     pub exit: Cell,
 }
 
-/// Why a call refuses, with document 01's number, or a later request's.
+/// Why a call refuses, with document 01's number, or a later request's. R-6 withdrew 4, which stays free.
 #[derive(Clone, Copy, Debug, PartialEq, Eq)]
 #[repr(u32)]
 pub enum Refusal {
     Side = 1,
     EntryOff = 2,
     ExitOff = 3,
-    SameCell = 4,
     ShortBuffer = 5,
     ListLength = 6,
     CellOff = 7,
@@ -62,7 +61,7 @@ impl Order {
         self.width as usize * self.height as usize
     }
 
-    /// Refusals 1, 18, 2, 3 and 4, in order.
+    /// Refusals 1, 18, 2 and 3, in order.
     pub fn check(&self) -> Result<(), Refusal> {
         let sides = 1..=MAX_SIDE;
         if !sides.contains(&self.width) || !sides.contains(&self.height) {
@@ -76,9 +75,6 @@ impl Order {
         }
         if !self.holds(self.exit) {
             return Err(Refusal::ExitOff);
-        }
-        if self.entry == self.exit {
-            return Err(Refusal::SameCell);
         }
         Ok(())
     }

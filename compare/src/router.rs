@@ -144,8 +144,11 @@ impl Links {
     }
 }
 
-/// Links a longest track from s to t in the view.
+/// Links a longest track from s to t in the view. One cell is a track without links.
 fn route(links: &mut Links, view: View, s: Cell, t: Cell) {
+    if s == t {
+        return;
+    }
     if view.columns < view.rows {
         return route(links, view.turned(), turn(s), turn(t));
     }

@@ -2,16 +2,14 @@
 
 use crate::order::{Cell, Order};
 
-/// The longest track's number of cells from entry to exit, by trying every track.
+/// The longest track's number of cells from entry to exit, equal or not: every track from the entry is tried,
+/// also past the exit, and counts if it ends there.
 pub fn longest(order: &Order) -> u32 {
     let mut used = vec![false; order.area()];
     extend(order, order.entry, 1, &mut used)
 }
 
 fn extend(order: &Order, at: Cell, cells: u32, used: &mut [bool]) -> u32 {
-    if at == order.exit {
-        return cells;
-    }
     let place = ((at.1 - 1) * order.width + at.0 - 1) as usize;
     if used[place] {
         return 0;
@@ -25,5 +23,5 @@ fn extend(order: &Order, at: Cell, cells: u32, used: &mut [bool]) -> u32 {
         .max()
         .unwrap_or(0);
     used[place] = false;
-    best
+    best.max(if at == order.exit { cells } else { 0 })
 }

@@ -1,8 +1,9 @@
-//! The archive's calls beside the independent implementation: every pair up to 8 by 8, every fault beside
-//! every pitch, and more than a million random and hostile calls, fixed by their seeds.
+//! The archive's calls beside the independent implementation: every pair up to 8 by 8, equal or not, every
+//! fault beside every pitch, every short list on a small panel, and more than a million random and hostile
+//! calls, fixed by their seeds.
 
 use compare::archive::{self, Answer, Judge};
-use compare::{bound, draw, every_pair, judge, judge_once, random::Random, Cell, Order, Refusal};
+use compare::{bound, draw, every_pair, judge, judge_once, pairs, random::Random, Cell, Order, Refusal};
 
 const USUAL: u32 = 4_000;
 
@@ -63,38 +64,71 @@ fn compare_judge(order: &Order, list: &[u8], scratch: &mut [u8]) -> Answer {
     answer
 }
 
-/// How often each refusal was met, 0 being none: a test that never meets one tests less than it says.
-struct Met([u32; 19]);
+/// How often each refusal was met, 0 being none, and equal terminals that are not refused: a test that never
+/// meets one tests less than it says.
+struct Met {
+    refusals: [u32; 19],
+    spots: u32,
+}
 
 impl Met {
     fn new() -> Met {
-        Met([0; 19])
+        Met { refusals: [0; 19], spots: 0 }
     }
 
-    fn note(&mut self, answer: Answer) {
-        self.0[answer.refusal as usize] += 1;
+    fn note(&mut self, order: &Order, answer: Answer) {
+        self.refusals[answer.refusal as usize] += 1;
+        self.spots += u32::from(answer.refusal == 0 && order.entry == order.exit);
     }
 
     fn at_least(&self, times: u32, refusals: &[usize]) {
         for &refusal in refusals {
-            assert!(self.0[refusal] >= times, "refusal {refusal} is met {} times", self.0[refusal]);
+            let met = self.refusals[refusal];
+            assert!(met >= times, "refusal {refusal} is met {met} times");
         }
+    }
+
+    fn spots_at_least(&self, times: u32) {
+        assert!(self.spots >= times, "equal terminals are accepted {} times", self.spots);
     }
 }
 
 #[test]
 fn every_pair_up_to_eight_by_eight() {
     for order in every_pair(8, USUAL) {
-        compare_bound(&order);
+        let class = compare_bound(&order).class;
+        assert_eq!(class == 6, order.entry == order.exit, "{order:?}: class {class}");
         let mut buffer = [0xA5; 2 * 64 + 2];
         let count = compare_draw(&order, &mut buffer).count as usize;
-        if count > 0 {
-            compare_draw(&order, &mut [0x5A; 2 * 64][..2 * count]);
-            compare_draw(&order, &mut [0x5A; 2 * 64][..2 * count - 1]);
-        }
+        compare_draw(&order, &mut [0x5A; 2 * 64][..2 * count]);
+        compare_draw(&order, &mut [0x5A; 2 * 64][..2 * count - 1]);
         let mut scratch = [0xA5; 66];
         compare_judge(&order, &buffer[..2 * count], &mut scratch);
         compare_judge(&order, &buffer[..2 * count], &mut scratch[..order.area() - 1]);
+    }
+}
+
+/// The bytes of a cell.
+fn bytes((x, y): Cell) -> [u8; 2] {
+    [x as u8, y as u8]
+}
+
+/// Equal terminals, told without either implementation: class 6, one cell, and only that cell is written.
+fn is_a_spot(order: &Order) {
+    assert_eq!(compare_bound(order), Answer { refusal: 0, class: 6, count: 1 }, "{order:?}");
+    let one = Answer { refusal: 0, class: 0, count: 1 };
+    let mut buffer = [0xA5; 5];
+    assert_eq!(compare_draw(order, &mut buffer), one, "{order:?}");
+    assert_eq!(buffer, [&bytes(order.entry)[..], &[0xA5; 3]].concat()[..], "{order:?}");
+    let mut scratch = vec![0xA5; order.area() + 2];
+    assert_eq!(compare_judge(order, &buffer[..2], &mut scratch), one, "{order:?}");
+}
+
+#[test]
+fn every_cell_is_a_spot() {
+    for (width, height) in [(1, 1), (9, 1), (1, 128), (17, 2), (3, 3), (4, 3), (7, 11), (128, 128)] {
+        let cells = (1..=width).flat_map(|x| (1..=height).map(move |y| (x, y)));
+        cells.for_each(|cell| is_a_spot(&Order::new(width, height, USUAL, cell, cell)));
     }
 }
 
@@ -144,8 +178,9 @@ fn at_every_pitch(seed: u64, mut call: impl FnMut(&Order)) {
 #[test]
 fn every_fault_beside_every_pitch_in_bound() {
     let mut met = Met::new();
-    at_every_pitch(0x5EED_0004, |order| met.note(in_order(order, compare_bound(order))));
-    met.at_least(10, &[0, 1, 18, 2, 3, 4]);
+    at_every_pitch(0x5EED_0004, |order| met.note(order, in_order(order, compare_bound(order))));
+    met.at_least(10, &[0, 1, 18, 2, 3]);
+    met.spots_at_least(10);
 }
 
 #[test]
@@ -154,18 +189,20 @@ fn every_fault_beside_every_pitch_in_draw() {
     at_every_pitch(0x5EED_0005, |order| {
         let enough = bound(&order.at(USUAL)).map_or(24, |b| 2 * b.count) as usize;
         for length in [0, 1, enough - 1, enough, enough + 5] {
-            met.note(in_order(order, compare_draw(order, &mut vec![0xA5; length])));
+            met.note(order, in_order(order, compare_draw(order, &mut vec![0xA5; length])));
         }
     });
-    met.at_least(10, &[0, 1, 18, 2, 3, 4, 5]);
+    met.at_least(10, &[0, 1, 18, 2, 3, 5]);
+    met.spots_at_least(10);
 }
 
 #[test]
 fn every_fault_beside_every_pitch_in_judge() {
-    // A track from (1, 1) to (4, 2), its reverse, and a list for each of 6, 7, 8 and 9.
-    let lists: [&[u8]; 7] = [
+    // A track from (1, 1) to (4, 2), its reverse, one cell, and lists for 6, 7, 8 and 9.
+    let lists: [&[u8]; 8] = [
         &[1, 1, 2, 1, 3, 1, 4, 1, 4, 2],
         &[4, 2, 4, 1, 3, 1, 2, 1, 1, 1],
+        &[4, 2],
         &[],
         &[1, 1, 2],
         &[1, 1, 0, 1, 1, 1],
@@ -175,10 +212,11 @@ fn every_fault_beside_every_pitch_in_judge() {
     let mut met = Met::new();
     at_every_pitch(0x5EED_0006, |order| {
         for (list, room) in lists.into_iter().flat_map(|list| [0, 11, 12, 17].map(|room| (list, room))) {
-            met.note(in_order(order, compare_judge(order, list, &mut vec![0xA5; room])));
+            met.note(order, in_order(order, compare_judge(order, list, &mut vec![0xA5; room])));
         }
     });
-    met.at_least(10, &[0, 1, 18, 2, 3, 4, 5, 6, 7, 8, 9, 11]);
+    met.at_least(10, &[0, 1, 18, 2, 3, 5, 6, 7, 8, 9, 11]);
+    met.spots_at_least(10);
 }
 
 /// What the archive's calls answer, and their whole buffers after.
@@ -202,7 +240,7 @@ fn same_at_every_pitch(order: &Order, random: &mut Random) {
 #[test]
 fn a_pitch_in_the_range_changes_nothing() {
     let mut random = Random::new(0x5EED_0007);
-    for order in every_pair(6, USUAL).filter(|order| order.entry != order.exit) {
+    for order in every_pair(6, USUAL) {
         same_at_every_pitch(&order, &mut random);
     }
     for _ in 0..1_000 {
@@ -282,9 +320,11 @@ fn random_and_hostile_bounds() {
     let mut random = Random::new(0x5EED_0001);
     let mut met = Met::new();
     for _ in 0..1_000_000 {
-        met.note(compare_bound(&order(&mut random, 4)));
+        let order = order(&mut random, 4);
+        met.note(&order, compare_bound(&order));
     }
-    met.at_least(100, &[0, 1, 18, 2, 3, 4]);
+    met.at_least(100, &[0, 1, 18, 2, 3]);
+    met.spots_at_least(100);
 }
 
 #[test]
@@ -296,9 +336,10 @@ fn random_and_hostile_draws() {
         // As for the usual pitch, so that 18 meets every length too.
         let enough = bound(&order.at(USUAL)).map_or(random.below(20), |b| 2 * b.count) as usize;
         let length = length(&mut random, enough);
-        met.note(compare_draw(&order, &mut dirty(&mut random, length)));
+        met.note(&order, compare_draw(&order, &mut dirty(&mut random, length)));
     }
-    met.at_least(100, &[0, 1, 18, 2, 3, 4, 5]);
+    met.at_least(100, &[0, 1, 18, 2, 3, 5]);
+    met.spots_at_least(100);
 }
 
 /// A walk of neighbours, on the panel or off it, which may come back to its own cells.
@@ -375,10 +416,37 @@ fn random_and_hostile_judgements() {
         }
         let enough = if usual.check().is_ok() { order.area() } else { 9 };
         let length = length(&mut random, enough);
-        met.note(compare_judge(&order, &list, &mut dirty(&mut random, length)));
+        met.note(&order, compare_judge(&order, &list, &mut dirty(&mut random, length)));
     }
     // 10 is never met: more than mn cells of the panel have one twice, which is 9.
-    met.at_least(100, &[0, 1, 18, 2, 3, 4, 5, 6, 7, 8, 9, 11]);
+    met.at_least(100, &[0, 1, 18, 2, 3, 5, 6, 7, 8, 9, 11]);
+    met.spots_at_least(100);
+}
+
+/// Every list of up to three cells on a panel of 2 by 2 or next to it, for every two terminals: between equal
+/// ones that cell alone is accepted.
+#[test]
+fn every_short_list() {
+    let cells: Vec<[u8; 2]> = (0..=3).flat_map(|x| (0..=3).map(move |y| [x, y])).collect();
+    let longer = |lists: &[Vec<u8>]| -> Vec<Vec<u8>> {
+        lists.iter().flat_map(|list| cells.iter().map(|cell| [&list[..], &cell[..]].concat())).collect()
+    };
+    let none = vec![vec![]];
+    let one = longer(&none);
+    let two = longer(&one);
+    let three = longer(&two);
+    let mut met = Met::new();
+    for order in pairs(2, 2, USUAL) {
+        for list in [&none, &one, &two, &three].into_iter().flatten() {
+            let answer = compare_judge(&order, list, &mut [0xA5; 5]);
+            if order.entry == order.exit {
+                assert_eq!(answer.refusal == 0, **list == bytes(order.entry), "{order:?} {list:?}");
+            }
+            met.note(&order, answer);
+        }
+    }
+    met.at_least(1, &[0, 6, 7, 8, 9, 11]);
+    met.spots_at_least(4);
 }
 
 /// A list along the first row of a panel of two rows, with faults in the given order between its steps: 7
@@ -401,8 +469,8 @@ fn with_faults(faults: &[u32]) -> Vec<u8> {
 }
 
 /// Every list of up to three of the faults 7, 8 and 9, in every order and more than once, with the right
-/// ends, a wrong first cell, a wrong last cell or both, in scratch that holds anything: the lowest number
-/// is the answer, wherever its fault stands.
+/// ends, a wrong first cell, a wrong last cell or both, between equal terminals too, in scratch that holds
+/// anything: the lowest number is the answer, wherever its fault stands.
 #[test]
 fn faults_in_every_order() {
     let mut random = Random::new(0x5EED_0009);
@@ -416,13 +484,15 @@ fn faults_in_every_order() {
     for faults in [vec![vec![]], one, two, three].concat() {
         let list = with_faults(&faults);
         let last = (u32::from(list[list.len() - 2]), 1);
-        for (entry, exit) in [((1, 1), last), ((9, 2), last), ((1, 1), (9, 2)), ((9, 2), (10, 2))] {
+        let different = [((1, 1), last), ((9, 2), last), ((1, 1), (9, 2)), ((9, 2), (10, 2))];
+        let equal = [(1, 1), last, (9, 2)].map(|cell| (cell, cell));
+        for (entry, exit) in different.into_iter().chain(equal) {
             let order = Order::new(12, 2, USUAL, entry, exit);
             let ends = (entry != (1, 1) || exit != last).then_some(11);
             let lowest = faults.iter().copied().chain(ends).min().unwrap_or(0);
             let answer = compare_judge(&order, &list, &mut dirty(&mut random, 30));
             assert_eq!(answer.refusal, lowest, "{order:?} {faults:?}");
-            met.note(answer);
+            met.note(&order, answer);
         }
     }
     met.at_least(1, &[0, 7, 8, 9, 11]);

@@ -45,12 +45,24 @@ fn prints_as_expected(order: &Order) {
 
 #[test]
 fn squares_by_hand() {
-    // Two cells; straight; one corner; R-4's four cells; two corners, a straight cell and a corner.
+    // One cell; two; straight; one corner; R-4's four cells; two corners, a straight cell and a corner.
+    assert_eq!(squares(&[1, 1]), 100);
     assert_eq!(squares(&[1, 1, 2, 1]), 200);
     assert_eq!(squares(&[2, 1, 3, 1, 4, 1]), 300);
     assert_eq!(squares(&[1, 1, 2, 1, 2, 2]), 256);
     assert_eq!(squares(&[1, 1, 1, 2, 2, 2, 2, 1]), 312);
     assert_eq!(squares(&[3, 2, 3, 1, 2, 1, 2, 2, 2, 3, 1, 3]), 468);
+}
+
+/// The text for equal terminals is always this one, told without the twin.
+#[test]
+fn spots() {
+    let panels = [(1, 1, (1, 1)), (5, 1, (3, 1)), (2, 6, (1, 4)), (3, 3, (2, 2)), (128, 128, (128, 128))];
+    for (width, height, cell) in panels {
+        let order = Order::new(width, height, 4_000, cell, cell);
+        assert_eq!(foil(&order), "class cells steps squares\n6 1 0 100\n\n", "{order:?}");
+        prints_as_expected(&order);
+    }
 }
 
 #[test]
@@ -70,7 +82,7 @@ fn random_orders() {
 
 #[test]
 fn the_largest_panel() {
-    for exit in [(128, 128), (1, 128), (2, 1), (64, 77)] {
+    for exit in [(128, 128), (1, 128), (2, 1), (64, 77), (1, 1)] {
         prints_as_expected(&Order::new(128, 128, 4_000, (1, 1), exit));
     }
 }

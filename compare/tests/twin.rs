@@ -1,13 +1,14 @@
-//! The independent implementation on its own: its router reaches the count, its judge accepts what it
-//! draws, the count is the longest track's wherever a full search is short enough, and the pitch is refused
-//! where it must be and changes nothing elsewhere.
+//! The independent implementation on its own: its router reaches the count, its judges accept what it
+//! draws, the count is the longest track's wherever a full search is short enough, equal terminals have one
+//! track, and the pitch is refused where it must be and changes nothing elsewhere.
 
-use compare::{bound, draw, judge, pairs, random::Random, search, Order, Refusal};
+use compare::random::Random;
+use compare::{bound, draw, every_pair, judge, judge_once, pairs, search, Bounded, Order, Refusal};
 
 const USUAL: u32 = 4_000;
 
 fn orders(width: u32, height: u32) -> impl Iterator<Item = Order> {
-    pairs(width, height, USUAL).filter(|order| order.entry != order.exit)
+    pairs(width, height, USUAL)
 }
 
 fn draws_and_accepts(order: &Order) {
@@ -17,6 +18,7 @@ fn draws_and_accepts(order: &Order) {
     assert!(buffer[2 * count as usize..].iter().all(|&b| b == 0xA5));
     let mut scratch = vec![0; order.area()];
     assert_eq!(judge(order, &buffer[..2 * count as usize], &mut scratch), Ok(count), "{order:?}");
+    assert_eq!(judge_once(order, &buffer[..2 * count as usize], &mut scratch), Ok(count), "{order:?}");
 }
 
 #[test]
@@ -47,9 +49,46 @@ fn random_orders() {
     for _ in 0..4_000 {
         let (width, height) = (random.within(1, 128), random.within(1, 128));
         let order = random.order(width, height, USUAL);
-        if order.entry != order.exit {
-            draws_and_accepts(&order);
+        draws_and_accepts(&order);
+        draws_and_accepts(&Order { exit: order.entry, ..order });
+    }
+}
+
+#[test]
+fn equal_terminals_and_no_others_are_class_six() {
+    for order in every_pair(6, USUAL) {
+        let found = bound(&order).unwrap();
+        assert_eq!(found.class == 6, order.entry == order.exit, "{order:?}");
+        if order.entry == order.exit {
+            let mut buffer = [0xA5; 4];
+            assert_eq!(found, Bounded { class: 6, count: 1 }, "{order:?}");
+            assert_eq!(draw(&order, &mut buffer), Ok(1), "{order:?}");
+            assert_eq!(buffer, [order.entry.0 as u8, order.entry.1 as u8, 0xA5, 0xA5], "{order:?}");
+            assert_eq!(draw(&order, &mut [0]), Err(Refusal::ShortBuffer), "{order:?}");
         }
+    }
+}
+
+#[test]
+fn lists_for_equal_terminals() {
+    let order = Order::new(3, 2, USUAL, (2, 1), (2, 1));
+    let lists: [(&[u8], Result<u32, Refusal>); 12] = [
+        (&[2, 1], Ok(1)),
+        (&[], Err(Refusal::ListLength)),
+        (&[2, 1, 2], Err(Refusal::ListLength)),
+        (&[2, 0], Err(Refusal::CellOff)),
+        (&[2, 1, 2, 0, 2, 1], Err(Refusal::CellOff)),
+        (&[2, 1, 2, 1], Err(Refusal::NotNeighbours)),
+        (&[2, 1, 3, 1, 2, 1], Err(Refusal::Repeated)),
+        (&[2, 1, 1, 1, 1, 2, 2, 2, 3, 2, 3, 1, 2, 1], Err(Refusal::Repeated)),
+        (&[2, 2], Err(Refusal::WrongEnds)),
+        (&[2, 1, 3, 1], Err(Refusal::WrongEnds)),
+        (&[3, 1, 2, 1], Err(Refusal::WrongEnds)),
+        (&[2, 1, 1, 1, 1, 2, 2, 2, 3, 2, 3, 1], Err(Refusal::WrongEnds)),
+    ];
+    for (list, verdict) in lists {
+        assert_eq!(judge(&order, list, &mut [0; 6]), verdict, "{list:?}");
+        assert_eq!(judge_once(&order, list, &mut [0; 6]), verdict, "{list:?}");
     }
 }
 
@@ -80,7 +119,6 @@ fn the_pitch_is_refused_right_after_the_sides() {
         (Order::new(4, 129, USUAL, (9, 9), (9, 9)), Refusal::Side),
         (Order::new(4, 3, USUAL, (5, 1), (5, 1)), Refusal::EntryOff),
         (Order::new(4, 3, USUAL, (1, 1), (2, 0)), Refusal::ExitOff),
-        (Order::new(4, 3, USUAL, (1, 1), (1, 1)), Refusal::SameCell),
     ];
     for (order, refusal) in faults {
         for pitch in [1_000, USUAL, 10_000] {
@@ -91,10 +129,12 @@ fn the_pitch_is_refused_right_after_the_sides() {
             all_refuse(&order.at(pitch), first);
         }
     }
-    let good = Order::new(4, 3, USUAL, (1, 1), (2, 1));
-    assert_eq!(good.check(), Ok(()));
-    for pitch in [0, 999, 10_001, u32::MAX] {
-        all_refuse(&good.at(pitch), Refusal::Pitch);
+    for exit in [(2, 1), (1, 1)] {
+        let good = Order::new(4, 3, USUAL, (1, 1), exit);
+        assert_eq!(good.check(), Ok(()));
+        for pitch in [0, 999, 10_001, u32::MAX] {
+            all_refuse(&good.at(pitch), Refusal::Pitch);
+        }
     }
 }
 

@@ -226,7 +226,7 @@ fn head_of_judge() {
     println!("|{}", "---|".repeat(2 * names.len()));
 }
 
-/// Random orders on panels whose sides a function gives.
+/// Random orders on panels whose sides a function gives. Their terminals differ: one cell is no track to time.
 fn mix(seed: u64, jobs: usize, sides: impl Fn(&mut Random) -> (u32, u32)) -> Vec<Job> {
     let mut random = Random::new(seed);
     let mut found = Vec::new();

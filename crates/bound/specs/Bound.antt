@@ -5,14 +5,14 @@ use Rattle.grid.specs.declared.Cell.{Cell}
 use Rattle.grid.specs.Check.{checkOrder, answer}
 use Rattle.grid.specs.Refusal.{number}
 use Rattle.grid.specs.Answer.{refusalNumber, given}
-use Rattle.count.specs.Count.{classCount, class, count}
+use Rattle.count.specs.Order.{orderClassCount, orderClass, orderCount}
 use Rattle.bound.specs.declared.BoundAnswer.{BoundAnswer}
 use Rattle.bound.specs.declared.BoundAnswer.the-variants.{Refused, Given}
 use Rattle.bound.specs.declared.BoundValues.{BoundValues}
 
--- refused, in order, 1, 18, 2, 3, 4; else class and count
+-- refused, in order, 1, 18, 2, 3; else class and count
 abbrev pub boundOf : Panel → Cell → Cell → BoundAnswer
-boundOf p s t = answer (checkOrder p s t) Refused (Given (classCount p s t))
+boundOf p s t = answer (checkOrder p s t) Refused (Given (orderClassCount p s t))
 
 -- number, class and count of an answer
 abbrev pub boundValues : BoundAnswer → BoundValues
@@ -23,5 +23,5 @@ boundValues (Given f) = record { refusal = 0; class = f .class; count = f .count
 pub record Bounds (p : Panel) (s t : Cell) (r : BoundAnswer) : Type 0 where
   pub answers : r ≡ boundOf p s t
   pub number : (boundValues r) .refusal ≡ refusalNumber (checkOrder p s t)
-  pub class : (boundValues r) .class ≡ given (checkOrder p s t) (class p s t)
-  pub count : (boundValues r) .count .0 ≡ given (checkOrder p s t) (count p s t)
+  pub class : (boundValues r) .class ≡ given (checkOrder p s t) (orderClass p s t)
+  pub count : (boundValues r) .count .0 ≡ given (checkOrder p s t) (orderCount p s t)

@@ -1,5 +1,5 @@
 // The call Bound: the class and the count of an order.
-use class::class_count;
+use class::order_class_count;
 use count::ClassCount;
 use grid::Cell;
 use grid::Cells;
@@ -50,6 +50,6 @@ pub fn bound(p: Panel, entry: Cell, exit: Cell) -> BoundAnswer
     if let Check::Refused(r) = c {
         return BoundAnswer::Refused(r);
     }
-    let found = class_count(p, entry, exit);
+    let found = order_class_count(p, entry, exit);
     BoundAnswer::Given(found)
 }

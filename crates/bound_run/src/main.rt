@@ -1,5 +1,5 @@
-// Answers Bound for a list of orders: the table of document 01, then orders that are refused and
-// numbers at the ends of their range. A line gives the order (sides, entry, exit and pitch, as `foil`
+// Answers Bound for a list of orders: the table of document 01, then both leads on one cell, orders that
+// are refused and numbers at the ends of their range. A line gives the order (sides, entry, exit and pitch, as `foil`
 // reads them) and, behind the colon, the refusal's number (0: none), the class and the count.
 use grid::Cell;
 use trial::PITCH;
@@ -45,6 +45,24 @@ fn squares() {
     answer(3, 4, 2, 4, 2, 1);
 }
 
+// Equal terminals: on the smallest panel, in one row within it and at its ends, in one column, in two and
+// three rows on cells of either colour, and on large panels.
+fn spots() {
+    answer(1, 1, 1, 1, 1, 1);
+    answer(5, 1, 2, 1, 2, 1);
+    answer(5, 1, 1, 1, 1, 1);
+    answer(5, 1, 5, 1, 5, 1);
+    answer(1, 5, 1, 3, 1, 3);
+    answer(6, 2, 3, 2, 3, 2);
+    answer(2, 2, 2, 2, 2, 2);
+    answer(4, 3, 2, 1, 2, 1);
+    answer(3, 3, 2, 2, 2, 2);
+    answer(5, 5, 3, 4, 3, 4);
+    answer(128, 128, 128, 128, 128, 128);
+    answer_at(127, 128, 64, 1, 64, 1, 1000);
+    answer_at(127, 128, 64, 1, 64, 1, 10000);
+}
+
 // Each refusal by itself.
 fn refused() {
     answer(129, 1, 1, 1, 2, 1);
@@ -55,9 +73,7 @@ fn refused() {
     answer(5, 5, 1, 6, 2, 1);
     answer(5, 5, 1, 1, 6, 1);
     answer(5, 5, 1, 1, 2, 0);
-    answer(5, 5, 3, 4, 3, 4);
     answer(1, 1, 1, 1, 2, 1);
-    answer(1, 1, 1, 1, 1, 1);
 }
 
 // The largest number in each place.
@@ -92,7 +108,7 @@ fn pitches() {
     answer_at(5, 1, 2, 1, 4, 1, MAX);
 }
 
-// A bad pitch behind a bad side, then before each fault that is tested after it.
+// A bad pitch behind a bad side, then before each fault that is tested after it, and with equal terminals.
 fn pitch_and_more() {
     answer_at(129, 1, 1, 1, 2, 1, 999);
     answer_at(5, 0, 1, 1, 2, 1, 10001);
@@ -105,6 +121,7 @@ fn pitch_and_more() {
 fn main() {
     table(PITCH);
     squares();
+    spots();
     refused();
     largest();
     several();

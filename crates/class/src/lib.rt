@@ -1,4 +1,5 @@
-// Class and count of two terminals: the panel turned, the terminals named, the first line that fits.
+// Class and count of two different terminals: the panel turned, the terminals named, the first line that
+// fits; and of an order, whose terminals may be equal.
 use cases::by_colour;
 use cases::f2_count;
 use cases::is_f1;
@@ -9,12 +10,14 @@ use grid::Cell;
 use grid::Cells;
 use grid::Panel;
 use grid::area_of;
+use grid::same_cell;
 use grid::turn_cell;
 use grid::turn_panel;
 ghost use mathlib.Core.Path.{_≡_};
 ghost use Prim.Native.Nat.{_≤_, min};
 ghost use Rattle.grid.specs.Panel.{GoodSides, OnPanel};
 ghost use Rattle.count.specs.Count.{decided, named, classCount};
+ghost use Rattle.count.specs.Order.{orderClassCount};
 ghost use Rattle.cases.specs.Placed.{Placed};
 
 fn decide(p: Panel, s: Cell, t: Cell) -> ClassCount
@@ -89,9 +92,25 @@ pub fn class_count(p: Panel, s: Cell, t: Cell) -> ClassCount
     if 3 < shorter_side(p) {
         return by_colour(p, s, t);
     }
-    // Taken apart, so that the answer above stays in registers: if this one were handed on whole, both
-    // would go through the memory that the call writes to.
-    let found = line_by_line(p, s, t);
+    line_by_line(p, s, t)
+}
+
+// Class and count of an order: equal terminals are class 6, tried before class 1.
+pub fn order_class_count(p: Panel, s: Cell, t: Cell) -> ClassCount
+    requires { ⌜ GoodSides p ⌝ }
+    requires { ⌜ OnPanel p s ⌝ }
+    requires { ⌜ OnPanel p t ⌝ }
+    ensures { λ r. ⌜ r ≡ orderClassCount p s t ⌝ }
+{
+    if same_cell(s, t) {
+        return ClassCount {
+            class: 6,
+            count: Cells(1),
+        };
+    }
+    // Taken apart, so that all answers stay in registers: if this one were handed on whole, they would go
+    // through the memory that the call writes to.
+    let found = class_count(p, s, t);
     let count = found.count;
     ClassCount {
         class: found.class,

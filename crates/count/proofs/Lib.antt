@@ -1,8 +1,10 @@
 pub mod Laws
 pub mod Table
+pub mod Examples
 pub mod Sides
 pub mod Pigeon
 pub mod Colour
 pub mod Strip
 pub mod Rows
 pub mod AtMost
+pub mod Terminals

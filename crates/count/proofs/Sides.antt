@@ -2,11 +2,13 @@
 -- on one exceeds, no track on the other does.
 use Prim.Native.Nat.{ℕ}
 use mathlib.Core.Path.{_≡_, refl, ap}
+use mathlib.Core.Bool.{cond}
 use Rattle.grid.specs.declared.Cell.{Cell}
-use Rattle.grid.specs.Panel.{panel}
+use Rattle.grid.specs.Panel.{panel, sameCell}
 use Rattle.grid.proofs.Sides.{track-same}
 use Rattle.count.specs.declared.ClassCount.{ClassCount}
-use Rattle.count.specs.Count.{classCount, named, decided, f1, f2, f3, c2, c0, count}
+use Rattle.count.specs.Count.{classCount, named, decided, f1, f2, f3, c2, c0, found, count}
+use Rattle.count.specs.Order.{orderClassCount, orderCount}
 use Rattle.count.specs.Longest.{NoLonger}
 
 pub by-sides : (m n a b : ℕ) (s t : Cell) → classCount (panel m n a) s t ≡ classCount (panel m n b) s t
@@ -15,6 +17,14 @@ by-sides m n a b s t = refl
 
 pub count-same : (m n a b : ℕ) (s t : Cell) → count (panel m n a) s t ≡ count (panel m n b) s t
 count-same m n a b s t = ap (λ (k : ClassCount). k .count .0) (by-sides m n a b s t)
+
+-- and so of an order, whose terminals may be equal
+pub order-by-sides : (m n a b : ℕ) (s t : Cell) → orderClassCount (panel m n a) s t ≡ orderClassCount (panel m n b) s t
+unfolding orderClassCount
+order-by-sides m n a b s t = ap (cond (sameCell s t) (found 6 1)) (by-sides m n a b s t)
+
+pub order-count-same : (m n a b : ℕ) (s t : Cell) → orderCount (panel m n a) s t ≡ orderCount (panel m n b) s t
+order-count-same m n a b s t = ap (λ (k : ClassCount). k .count .0) (order-by-sides m n a b s t)
 
 pub no-longer-same : {m n a b k : ℕ} {s t : Cell} → NoLonger (panel m n a) s t k → NoLonger (panel m n b) s t k
 no-longer-same h l r = h l (track-same r)

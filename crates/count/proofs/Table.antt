@@ -9,7 +9,8 @@ use Rattle.grid.specs.declared.Panel.{Panel}
 use Rattle.grid.specs.declared.Cell.{Cell}
 use Rattle.grid.specs.Panel.{panel, cell}
 use Rattle.grid.proofs.Facts.{and-left, and-right}
-use Rattle.count.specs.Count.{f1, f2, f3, c2, c0, decided, named, classCount, class, count}
+use Rattle.count.specs.Count.{f1, f2, f3, c2, c0, decided, named, classCount}
+use Rattle.count.specs.Order.{orderClassCount, orderClass, orderCount}
 
 -- a row: an order, and the class and the count that it must have
 pub record Row : Type 0 where
@@ -49,21 +50,26 @@ table q =
 -- every row has its class and its count
 abbrev pub Holds : List Row → Type 0
 Holds [] = Unit {0}
-Holds (r ∷ l) = (class (r .itsPanel) (r .entry) (r .exit) ≡ r .itsClass) × (count (r .itsPanel) (r .entry) (r .exit) ≡ r .itsCount) × Holds l
+Holds (r ∷ l) =
+    (orderClass (r .itsPanel) (r .entry) (r .exit) ≡ r .itsClass)
+    × (orderCount (r .itsPanel) (r .entry) (r .exit) ≡ r .itsCount)
+    × Holds l
 
 -- the same as a test
 abbrev holds : List Row → Bool
 holds [] = true
-holds (r ∷ l) = eqb (class (r .itsPanel) (r .entry) (r .exit)) (r .itsClass) && (eqb (count (r .itsPanel) (r .entry) (r .exit)) (r .itsCount) && holds l)
+holds (r ∷ l) =
+    eqb (orderClass (r .itsPanel) (r .entry) (r .exit)) (r .itsClass)
+    && (eqb (orderCount (r .itsPanel) (r .entry) (r .exit)) (r .itsCount) && holds l)
 
 tested : (l : List Row) → holds l ≡ true → Holds l
 tested [] e = tt
 tested (r ∷ l) e =
-    let a = eqb (class (r .itsPanel) (r .entry) (r .exit)) (r .itsClass) in
-    let b = eqb (count (r .itsPanel) (r .entry) (r .exit)) (r .itsCount) in
+    let a = eqb (orderClass (r .itsPanel) (r .entry) (r .exit)) (r .itsClass) in
+    let b = eqb (orderCount (r .itsPanel) (r .entry) (r .exit)) (r .itsCount) in
     let later = and-right a (b && holds l) e in
     (eqb-true _ _ (and-left a (b && holds l) e), eqb-true _ _ (and-left b (holds l) later), tested l (and-right b (holds l) later))
 
 pub table-holds : (q : ℕ) → Holds (table q)
-unfolding f1 f2 f3 c2 c0 decided named classCount
+unfolding f1 f2 f3 c2 c0 decided named classCount orderClassCount
 table-holds q = tested (table q) refl

@@ -1,3 +1,4 @@
 pub mod Count
+pub mod Order
 pub mod ByColour
 pub mod Longest

@@ -15,12 +15,12 @@ use Rattle.grid.specs.Track.{Track}
 use Rattle.grid.specs.Bytes.{front}
 use Rattle.grid.specs.Check.{checkOrder, after, expect}
 use Rattle.grid.specs.Answer.{GivesCells}
-use Rattle.count.specs.Count.{count}
+use Rattle.count.specs.Order.{orderCount}
 use Rattle.count.specs.Longest.{NoLonger}
 
 -- refused as Bound, then 5: the buffer is shorter than 2 bytes for each cell of the count
 abbrev pub drawCheck : Panel → Cell → Cell → ℕ → Check
-drawCheck p s t size = after (checkOrder p s t) (expect (leb (2 * count p s t) size) ShortBuffer Good)
+drawCheck p s t size = after (checkOrder p s t) (expect (leb (2 * orderCount p s t) size) ShortBuffer Good)
 
 -- the k cells read from the front of the buffer after the call are a track from s to t, every list of cells that is such a track has at most k,
 -- and the bytes behind the k cells are the old ones
@@ -38,5 +38,5 @@ Leaves p s t old new (Given k) = LongestAtFront p s t (k .0) old new
 -- Draw's promise: the count, or what the check refuses; and the buffer begins with a longest track and is otherwise as it was.
 -- A pitch in its range changes neither promise nor answer (proofs/Sides.antt), nor the track: what chooses and draws is given the sides alone
 pub record Draws (p : Panel) (s t : Cell) (old new : List ℕ) (r : CellsAnswer) : Type 0 where
-  pub gives : GivesCells (drawCheck p s t (length old)) (count p s t) r
+  pub gives : GivesCells (drawCheck p s t (length old)) (orderCount p s t) r
   pub leaves : Leaves p s t old new r

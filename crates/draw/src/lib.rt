@@ -1,5 +1,5 @@
-// Draw: a longest track between two cells, from the table of the 3 by 3 panel or as a plan of corner
-// tracks.
+// Draw: a longest track between two cells, which is the cell itself where they are equal, else from the
+// table of the 3 by 3 panel or as a plan of corner tracks.
 use grid::Cell;
 use grid::Cells;
 use grid::CellsAnswer;
@@ -8,6 +8,7 @@ use grid::Panel;
 use grid::Refusal;
 use legs::draw_leg;
 use legs::draw_legs;
+use list::put_cell;
 use plan::Plan;
 ghost use Prim.Native.Nat.{ℕ};
 ghost use Rattle.grid.specs.Panel.{panel};
@@ -53,10 +54,14 @@ pub fn draw(p: Panel, entry: Cell, exit: Cell, buf: &mut [u8]) -> CellsAnswer
     if let Check::Refused(r) = c {
         return CellsAnswer::Refused(r);
     }
-    let found = class::class_count(p, entry, exit);
+    let found = class::order_class_count(p, entry, exit);
     let cells = found.count;
     if buf.len() < 2 * (cells.0 as usize) {
         return CellsAnswer::Refused(Refusal::ShortBuffer);
+    }
+    if grid::same_cell(entry, exit) {
+        put_cell(buf, 0, entry);
+        return CellsAnswer::Given(cells);
     }
     draw_longest(p.width, p.height, entry, exit, buf);
     CellsAnswer::Given(cells)

@@ -1,6 +1,7 @@
 // Draws every order on panels up to 6 by 6, off-panel terminals included, into a filled buffer, and
 // checks each answer and each byte by a plain look at them; then the order of document 01 that
-// needs 32,768 bytes, with that many and with one fewer; then pitches in and out of their range. A line
+// needs 32,768 bytes, with that many and with one fewer; both leads on one cell; then pitches in and out of
+// their range. A line
 // of these gives the order (sides, entry, exit and pitch) and the buffer's size and, behind the colon,
 // the refusal's number (0: none), the count and what all bytes of the buffer say: `a track`, the cells
 // are one and the bytes behind are as before; `untouched`, all bytes are as before; else `FAULT`.
@@ -160,6 +161,30 @@ fn six_wide(height: u32, sx: u32, sy: u32, tx: u32, ty: u32, pitch: u32) {
     show(o, &mut buf);
 }
 
+// Both leads on one cell, in a buffer just long enough, one byte too short and empty.
+fn spot(m: u32, n: u32, x: u32, y: u32) {
+    let c = Cell { x, y };
+    let o = Order {
+        panel: panel_of(m, n, PITCH),
+        entry: c,
+        exit: c,
+    };
+    let mut buf = [FILL; 2];
+    show(o, &mut buf);
+    let mut short = [FILL; 1];
+    show(o, &mut short);
+    let mut none = [FILL; 0];
+    show(o, &mut none);
+}
+
+fn spots() {
+    spot(1, 1, 1, 1);
+    spot(6, 1, 3, 1);
+    spot(3, 3, 2, 2);
+    spot(128, 128, 128, 1);
+    six_wide(2, 3, 1, 3, 1, PITCH);
+}
+
 // An order of 12 cells in a buffer that is one byte too short for them.
 fn too_short(pitch: u32) {
     let o = Order {
@@ -181,8 +206,8 @@ fn pitches() {
     six_wide(2, 3, 1, 4, 1, MAX);
 }
 
-// A bad pitch behind a bad side, then before each fault that is tested after it; then the last of these
-// with a good pitch.
+// A bad pitch behind a bad side, then before each fault that is tested after it and with equal terminals; then
+// the last of these with a good pitch.
 fn pitch_and_more() {
     six_wide(129, 3, 1, 4, 1, 999);
     six_wide(0, 3, 1, 4, 1, MAX);
@@ -199,6 +224,7 @@ fn main() {
     large(&mut short);
     let mut whole = [FILL; 32768];
     large(&mut whole);
+    spots();
     pitches();
     pitch_and_more();
 }

@@ -12,3 +12,11 @@ pub exits-shown : (exitOf (panel 2 2 4000) (cell 1 1) (record { 0 = 4 }) ≡ Giv
     × (exitOf (panel 3 3 4000) (cell 2 1) (record { 0 = 9 }) ≡ Refused NoExit)
 unfolding f1 f2 f3 c2 c0 decided named classCount
 exits-shown = (refl, refl, refl)
+
+-- a wanted count of 0 or 1, which the entry alone would have: the other cell of two, and 12 on one cell
+pub entry-shown : (exitOf (panel 2 1 4000) (cell 1 1) (record { 0 = 0 }) ≡ Given (cell 2 1))
+    × (exitOf (panel 2 1 4000) (cell 1 1) (record { 0 = 1 }) ≡ Given (cell 2 1))
+    × (exitOf (panel 1 1 4000) (cell 1 1) (record { 0 = 0 }) ≡ Refused NoExit)
+    × (exitOf (panel 1 1 4000) (cell 1 1) (record { 0 = 1 }) ≡ Refused NoExit)
+unfolding f1 f2 f3 c2 c0 decided named classCount
+entry-shown = (refl, refl, refl, refl)

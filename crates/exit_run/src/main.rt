@@ -59,6 +59,20 @@ fn first_of_several() {
     answer(2, 1, 2, 1, 2);
 }
 
+// A wanted count of 0 or 1, which the entry alone would have: another cell is given, or none on one cell.
+fn never_the_entry() {
+    answer(1, 1, 1, 1, 0);
+    answer(1, 1, 1, 1, 1);
+    answer(1, 1, 1, 1, 2);
+    answer(2, 1, 1, 1, 0);
+    answer(2, 1, 1, 1, 1);
+    answer(1, 3, 1, 1, 1);
+    answer(3, 3, 1, 1, 1);
+    answer(3, 3, 2, 1, 0);
+    answer(128, 128, 1, 1, 1);
+    answer(128, 128, 128, 128, 0);
+}
+
 // Wanted counts that the colours rule out, by one: all cells of an odd panel from a black entry, and one
 // cell more than there are.
 fn ruled_out() {
@@ -76,8 +90,6 @@ fn refused() {
     answer(5, 1, 3, 1, 4);
     answer(3, 3, 1, 2, 9);
     answer(127, 127, 1, 2, 16129);
-    answer(1, 1, 1, 1, 0);
-    answer(1, 1, 1, 1, 1);
     answer(4, 3, 1, 2, 13);
     answer(4, 3, 1, 2, MAX);
     answer(0, 3, 1, 2, 1);
@@ -114,6 +126,7 @@ fn pitch_and_more() {
 fn main() {
     found();
     first_of_several();
+    never_the_entry();
     ruled_out();
     refused();
     pitches();

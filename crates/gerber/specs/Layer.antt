@@ -1,5 +1,5 @@
--- Document 02, R-2: a list of cells as one layer in the Gerber Layer Format (RS-274X), line by line. A cell's centre is in nanometres: millimetres
--- with six decimals, as the first line says.
+-- Document 02, R-2 and R-6: a list of cells as one layer in the Gerber Layer Format (RS-274X), line by line. A cell's centre is in nanometres:
+-- millimetres with six decimals, as the first line says.
 use Prim.Native.Nat.{ℕ, _+_, _-_, _*_, _/_, _%_}
 use Prim.Native.Char.{code}
 use mathlib.Core.Bool.{Bool, cond, _&&_}
@@ -32,7 +32,7 @@ abbrev pub fourDecimals : ℕ → List ℕ
 fourDecimals n =
     digit (n / 10000 % 10) ∷ code "." ∷ digit (n / 1000 % 10) ∷ digit (n / 100 % 10) ∷ digit (n / 10 % 10) ∷ digit (n % 10) ∷ []
 
--- the lines before the move: the format of numbers, millimetres, the round aperture D10 as wide as d, D10 taken, straight lines
+-- the lines in front of every list's: the format of numbers, millimetres, the round aperture D10 as wide as d, D10 taken, straight lines
 unfoldable pub headOf : Panel → List ℕ
 headOf p =
     ascii "%FSLAX46Y46*%\n" ++
@@ -41,7 +41,10 @@ headOf p =
     ascii "D10*\n" ++
     ascii "G01*\n"
 
--- what stands behind D in a move and in a draw, with the line feed
+-- what stands behind D in a flash, a move and a draw, with the line feed
+abbrev pub flash : List ℕ
+flash = ascii "03*\n"
+
 abbrev pub move : List ℕ
 move = ascii "02*\n"
 
@@ -67,11 +70,6 @@ abbrev pub turnsFrom : Cell → Cell → List Cell → List Cell
 turnsFrom a b [] = b ∷ []
 turnsFrom a b (c ∷ l) = cond (straight a b c) (turnsFrom b c l) (b ∷ turnsFrom b c l)
 
--- the cells behind the first cell s that are drawn to
-abbrev pub drawnTo : Cell → List Cell → List Cell
-drawnTo s [] = []
-drawnTo s (b ∷ l) = turnsFrom s b l
-
 -- ---- the layer
 
 -- a draw to each of the cells, and the last line
@@ -79,7 +77,12 @@ abbrev pub drawLines : Panel → List Cell → List ℕ
 drawLines p [] = endLine
 drawLines p (c ∷ l) = lineTo p draw c (drawLines p l)
 
+-- the lines behind the head: a flash at the one cell of a list, or a move to the first cell and the draws; and the last line
+abbrev pub linesOf : Panel → List Cell → List ℕ
+linesOf p [] = endLine
+linesOf p (s ∷ []) = lineTo p flash s endLine
+linesOf p (s ∷ b ∷ l) = lineTo p move s (drawLines p (turnsFrom s b l))
+
 -- the layer of a list
 abbrev pub layerOf : Panel → List Cell → List ℕ
-layerOf p [] = []
-layerOf p (s ∷ l) = headOf p ++ lineTo p move s (drawLines p (drawnTo s l))
+layerOf p l = headOf p ++ linesOf p l

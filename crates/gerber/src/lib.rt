@@ -11,7 +11,7 @@ ghost use Rattle.gerber.specs.Layer.{plotX, plotY, headOf, straight};
 // The bytes of a head.
 pub const HEAD: usize = 49;
 
-// The lines before the move, but for the digits of d.
+// The lines in front of every list's, but for the digits of d.
 const HEAD_TEXT: [u8; HEAD] = *b"%FSLAX46Y46*%\n%MOMM*%\n%ADD10C,0.0000*%\nD10*\nG01*\n";
 
 // The digits of half the pitch in ten-thousandths of a millimetre go where the text has zeros.

@@ -2,7 +2,8 @@
 -- reader's promise from that.
 use Prim.Native.Nat.{ℕ, _*_, _≤_, _<_}
 use mathlib.Core.Path.{_≡_, refl, sym, ap, subst, _∙_}
-use mathlib.Core.List.{List}
+use mathlib.Core.Bool.{cond}
+use mathlib.Core.List.{List, [], _∷_}
 use native.Mathlib.Omega.{arith}
 use lib.ListN.{length}
 use borrow.Author.Tests.{le-leb, lt-leb}
@@ -13,18 +14,21 @@ use Rattle.grid.specs.declared.Refusal.the-variants.{ShortBuffer, UnknownByte}
 use Rattle.grid.specs.declared.Check.{Check}
 use Rattle.grid.specs.declared.Check.the-variants.{Good}
 use Rattle.grid.specs.declared.CellsAnswer.the-variants.{Refused, Given}
+use Rattle.grid.specs.Panel.{GoodPanel}
 use Rattle.grid.specs.Bytes.{bytes}
 use Rattle.grid.specs.Check.{checkPanel}
 use Rattle.grid.proofs.Answers.{gives-cells}
 use Rattle.grid.proofs.Bytes.{cells-bytes}
-use Rattle.grid.proofs.Facts.{clash}
-use Rattle.grid.proofs.Passed.{after-passed, panel-passed}
-use Rattle.grid.proofs.Tests.{expect-yes, expect-no, after-good, after-refused, answer-good, answer-refused}
+use Rattle.grid.proofs.Facts.{clash, is-good}
+use Rattle.grid.proofs.Passed.{after-passed, panel-passes}
+use Rattle.grid.proofs.Tests.{cond-no, expect-yes, expect-no, after-good, after-refused, answer-good, answer-refused}
 use Rattle.list.specs.List.{withCells}
 use Rattle.list.proofs.Checks.{GoodList, list-good, is-list-good}
-use Rattle.gerber_trace.specs.Trace.{Found, traced}
+use Rattle.gerber.specs.Layer.{flash, move}
+use Rattle.gerber_trace.specs.Trace.{Aim, isEnd, Found, cellsFrom, several, firstAt, cellsOf, traced}
+use Rattle.gerber_trace.specs.Trace.Aim.{nothing, cellAnd}
 use Rattle.gerber_trace.specs.Trace.Found.{none, cells}
-use Rattle.gerber_trace.proofs.RoundTrip.{traced-back, traced-is}
+use Rattle.gerber_trace.proofs.RoundTrip.{several-is, traced-back, traced-is}
 use Rattle.gerber_read.specs.Read.{LayerOf, Layer, checkReader, ReadsLayer, foundList, foundSize}
 use Rattle.gerber_read.specs.Read.Layer.{of, other}
 
@@ -43,20 +47,35 @@ pub one-list : {p : Panel} {file : List ℕ} {l k : List Cell} → LayerOf p fil
 one-list {l = l} {k = k} h g = let e : cells l ≡ cells k = layer-found h ∙ sym (layer-found g) in cc
 
 module _ (p : Panel) (file : List ℕ) where
-  -- with less than two cells found it is of no list
-  pub no-layer : foundSize (traced p file) < 2 → (l : List Cell) → LayerOf p file l → ⊥
-  no-layer few l h = omega (arith, layer-list h .some, ap foundSize (layer-found h))
+  -- where nothing is found it is of no list
+  no-layer : none ≡ traced p file → (l : List Cell) → LayerOf p file l → ⊥
+  no-layer e l h = let c : none ≡ cells l = e ∙ sym (layer-found h) in clash (cc)
 
-  pub some-found : (f : Found) → 2 ≤ foundSize f → f ≡ cells (foundList f)
-  some-found none h = absurd (omega arith)
-  some-found (cells l) h = refl
+  pub is-layer : GoodPanel p → (l : List Cell) → cells l ≡ traced p file → LayerOf p file l
+  is-layer g l e =
+      let (list, same) = traced-is p (is-good g) file l (sym e) in
+      record { taken = is-list-good p l list; same = same }
 
-  pub is-layer : checkPanel p ≡ Good → 2 ≤ foundSize (traced p file) → LayerOf p file (foundList (traced p file))
-  is-layer e some =
-      let (list, same) = traced-is p (panel-passed p e) file (foundList (traced p file)) some (some-found (traced p file) some) in
-      record { taken = is-list-good p (foundList (traced p file)) list; same = same }
+  -- what is found goes by the line behind the head: of a flash, or else of a move
+  pub by-flash : {s : Cell} {r : List ℕ} → firstAt p flash file ≡ cellAnd s r → cond (isEnd r) (cells (s ∷ [])) none ≡ traced p file
+  by-flash e = ap (λ (t : Aim). cellsOf p t (firstAt p move file)) (sym e)
+
+  pub by-move : {t : Aim} → firstAt p flash file ≡ nothing → t ≡ firstAt p move file → several (cellsFrom p t) ≡ traced p file
+  by-move e f = λ i. cellsOf p (sym e i) (f i)
+
+-- from a move on, where it is less than two cells and where it is not
+pub several-none : (f : Found) → foundSize f < 2 → none ≡ several f
+several-none none h = refl
+several-none (cells l) h = cond-no _ _ (lt-leb 2 (length l) h) refl
+
+pub several-all : (f : Found) → 2 ≤ foundSize f → cells (foundList f) ≡ several f
+several-all none h = absurd (omega arith)
+several-all (cells l) h = several-is l h
 
 -- ---- the promise
+
+passes : {p : Panel} → GoodPanel p → checkPanel p ≡ Good
+passes {p} g = panel-passes p (is-good g)
 
 module _ (p : Panel) (file old : List ℕ) {new : List ℕ} where
   -- where the check refuses, with this said of the file, and the buffer is as it was
@@ -74,23 +93,22 @@ module _ (p : Panel) (file old : List ℕ) {new : List ℕ} where
       none : (l : List Cell) → LayerOf p file l → ⊥
       none l h = let c : Check.Refused r ≡ Good = sym e ∙ after-passed (checkPanel p) _ (h .taken) in clash (cc)
 
-  module _ (e : checkPanel p ≡ Good) where
-    pub file-refused : foundSize (traced p file) < 2 → new ≡ old → ReadsLayer p file old new (Refused UnknownByte)
-    file-refused few same = refuses (other (no-layer p file few)) (sym (after-good _ e refl)) same
+  module _ (g : GoodPanel p) where
+    pub file-refused : none ≡ traced p file → new ≡ old → ReadsLayer p file old new (Refused UnknownByte)
+    file-refused e same = refuses (other (no-layer p file e)) (sym (after-good _ (passes g) refl)) same
 
-    module _ (n : ℕ) (size : n ≡ foundSize (traced p file)) (some : 2 ≤ n) where
-      pub short-refused : length old < 2 * n → new ≡ old → ReadsLayer p file old new (Refused ShortBuffer)
+    module _ (l : List Cell) (e : cells l ≡ traced p file) where
+      pub short-refused : length old < 2 * length l → new ≡ old → ReadsLayer p file old new (Refused ShortBuffer)
       short-refused short same =
-          let l = foundList (traced p file) in
-          let room = lt-leb (2 * length l) (length old) (omega arith) in
-          refuses (of l (is-layer p file e (omega arith))) (sym (after-good _ e (expect-no _ _ room))) same
+          let room = lt-leb (2 * length l) (length old) short in
+          refuses (of l (is-layer p file g l e)) (sym (after-good _ (passes g) (expect-no _ _ room))) same
 
-      pub given-list : 2 * n ≤ length old → new ≡ withCells (foundList (traced p file)) old → ReadsLayer p file old new (Given (record { 0 = n }))
-      given-list fits is =
-          let l = foundList (traced p file) in
-          let f = of l (is-layer p file e (omega arith)) in
-          let room = le-leb (2 * length l) (length old) (omega arith) in
-          let good : checkReader p f old ≡ Good = sym (after-good _ e (expect-yes _ _ room refl)) in
+      pub given-list : {n : ℕ} → n ≡ length l → 2 * length l ≤ length old → new ≡ withCells l old
+          → ReadsLayer p file old new (Given (record { 0 = n }))
+      given-list size fits is =
+          let f = of l (is-layer p file g l e) in
+          let room = le-leb (2 * length l) (length old) fits in
+          let good : checkReader p f old ≡ Good = sym (after-good _ (passes g) (expect-yes _ _ room refl)) in
           record {
             found = f;
             gives = gives-cells _ _ (answer-good _ _ good (ap (λ (k : ℕ). Given (record { 0 = k })) size));

@@ -1,4 +1,4 @@
--- Document 02, R-2: the reader of a layer, told panel and pitch. It takes exactly the layers that the writer makes: what it takes is said by
+-- Document 02, R-2 and R-6: the reader of a layer, told panel and pitch. It takes exactly the layers that the writer makes: what it takes is said by
 -- the writer's layer alone.
 use Prim.Native.Nat.{ℕ, _+_, _*_, _≤_}
 use mathlib.Core.Path.{_≡_}

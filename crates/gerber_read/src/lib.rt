@@ -2,7 +2,8 @@
 use gerber_trace::Advance;
 use gerber_trace::Target;
 use gerber_trace::Trace;
-use gerber_trace::move_at;
+use gerber_trace::first_at;
+use gerber_trace::is_end;
 use gerber_trace::step_on;
 use grid::Cell;
 use grid::Cells;
@@ -20,8 +21,9 @@ ghost use Rattle.grid.specs.Panel.{GoodPanel, OnPanel};
 ghost use Rattle.grid.specs.Bytes.{bytes};
 ghost use Rattle.list.specs.List.{withCells};
 ghost use Rattle.text.specs.Put.{put};
-ghost use Rattle.gerber_trace.specs.Trace.{cellsFrom};
-ghost use Rattle.gerber_trace.specs.Trace.Aim.{cellAnd};
+ghost use Rattle.gerber.specs.Layer.{flash};
+ghost use Rattle.gerber_trace.specs.Trace.{cellsFrom, firstAt};
+ghost use Rattle.gerber_trace.specs.Trace.Aim.{nothing, cellAnd};
 ghost use Rattle.gerber_read.specs.Read.{startAt, foundList, foundSize, cellsAhead, Writable, ReadsLayer};
 
 // The way through a layer begins at its first cell, which is its own goal: every direction is another.
@@ -98,19 +100,32 @@ fn write_cells(p: Panel, s: Cell, file: &[u8], next: usize, count: usize, list: 
     write_ahead(p, file, start_at(s, next), list, 2, 2 * count);
 }
 
-pub fn read_layer(p: Panel, file: &[u8], list: &mut [u8]) -> CellsAnswer
+// The list of one cell, whose flash ends at `next`.
+fn read_spot(p: Panel, s: Cell, file: &[u8], next: usize, list: &mut [u8]) -> CellsAnswer
+    requires { ⌜ (GoodPanel p) × (firstAt p flash (now file) ≡ cellAnd s (drop next (now file))) ⌝ }
     ensures { λ r. ⌜ ReadsLayer p (now (file .entry)) (now (list .entry)) (now (list .exit)) r ⌝ }
 {
-    let c = check_panel(p);
-    if let Check::Refused(r) = c {
-        return CellsAnswer::Refused(r);
+    if !is_end(file, next) {
+        return CellsAnswer::Refused(Refusal::UnknownByte);
     }
-    let first = move_at(p, file);
+    if list.len() < 2 {
+        return CellsAnswer::Refused(Refusal::ShortBuffer);
+    }
+    put_cell(list, 0, s);
+    CellsAnswer::Given(Cells(1))
+}
+
+// The list of two cells or more, where there is no flash.
+fn read_walk(p: Panel, file: &[u8], list: &mut [u8]) -> CellsAnswer
+    requires { ⌜ (GoodPanel p) × (firstAt p flash (now file) ≡ nothing) ⌝ }
+    ensures { λ r. ⌜ ReadsLayer p (now (file .entry)) (now (list .entry)) (now (list .exit)) r ⌝ }
+{
+    let first = first_at(p, b"02*\n", file);
     let Target::At(s, next) = first else {
         return CellsAnswer::Refused(Refusal::UnknownByte);
     };
     let count = count_cells(p, s, file, next);
-    // One cell alone is a list that the writer refuses.
+    // A move without a draw is no layer: the list of one cell has a flash.
     if count < 2 {
         return CellsAnswer::Refused(Refusal::UnknownByte);
     }
@@ -120,4 +135,18 @@ pub fn read_layer(p: Panel, file: &[u8], list: &mut [u8]) -> CellsAnswer
     write_cells(p, s, file, next, count, list);
     let cells = count as u32;
     CellsAnswer::Given(Cells(cells))
+}
+
+pub fn read_layer(p: Panel, file: &[u8], list: &mut [u8]) -> CellsAnswer
+    ensures { λ r. ⌜ ReadsLayer p (now (file .entry)) (now (list .entry)) (now (list .exit)) r ⌝ }
+{
+    let c = check_panel(p);
+    if let Check::Refused(r) = c {
+        return CellsAnswer::Refused(r);
+    }
+    let spot = first_at(p, b"03*\n", file);
+    if let Target::At(s, next) = spot {
+        return read_spot(p, s, file, next, list);
+    }
+    read_walk(p, file, list)
 }

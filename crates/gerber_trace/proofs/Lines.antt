@@ -1,4 +1,5 @@
--- A line to a cell's centre is read as that cell (`reads-line`), and what is read as a cell is its line (`line-read`).
+-- A line to a cell's centre is read as that cell (`reads-line`), if its operation is the one looked for (`move-no-flash`); and what is read
+-- as a cell is its line (`line-read`).
 use Prim.Native.Nat.{ℕ, _≤_}
 use Prim.Native.Char.{code}
 use mathlib.Core.Path.{_≡_, refl, sym, ap, _∙_}
@@ -17,9 +18,9 @@ use Rattle.text.specs.Ascii.{ascii}
 use Rattle.text.specs.Field.{largestNumber, fieldOf}
 use Rattle.text.proofs.Fronts.{reads-behind, goes-behind}
 use Rattle.text.proofs.Numbers.{reads-next, goes-on}
-use Rattle.gerber.specs.Layer.{plotX, plotY, lineTo}
+use Rattle.gerber.specs.Layer.{plotX, plotY, flash, move, lineTo}
 use Rattle.gerber.proofs.Plots.{plot-x-small, plot-y-small, column-back, row-back}
-use Rattle.gerber_trace.specs.Trace.{plotted, isCentre, centred, behindD, behindY, behindX, lineAt}
+use Rattle.gerber_trace.specs.Trace.{Aim, plotted, isCentre, centred, behindD, behindY, behindX, lineAt}
 use Rattle.gerber_trace.specs.Trace.Aim.{nothing, cellAnd}
 
 -- ---- what is written is read
@@ -36,15 +37,23 @@ module _ {p : Panel} (g : GoodPanel p) {c : Cell} (o : OnPanel p c) where
       let centre : isCentre p (plotX p c) (plotY p c) c ≡ true = and-both (is-on o) same in
       cond-yes _ _ (ap (isCentre p (plotX p c) (plotY p c)) plotted-back ∙ centre) (ap (λ (d : Cell). cellAnd d r) (sym plotted-back))
 
-  pub reads-line : (operation r : List ℕ) → cellAnd c r ≡ lineAt p operation (lineTo p operation c r)
-  reads-line operation r =
+  -- the numbers are read, and what they go on to behind the D, where another operation may stand than the one looked for
+  reads-numbers : (sought operation r : List ℕ) {y : Aim} → y ≡ behindD p sought (plotX p c) (plotY p c) (operation ++ r)
+      → y ≡ lineAt p sought (lineTo p operation c r)
+  reads-numbers sought operation r e =
       let x-small : plotX p c ≤ largestNumber = omega (arith, plot-x-small g o) in
       let y-small : plotY p c ≤ largestNumber = omega (arith, plot-y-small g o) in
       let tail = operation ++ r in
-      reads-behind nothing (behindX p operation) (ascii "X") (fieldOf (plotX p c) (code "Y") (fieldOf (plotY p c) (code "D") tail))
-      (reads-next nothing (plotX p c) (code "Y") (fieldOf (plotY p c) (code "D") tail) (behindY p operation) refl x-small
-      (reads-next nothing (plotY p c) (code "D") tail (behindD p operation (plotX p c)) refl y-small
-      (reads-behind nothing (centred p (plotX p c) (plotY p c)) operation r (centred-back r))))
+      reads-behind nothing (behindX p sought) (ascii "X") (fieldOf (plotX p c) (code "Y") (fieldOf (plotY p c) (code "D") tail))
+      (reads-next nothing (plotX p c) (code "Y") (fieldOf (plotY p c) (code "D") tail) (behindY p sought) refl x-small
+      (reads-next nothing (plotY p c) (code "D") tail (behindD p sought (plotX p c)) refl y-small e))
+
+  pub reads-line : (operation r : List ℕ) → cellAnd c r ≡ lineAt p operation (lineTo p operation c r)
+  reads-line operation r =
+      reads-numbers operation operation r (reads-behind nothing (centred p (plotX p c) (plotY p c)) operation r (centred-back r))
+
+  pub move-no-flash : (r : List ℕ) → nothing ≡ lineAt p flash (lineTo p move c r)
+  move-no-flash r = reads-numbers flash move r refl
 
 -- ---- what is read is written so
 

@@ -1,30 +1,31 @@
 -- What is written is read back cell by cell: at each cell the goal is the next cell that is drawn to, and the bytes behind its line draw to
 -- the later ones (`reads-behind-cell`). What is read so is written so (`cells-read`). So the reading takes exactly the layers of good lists,
--- and gives each its list (`traced-back`, `traced-is`).
+-- those of one cell, which have a flash, and the others, and gives each its list (`traced-back`, `traced-is`).
 use Prim.Native.Nat.{ℕ, zero, suc, _≤_, _<_}
 use mathlib.Core.Path.{_≡_, refl, sym, ap, subst, subst₃, _∙_}
 use mathlib.Core.Bool.{Bool, true, false, true≢false}
 use mathlib.Core.List.{List, [], _∷_, _++_}
+use native.Mathlib.Nat.{mul-le-mul}
 use native.Mathlib.Omega.{arith}
 use lib.ListN.{length, drop, drop-of-length-le}
-use lib.Dec.{eqb}
-use borrow.Author.Tests.{eqb-true}
+use lib.Dec.{leb, eqb}
+use borrow.Author.Tests.{leb-true, le-leb, eqb-true}
 use Rattle.grid.specs.declared.Panel.{Panel}
 use Rattle.grid.specs.declared.Cell.{Cell}
-use Rattle.grid.specs.Panel.{GoodPanel, Neighbours, goodPanel, area, onPanel, sameCell, neighbours}
-use Rattle.grid.proofs.Facts.{clash, and-parts, and-both, good, on, beside-is, next, is-next, eq-same, same-eq, ne-same}
+use Rattle.grid.specs.Panel.{GoodPanel, OnPanel, Neighbours, goodPanel, area, onPanel, sameCell, neighbours}
+use Rattle.grid.proofs.Facts.{clash, and-left, and-parts, and-both, good, on, beside-is, next, is-next, eq-same, same-eq, ne-same}
 use Rattle.grid.proofs.Tests.{both-branches, cond-yes, cond-no}
 use Rattle.list.specs.List.{allOn, stepsFrom}
 use Rattle.list.proofs.Checks.{GoodList}
 use Rattle.text.specs.Front.{begins}
 use Rattle.text.proofs.Fronts.{front-is, reads-behind, goes-behind}
-use Rattle.gerber.specs.Layer.{headOf, move, draw, lineTo, endLine, straight, turnsFrom, drawLines, layerOf}
+use Rattle.gerber.specs.Layer.{headOf, flash, move, draw, lineTo, endLine, straight, turnsFrom, drawLines, layerOf}
 use Rattle.gerber_trace.specs.Trace.{Aim, lineAt, Next, isEnd, ahead, towards, onTo, aimed, nextOf}
-use Rattle.gerber_trace.specs.Trace.{Found, inFront, follow, cellsBehind, cellsFrom, moveAt, traced}
+use Rattle.gerber_trace.specs.Trace.{Found, inFront, follow, cellsBehind, cellsFrom, several, firstAt, cellsOf, traced}
 use Rattle.gerber_trace.specs.Trace.Aim.{nothing, cellAnd}
 use Rattle.gerber_trace.specs.Trace.Next.{other, end, to}
 use Rattle.gerber_trace.specs.Trace.Found.{none, cells}
-use Rattle.gerber_trace.proofs.Lines.{reads-line, line-read}
+use Rattle.gerber_trace.proofs.Lines.{reads-line, move-no-flash, line-read}
 use Rattle.gerber_trace.proofs.Turns.{middle, straight-ahead, ahead-straight, ahead-beside, towards-beside}
 use Rattle.gerber_trace.proofs.Turns.{goal, later, turns-split, goal-apart, towards-goal}
 
@@ -196,20 +197,34 @@ module _ (s b : Cell) (l : List Cell) (n : Neighbours s b) where
   first-later : turnsFrom s b l ≡ later s s (b ∷ l)
   first-later = turns-split s b l ∙ cond-no (later s b l) _ (first-turn s b n) refl
 
+-- a line behind the head is read, and a move there is no flash
+module _ (p : Panel) {s : Cell} (r : List ℕ) where
+  reads-first : (operation : List ℕ) → GoodPanel p → OnPanel p s → cellAnd s r ≡ firstAt p operation (headOf p ++ lineTo p operation s r)
+  reads-first operation g o = reads-behind nothing (lineAt p operation) (headOf p) (lineTo p operation s r) (reads-line g o operation r)
+
+  first-no-flash : GoodPanel p → OnPanel p s → nothing ≡ firstAt p flash (headOf p ++ lineTo p move s r)
+  first-no-flash g o = reads-behind nothing (lineAt p flash) (headOf p) (lineTo p move s r) (move-no-flash g o r)
+
+-- what is found, if it is two cells or more
+pub several-is : (l : List Cell) → 2 ≤ length l → cells l ≡ several (cells l)
+several-is l h = cond-yes _ _ (le-leb 2 (length l) h) refl
+
 pub traced-back : (p : Panel) (l : List Cell) → GoodList p l → cells l ≡ traced p (layerOf p l)
-traced-back p [] g = let none : 2 ≤ 0 = g .some in absurd (omega arith)
-traced-back p (s ∷ []) g = let one : 2 ≤ 1 = g .some in absurd (omega arith)
+traced-back p [] g = let none : 1 ≤ 0 = g .some in absurd (omega arith)
+traced-back p (s ∷ []) g =
+    let o = and-left (onPanel p s) true (g .on) in
+    ap (λ (t : Aim). cellsOf p t (firstAt p move (layerOf p (s ∷ [])))) (reads-first p endLine flash (good p (g .panel)) (on p s o))
 traced-back p (s ∷ b ∷ l) g =
     let panel = good p (g .panel) in
     let rest = drawLines p (turnsFrom s b l) in
     let (o, os) = and-parts (onPanel p s) (allOn p (b ∷ l)) (g .on) in
     let n = next (and-parts (neighbours s b) (stepsFrom b l) (g .next) .0) in
     let few : length (b ∷ l) < area p = g .few in
-    let line = reads-behind nothing (lineAt p move) (headOf p) (lineTo p move s rest) (reads-line panel (on p s o) move rest) in
-    ap (inFront s)
+    several-is (s ∷ b ∷ l) (omega arith)
+    ∙ ap (λ (f : Found). several (inFront s f))
     (reads-behind-cell panel (area p) s s (b ∷ l) (g .next) os few
     ∙ (λ i. cellsBehind p (area p) s s (sym (first-goal s b l n) i) (drawLines p (sym (first-later s b l n) i))))
-    ∙ ap (cellsFrom p) line
+    ∙ (λ i. cellsOf p (first-no-flash p rest panel (on p s o) i) (reads-first p rest move panel (on p s o) i))
 
 -- ---- and back
 
@@ -221,29 +236,59 @@ from-move p (cellAnd s r) l e =
     let (k, found, is) = front-found s (cellsBehind p (area p) s s s r) e in
     (s, r, k, refl, found, is)
 
+-- two cells or more, and the same were found
+several-found : (f : Found) (l : List Cell) → several f ≡ cells l → (f ≡ cells l) × (2 ≤ length l)
+several-found none l e = clash (cc)
+several-found (cells k) l e =
+    both-branches (λ (f : Found). f ≡ cells l → (cells k ≡ cells l) × (2 ≤ length l)) (leb 2 (length k)) (cells k) none
+    (λ t q. let is : k ≡ l = cc in (q, omega (arith, leb-true 2 (length k) t, ap length is))) (λ t q. clash (cc)) e
+
 -- the head, and the line to the first cell, which is on the panel
-pub move-read : (p : Panel) (file : List ℕ) (s : Cell) (r : List ℕ) → moveAt p file ≡ cellAnd s r
-    → (file ≡ headOf p ++ lineTo p move s r) × (onPanel p s ≡ true)
-move-read p file s r e =
-    let (head, line) = goes-behind nothing (lineAt p move) (headOf p) file (λ q. clash (cc)) e in
-    let (is, o) = line-read p s r move (drop (length (headOf p)) file) line in
+pub first-read : (p : Panel) (operation file : List ℕ) (s : Cell) (r : List ℕ) → firstAt p operation file ≡ cellAnd s r
+    → (file ≡ headOf p ++ lineTo p operation s r) × (onPanel p s ≡ true)
+first-read p operation file s r e =
+    let (head, line) = goes-behind nothing (lineAt p operation) (headOf p) file (λ q. clash (cc)) e in
+    let (is, o) = line-read p s r operation (drop (length (headOf p)) file) line in
     (head ∙ ap (λ (k : List ℕ). headOf p ++ k) is, o)
 
 module _ (p : Panel) (panel : goodPanel p ≡ true) (file : List ℕ) where
+  -- a good list, whose layer the file is
+  abbrev Is : List Cell → Type 0
+  Is l = GoodList p l × (layerOf p l ≡ file)
+
+  -- a first cell that is the only one
+  one-cell : (s : Cell) (r : List ℕ) → firstAt p flash file ≡ cellAnd s r → isEnd r ≡ true → Is (s ∷ [])
+  one-cell s r e q =
+      let (line, o) = first-read p flash file s r e in
+      let g = good p panel .sides in (
+        record { panel = panel; on = and-both o refl; next = refl; some = omega arith; few = mul-le-mul {n₁ = 1} {m₁ = 1} (g .wide) (g .high) },
+        sym (line ∙ ap (λ (k : List ℕ). headOf p ++ lineTo p flash s k) (end-read r q)),
+      )
+
   -- a first cell, and one or more behind it
-  some-cells : (s : Cell) (r : List ℕ) (k : List Cell) → 1 ≤ length k → moveAt p file ≡ cellAnd s r → Behind p (area p) s s s r k
-      → GoodList p (s ∷ k) × (layerOf p (s ∷ k) ≡ file)
+  some-cells : (s : Cell) (r : List ℕ) (k : List Cell) → 1 ≤ length k → firstAt p move file ≡ cellAnd s r → Behind p (area p) s s s r k
+      → Is (s ∷ k)
   some-cells s r [] h e f = absurd (omega arith)
   some-cells s r (b ∷ l) h e f =
       let n = next (and-parts (neighbours s b) (stepsFrom b l) (f .steps) .0) in
-      let (line, o) = move-read p file s r e in
+      let (line, o) = first-read p move file s r e in
       let rest : r ≡ drawLines p (turnsFrom s b l) = f .rest ∙ ap (drawLines p) (sym (first-later s b l n)) in (
         record { panel = panel; on = and-both o (f .on); next = f .steps; some = omega arith; few = f .few },
         sym (line ∙ ap (λ (k : List ℕ). headOf p ++ lineTo p move s k) rest),
       )
 
-  pub traced-is : (l : List Cell) → 2 ≤ length l → traced p file ≡ cells l → GoodList p l × (layerOf p l ≡ file)
-  traced-is l h e =
-      let (s, r, k, line, found, is) = from-move p (moveAt p file) l e in
+  by-move : (l : List Cell) → several (cellsFrom p (firstAt p move file)) ≡ cells l → Is l
+  by-move l e =
+      let (all, two) = several-found (cellsFrom p (firstAt p move file)) l e in
+      let (s, r, k, line, found, is) = from-move p (firstAt p move file) l all in
       let behind = cells-read p (area p) s s s r k (λ q. absurd (true≢false (sym (eq-same {a = s} refl) ∙ q))) found in
-      subst (λ (l : List Cell). GoodList p l × (layerOf p l ≡ file)) is (some-cells s r k (omega (arith, ap length is)) line behind)
+      subst Is is (some-cells s r k (omega (arith, ap length is, two)) line behind)
+
+  pub traced-is : (l : List Cell) → traced p file ≡ cells l → GoodList p l × (layerOf p l ≡ file)
+  traced-is l e = go (firstAt p flash file) refl e
+    where
+      go : (t : Aim) → firstAt p flash file ≡ t → cellsOf p t (firstAt p move file) ≡ cells l → Is l
+      go nothing f q = by-move l q
+      go (cellAnd s r) f q =
+          both-branches (λ (d : Found). d ≡ cells l → Is l) (isEnd r) (cells (s ∷ [])) none
+          (λ t u. let is : s ∷ [] ≡ l = cc in subst Is is (one-cell s r f t)) (λ t u. clash (cc)) q

@@ -5,14 +5,14 @@ use Prim.Native.Char.{code}
 use mathlib.Core.Bool.{Bool, cond, _&&_}
 use mathlib.Core.List.{List, [], _∷_}
 use lib.ListN.{length, drop}
-use lib.Dec.{ltb, eqb}
+use lib.Dec.{leb, ltb, eqb}
 use Rattle.grid.specs.declared.Panel.{Panel}
 use Rattle.grid.specs.declared.Cell.{Cell}
 use Rattle.grid.specs.Panel.{area, cell, onPanel, sameCell}
 use Rattle.text.specs.Ascii.{ascii}
 use Rattle.text.specs.Front.{begins, behindText}
 use Rattle.text.specs.Field.{field, andThen}
-use Rattle.gerber.specs.Layer.{plotX, plotY, headOf, move, draw, endLine, straight}
+use Rattle.gerber.specs.Layer.{plotX, plotY, headOf, flash, move, draw, endLine, straight}
 use Rattle.gerber_trace.specs.declared.Target.{Target}
 use Rattle.gerber_trace.specs.declared.Target.the-variants as target
 use Rattle.gerber_trace.specs.declared.Advance.{Advance}
@@ -125,15 +125,27 @@ abbrev pub cellsBehind : Panel → ℕ → Cell → Cell → Cell → List ℕ �
 cellsBehind p zero a b g r = none
 cellsBehind p (suc k) a b g r = follow (nextOf p a b g r) (cellsBehind p k)
 
--- the first cell, which the move goes to, and those behind it: at most as many as the panel has
+-- the first cell, which a move goes to, and those behind it: at most as many as the panel has
 abbrev pub cellsFrom : Panel → Aim → Found
 cellsFrom p nothing = none
 cellsFrom p (cellAnd s r) = inFront s (cellsBehind p (area p) s s s r)
 
--- the line of the move, behind the head
-abbrev pub moveAt : Panel → List ℕ → Aim
-moveAt p file = behindText nothing (headOf p) file (lineAt p move)
+-- what is found, if it is two cells or more: a move without a draw is of another form
+abbrev pub several : Found → Found
+several none = none
+several (cells l) = cond (leb 2 (length l)) (cells l) none
+
+-- ---- a file
+
+-- the line behind the head, with an operation
+abbrev pub firstAt : Panel → List ℕ → List ℕ → Aim
+firstAt p operation file = behindText nothing (headOf p) file (lineAt p operation)
+
+-- where there is a flash its cell alone, if the last line follows; where there is none, the cells of a move
+abbrev pub cellsOf : Panel → Aim → Aim → Found
+cellsOf p (cellAnd s r) moved = cond (isEnd r) (cells (s ∷ [])) none
+cellsOf p nothing moved = several (cellsFrom p moved)
 
 -- the cells of a file
 abbrev pub traced : Panel → List ℕ → Found
-traced p file = cellsFrom p (moveAt p file)
+traced p file = cellsOf p (firstAt p flash file) (firstAt p move file)

@@ -17,7 +17,7 @@ ghost use Prim.Native.Nat.{_*_, _-_, _≤_};
 ghost use lib.ListN.{drop};
 ghost use Rattle.grid.specs.Panel.{GoodPanel, OnPanel, maxSide};
 ghost use Rattle.gerber.specs.Layer.{draw};
-ghost use Rattle.gerber_trace.specs.Trace.{plotted, isCentre, centred, lineAt, aimOf, isEnd, towards, onTo, aimed, nextOf, stepOf, moveAt};
+ghost use Rattle.gerber_trace.specs.Trace.{plotted, isCentre, centred, lineAt, aimOf, isEnd, towards, onTo, aimed, nextOf, stepOf, firstAt};
 
 // Where a line leads: to a cell, and the place behind the line; or another form.
 pub enum Target {
@@ -106,7 +106,7 @@ fn line_at(p: Panel, operation: &[u8], file: &[u8], at: usize) -> Target
 }
 
 // Whether the last line, and nothing else, is left from a place on.
-fn is_end(file: &[u8], at: usize) -> bool
+pub fn is_end(file: &[u8], at: usize) -> bool
     ensures { λ r. ⌜ r ≡ isEnd (drop at (now (file .entry))) ⌝ }
 {
     if text_at(b"M02*\n", file, at) {
@@ -198,14 +198,14 @@ pub fn step_on(p: Panel, file: &[u8], t: Trace) -> Advance
     turn(p, file, t)
 }
 
-// The cell that the move behind the head goes to.
-pub fn move_at(p: Panel, file: &[u8]) -> Target
+// The line behind the head, with an operation.
+pub fn first_at(p: Panel, operation: &[u8], file: &[u8]) -> Target
     requires { ⌜ GoodPanel p ⌝ }
-    ensures { λ r. ⌜ aimOf (now (file .entry)) r ≡ moveAt p (now (file .entry)) ⌝ }
+    ensures { λ r. ⌜ aimOf (now (file .entry)) r ≡ firstAt p (now (operation .entry)) (now (file .entry)) ⌝ }
 {
     let head = head_of(p);
     if !text_at(&head, file, 0) {
         return Target::Other;
     }
-    line_at(p, b"02*\n", file, HEAD)
+    line_at(p, operation, file, HEAD)
 }

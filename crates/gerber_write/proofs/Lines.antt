@@ -46,6 +46,13 @@ module _ (p : Panel) (operation : List ℕ) (c : Cell) where
         length-append operation [],
       )
 
+-- with as many bytes behind its D a line is as long: where there is room for the one, there is for the other
+pub as-long : (p : Panel) (c : Cell) (k : ℕ) (u v : List ℕ) {n : ℕ} → length u ≡ length v
+    → k + length (lineTo p [] c u) ≤ n → k + length (lineTo p [] c v) ≤ n
+as-long p c k u v e h =
+    let front = lineTo p [] c [] in
+    omega (arith, ap length (line-and p [] c u), length-append front u, ap length (line-and p [] c v), length-append front v)
+
 -- ---- the draws
 
 module _ (p : Panel) (a b c : Cell) where

@@ -18,11 +18,11 @@ module _ {s out : List ℕ} {at : ℕ} where
   none-through e = beside (puts-is e (record { bytes = put-none out at; end = omega arith }))
 
   -- the same text, told otherwise
-  pub through-is : {e t u after : List ℕ} {next : ℕ} → t ≡ u → PutThrough s e out at t after next → PutThrough s e out at u after next
-  through-is q f = record { put = puts-is q (f .put); rest = f .rest }
+  pub through-is : {e t u after : List ℕ} {next : ℕ} → PutThrough s e out at t after next → t ≡ u → PutThrough s e out at u after next
+  through-is f q = record { put = puts-is q (f .put); rest = f .rest }
 
   -- two texts that make a whole
-  through-both : {m e t u whole mid after : List ℕ} {k next : ℕ} → Parts out at t u whole
+  pub through-both : {m e t u whole mid after : List ℕ} {k next : ℕ} → Parts out at t u whole
       → PutThrough s m out at t mid k → PutThrough m e mid k u after next → PutThrough s e out at whole after next
   through-both q f g = record { put = puts-both q (f .put) (g .put); rest = g .rest ∙ f .rest }
 

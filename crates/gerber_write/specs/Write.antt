@@ -1,4 +1,4 @@
--- Document 02, R-2: the writer of a layer: its refusals in order, its answer and the final content of both lent buffers.
+-- Document 02, R-2 and R-6: the writer of a layer: its refusals in order, its answer and the final content of both lent buffers.
 use Prim.Native.Nat.{ℕ, _≤_}
 use mathlib.Core.Path.{_≡_}
 use mathlib.Core.Bool.{true, cond, _&&_}
@@ -61,11 +61,11 @@ layerMade p list scratch out = take ((bytesValues (layerAnswer p list scratch ou
 
 -- ---- for the parts of the writer
 
--- a list that a layer is made of: two cells of the panel or more, and at most 16,384
+-- a list that a layer is made of: one cell of the panel or more, and at most 16,384
 pub record Plottable (p : Panel) (list : List ℕ) : Type 0 where
   pub panel : GoodPanel p
   pub on : allOn p (cellsIn list) ≡ true
-  pub some : 4 ≤ length list
+  pub some : 2 ≤ length list
   pub few : length list ≤ 32768
 
 -- a text was put at a place of a buffer by way of scratch, of which only the bytes for digits may have changed

@@ -24,7 +24,7 @@ ghost use Rattle.grid.specs.Panel.{GoodPanel, OnPanel};
 ghost use Rattle.grid.specs.Bytes.{cellsIn};
 ghost use Rattle.list.specs.List.{cellAt};
 ghost use Rattle.text.specs.Field.{fieldOf};
-ghost use Rattle.gerber.specs.Layer.{draw, lineTo, straight, turnsFrom, drawLines};
+ghost use Rattle.gerber.specs.Layer.{draw, lineTo, endLine, straight, turnsFrom, drawLines, linesOf};
 ghost use Rattle.gerber_write.specs.Write.{digitRoom, layerBytes, Plottable, PutThrough, turnLine, WritesLayer};
 
 // The bytes of scratch that hold a number's digits.
@@ -62,6 +62,25 @@ fn put_line(
     put_bytes(operation, out, d)
 }
 
+// The same with the last line behind it.
+fn put_last(
+    p: Panel,
+    operation: &[u8],
+    c: Cell,
+    scratch: &mut [u8],
+    out: &mut [u8],
+    at: usize,
+) -> usize
+    requires { ⌜ (GoodPanel p) × (OnPanel p c) ⌝ }
+    requires { ⌜ digitRoom ≤ length (now scratch) ⌝ }
+    requires { ⌜ at + length (lineTo p (now operation) c endLine) ≤ length (now out) ⌝ }
+    ensures { λ r. ⌜ PutThrough (now (scratch .entry)) (now (scratch .exit)) (now (out .entry)) at
+        (lineTo p (now (operation .entry)) c endLine) (now (out .exit)) r ⌝ }
+{
+    let end = put_line(p, operation, c, scratch, out, at);
+    put_bytes(b"M02*\n", out, end)
+}
+
 // Whether the direction stays at the second of the three cells from i on.
 fn straight_at(list: &[u8], i: usize) -> bool
     requires { ⌜ i + 5 < length (now list) ⌝ }
@@ -85,9 +104,9 @@ fn put_turn(p: Panel, list: &[u8], i: usize, scratch: &mut [u8], out: &mut [u8],
     put_line(p, b"01*\n", cell_at(list, i + 2), scratch, out, at)
 }
 
-// The draws behind the first cell and the last line.
+// The draws behind the first cell of two or more, and the last line.
 fn put_draws(p: Panel, list: &[u8], scratch: &mut [u8], out: &mut [u8], at: usize) -> usize
-    requires { ⌜ Plottable p (now list) ⌝ }
+    requires { ⌜ (Plottable p (now list)) × (4 ≤ length (now list)) ⌝ }
     requires { ⌜ digitRoom ≤ length (now scratch) ⌝ }
     requires { ⌜ at + length (drawLines p (turnsFrom (cellAt (now list) 0) (cellAt (now list) 2) (cellsIn (drop 4 (now list)))))
         ≤ length (now out) ⌝ }
@@ -101,8 +120,23 @@ fn put_draws(p: Panel, list: &[u8], scratch: &mut [u8], out: &mut [u8], at: usiz
         next = put_turn(p, list, i, scratch, out, next);
         i += 2;
     }
-    let last = put_line(p, b"01*\n", cell_at(list, i + 2), scratch, out, next);
-    put_bytes(b"M02*\n", out, last)
+    put_last(p, b"01*\n", cell_at(list, i + 2), scratch, out, next)
+}
+
+// The lines behind the head: a flash at the only cell, or a move to the first one and the draws.
+fn put_lines(p: Panel, list: &[u8], scratch: &mut [u8], out: &mut [u8], at: usize) -> usize
+    requires { ⌜ Plottable p (now list) ⌝ }
+    requires { ⌜ digitRoom ≤ length (now scratch) ⌝ }
+    requires { ⌜ at + length (linesOf p (cellsIn (now list))) ≤ length (now out) ⌝ }
+    ensures { λ r. ⌜ PutThrough (now (scratch .entry)) (now (scratch .exit)) (now (out .entry)) at
+        (linesOf p (cellsIn (now (list .entry)))) (now (out .exit)) r ⌝ }
+{
+    let first = cell_at(list, 0);
+    if list.len() < 4 {
+        return put_last(p, b"03*\n", first, scratch, out, at);
+    }
+    let draws = put_line(p, b"02*\n", first, scratch, out, at);
+    put_draws(p, list, scratch, out, draws)
 }
 
 // The layer of a good list, at the front of the buffer.
@@ -114,12 +148,11 @@ pub fn put_layer(p: Panel, list: &[u8], scratch: &mut [u8], out: &mut [u8]) -> u
         (layerBytes p (now (list .entry))) (now (out .exit)) r ⌝ }
 {
     let head = head_of(p);
-    let first = put_bytes(&head, out, 0);
-    let draws = put_line(p, b"02*\n", cell_at(list, 0), scratch, out, first);
-    put_draws(p, list, scratch, out, draws)
+    let lines = put_bytes(&head, out, 0);
+    put_lines(p, list, scratch, out, lines)
 }
 
-// The bytes of a draw: seven, and the digits of its numbers.
+// The bytes of a draw, and of a flash or a move too: seven, and the digits of its numbers.
 fn line_length(p: Panel, c: Cell) -> usize
     requires { ⌜ (GoodPanel p) × (OnPanel p c) ⌝ }
     ensures { λ r. ⌜ r ≡ length (lineTo p draw c []) ⌝ }
@@ -140,13 +173,16 @@ fn turn_length(p: Panel, list: &[u8], i: usize) -> usize
     line_length(p, cell_at(list, i + 2))
 }
 
-// The bytes of the layer of a good list, counted without scratch. The head, the move and the last draw
-// are there for every list, and so is the last line.
+// The bytes of the layer of a good list, counted without scratch. The head, the line to the first cell
+// and the last line are there for every list, and the last draw for two cells or more.
 pub fn layer_length(p: Panel, list: &[u8]) -> usize
     requires { ⌜ Plottable p (now list) ⌝ }
     ensures { λ r. ⌜ (r ≡ length (layerBytes p (now (list .entry)))) × (r ≤ 442422) ⌝ }
 {
     let mut bytes = HEAD + line_length(p, cell_at(list, 0));
+    if list.len() < 4 {
+        return bytes + 5;
+    }
     let mut from = 0;
     while from + 5 < list.len() {
         bytes += turn_length(p, list, from);

@@ -1,18 +1,16 @@
 -- What a check that refuses nothing says of each of its tests, taken apart from the front; and the tests that the calls share, as facts.
-use mathlib.Core.Path.{_≡_, refl, sym, ap, subst}
-use mathlib.Core.Logic.{_≢_}
-use mathlib.Core.Bool.{Bool, true, false, not}
-use borrow.Author.Tests.{not-true}
+use mathlib.Core.Path.{_≡_, refl, sym, subst}
+use mathlib.Core.Bool.{Bool, true, false}
 use Rattle.grid.specs.declared.Panel.{Panel}
 use Rattle.grid.specs.declared.Cell.{Cell}
 use Rattle.grid.specs.declared.Refusal.{Refusal}
-use Rattle.grid.specs.declared.Refusal.the-variants.{Side, Pitch, EntryOff, ExitOff, SameCell}
+use Rattle.grid.specs.declared.Refusal.the-variants.{Side, Pitch, EntryOff, ExitOff}
 use Rattle.grid.specs.declared.Check.{Check}
 use Rattle.grid.specs.declared.Check.the-variants.{Good, Refused}
-use Rattle.grid.specs.Panel.{goodSides, goodPitch, goodPanel, onPanel, OnPanel, sameCell, GoodPanel}
+use Rattle.grid.specs.Panel.{goodSides, goodPitch, goodPanel, onPanel, OnPanel, GoodPanel}
 use Rattle.grid.specs.Check.{expect, after, checkPanel, checkEntry, checkOrder}
 use Rattle.grid.proofs.Tests.{expect-yes, after-good}
-use Rattle.grid.proofs.Facts.{and-parts, and-both, good, is-good, on, is-on, same-ne, ne-same}
+use Rattle.grid.proofs.Facts.{and-parts, and-both, good, is-good, on, is-on}
 
 abbrev IsFine : Check → Type 0
 IsFine Good = Unit {0}
@@ -53,27 +51,20 @@ good-entry p s e =
     let here = expect (onPanel p s) EntryOff Good in
     (good-panel p (after-passed (checkPanel p) here e), on p s (expect-passed (onPanel p s) EntryOff Good (after-rest (checkPanel p) here e)))
 
--- an order whose panel is good and whose terminals are two different cells of it: tests 1, 18, 2 to 4
+-- an order whose panel is good and whose terminals are cells of it, equal or not: tests 1, 18, 2, 3
 pub record GoodOrder (p : Panel) (s t : Cell) : Type 0 where
   pub panel : GoodPanel p
   pub entry : OnPanel p s
   pub exit : OnPanel p t
-  pub differ : s ≢ t
 
 pub good-order : (p : Panel) (s t : Cell) → checkOrder p s t ≡ Good → GoodOrder p s t
 good-order p s t e =
-    let last = expect (not (sameCell s t)) SameCell Good in
-    let here = expect (onPanel p t) ExitOff last in
+    let here = expect (onPanel p t) ExitOff Good in
     let front = good-entry p s (after-passed (checkEntry p s) here e) in
     let back = after-rest (checkEntry p s) here e in
-    record {
-      panel = front .0;
-      entry = front .1;
-      exit = on p t (expect-passed (onPanel p t) ExitOff last back);
-      differ = same-ne s t (not-true (sameCell s t) (expect-passed (not (sameCell s t)) SameCell Good (expect-rest (onPanel p t) ExitOff last back)));
-    }
+    record { panel = front .0; entry = front .1; exit = on p t (expect-passed (onPanel p t) ExitOff Good back) }
 
 pub is-order : {p : Panel} {s t : Cell} → GoodOrder p s t → Good ≡ checkOrder p s t
 is-order {p} {s} {t} o =
     after-good _ (sym (after-good _ (panel-passes p (is-good (o .panel))) (expect-yes _ _ (is-on (o .entry)) refl)))
-    (expect-yes _ _ (is-on (o .exit)) (expect-yes _ _ (ap not (ne-same s t (o .differ))) refl))
+    (expect-yes _ _ (is-on (o .exit)) refl)

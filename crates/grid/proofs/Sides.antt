@@ -2,13 +2,13 @@
 -- of an order say the same. (`Neighbours` and the colour of a cell are given no panel at all.)
 use Prim.Native.Nat.{ℕ}
 use mathlib.Core.Path.{_≡_, sym, ap, _∙_}
-use mathlib.Core.Bool.{Bool, true, not}
+use mathlib.Core.Bool.{Bool, true}
 use mathlib.Core.List.{List}
 use Rattle.grid.specs.declared.Cell.{Cell}
 use Rattle.grid.specs.declared.Check.{Check}
 use Rattle.grid.specs.declared.Check.the-variants.{Good}
-use Rattle.grid.specs.declared.Refusal.the-variants.{Side, Pitch, EntryOff, ExitOff, SameCell}
-use Rattle.grid.specs.Panel.{panel, goodSides, GoodSides, goodPitch, onPanel, OnPanel, sameCell, Neighbours}
+use Rattle.grid.specs.declared.Refusal.the-variants.{Side, Pitch, EntryOff, ExitOff}
+use Rattle.grid.specs.Panel.{panel, goodSides, GoodSides, goodPitch, onPanel, OnPanel, Neighbours}
 use Rattle.grid.specs.Track.{Track}
 use Rattle.grid.specs.Check.{expect, checkPanel, checkOrder, after}
 use Rattle.grid.proofs.Track.{widen}
@@ -34,5 +34,5 @@ module _ (m n a b : ℕ) (u : goodPitch (panel m n a) ≡ true) (v : goodPitch (
   pub order-same : (s t : Cell) → checkOrder (panel m n a) s t ≡ checkOrder (panel m n b) s t
   order-same s t =
       let p = panel m n a in
-      let rest = expect (onPanel p t) ExitOff (expect (not (sameCell s t)) SameCell Good) in
+      let rest = expect (onPanel p t) ExitOff Good in
       ap (λ (k : Check). after (after k (expect (onPanel p s) EntryOff Good)) rest) panel-same

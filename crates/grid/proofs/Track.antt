@@ -1,6 +1,6 @@
 -- Walks, lists without repeats and tracks: what holds of a part and of a whole, of two lists joined, of a list reversed.
 use Prim.Native.Nat.{_≤_}
-use mathlib.Core.Path.{sym, subst}
+use mathlib.Core.Path.{_≡_, refl, sym, subst}
 use mathlib.Core.Logic.{_≢_}
 use mathlib.Core.List.{List, [], _∷_, _++_, reverse, reverse-cons}
 use native.Mathlib.Omega.{arith}
@@ -79,6 +79,15 @@ first-in (Walk.step n w) (All.more r a) = r
 pub last-in : {R : Cell → Type 0} {s t : Cell} {l : List Cell} → Walk s t l → All R l → R t
 last-in Walk.end (All.more r a) = r
 last-in (Walk.step n w) (All.more r a) = last-in w a
+
+-- a walk that comes back to its first cell without a cell twice is that one cell: no list goes on and ends there
+alone : {s t : Cell} {l : List Cell} → Walk s t l → Once l → s ≡ t → l ≡ s ∷ []
+alone Walk.end o e = refl
+alone (Walk.step n w) (Once.more h o) e = absurd (last-in w h e)
+
+-- a track from a cell to itself is that one cell
+pub one-cell : {R : Cell → Type 0} {s : Cell} {l : List Cell} → TrackIn R s s l → l ≡ s ∷ []
+one-cell r = alone (r .walk) (r .once) refl
 
 pub some-cell : {s t : Cell} {l : List Cell} → Walk s t l → 1 ≤ length l
 some-cell Walk.end = omega arith

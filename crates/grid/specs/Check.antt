@@ -1,12 +1,12 @@
 -- The tests that the calls share, in the documents' order: the first that fails gives the refusal.
-use mathlib.Core.Bool.{Bool, true, false, not}
+use mathlib.Core.Bool.{Bool, true, false}
 use Rattle.grid.specs.declared.Panel.{Panel}
 use Rattle.grid.specs.declared.Cell.{Cell}
 use Rattle.grid.specs.declared.Refusal.{Refusal}
-use Rattle.grid.specs.declared.Refusal.the-variants.{Side, Pitch, EntryOff, ExitOff, SameCell}
+use Rattle.grid.specs.declared.Refusal.the-variants.{Side, Pitch, EntryOff, ExitOff}
 use Rattle.grid.specs.declared.Check.{Check}
 use Rattle.grid.specs.declared.Check.the-variants.{Good, Refused}
-use Rattle.grid.specs.Panel.{goodSides, goodPitch, onPanel, sameCell}
+use Rattle.grid.specs.Panel.{goodSides, goodPitch, onPanel}
 
 -- a test that passes goes on to the tests behind it, a test that fails refuses
 abbrev pub expect : Bool → Refusal → Check → Check
@@ -26,9 +26,9 @@ checkPanel p = expect (goodSides p) Side (expect (goodPitch p) Pitch Good)
 abbrev pub checkEntry : Panel → Cell → Check
 checkEntry p s = after (checkPanel p) (expect (onPanel p s) EntryOff Good)
 
--- 1; 18; 2; 3, exit off the panel; 4, entry equals exit
+-- 1; 18; 2; 3, exit off the panel
 abbrev pub checkOrder : Panel → Cell → Cell → Check
-checkOrder p s t = after (checkEntry p s) (expect (onPanel p t) ExitOff (expect (not (sameCell s t)) SameCell Good))
+checkOrder p s t = after (checkEntry p s) (expect (onPanel p t) ExitOff Good)
 
 -- an answer: what a check that refuses gives, and what it gives where all is good
 abbrev pub answer {ℓ} : {A : Type ℓ} → Check → (Refusal → A) → A → A

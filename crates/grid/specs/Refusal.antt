@@ -1,4 +1,4 @@
--- The numbers of the refusals: 1 to 17 are document 01's, 18 is R-1's.
+-- The numbers of the refusals: 1 to 17 are document 01's, 18 is R-1's. R-6 withdrew 4.
 use Prim.Native.Nat.{ℕ}
 use Rattle.grid.specs.declared.Refusal.{Refusal}
 use Rattle.grid.specs.declared.Refusal.the-variants as refusal
@@ -8,7 +8,6 @@ abbrev pub number : Refusal → ℕ
 number refusal.Side = 1
 number refusal.EntryOff = 2
 number refusal.ExitOff = 3
-number refusal.SameCell = 4
 number refusal.ShortBuffer = 5
 number refusal.ListLength = 6
 number refusal.CellOff = 7

@@ -40,7 +40,6 @@ pub enum Refusal {
     Side,
     EntryOff,
     ExitOff,
-    SameCell,
     ShortBuffer,
     ListLength,
     CellOff,
@@ -111,7 +110,6 @@ pub fn number_of(r: Refusal) -> u32
         Refusal::Side => 1,
         Refusal::EntryOff => 2,
         Refusal::ExitOff => 3,
-        Refusal::SameCell => 4,
         Refusal::ShortBuffer => 5,
         Refusal::ListLength => 6,
         Refusal::CellOff => 7,
@@ -243,9 +241,8 @@ pub fn check_entry(p: Panel, s: Cell) -> Check
 pub fn check_order(p: Panel, s: Cell, t: Cell) -> Check
     ensures { λ r. ⌜ r ≡ checkOrder p s t ⌝ }
 {
-    let differ = expect(!same_cell(s, t), Refusal::SameCell, Check::Good);
     after(
         check_entry(p, s),
-        expect(on_panel(p, t), Refusal::ExitOff, differ),
+        expect(on_panel(p, t), Refusal::ExitOff, Check::Good),
     )
 }

@@ -1,4 +1,4 @@
--- What the calls answer fits into its place of the packed number: a class is at most 5, and a count at most mn.
+-- What the calls answer fits into its place of the packed number: a class is at most 6, and a count at most mn.
 use Prim.Native.Nat.{ℕ, _*_, _≤_, _<_, _^_}
 use native.Mathlib.Omega.{arith}
 use mathlib.Core.Path.{_≡_, refl, _∙_}
@@ -16,8 +16,8 @@ use Rattle.grid.specs.Check.{checkOrder, expect}
 use Rattle.grid.specs.Answer.{given, cellsValues, GivesCells}
 use Rattle.grid.proofs.Facts.{area-small}
 use Rattle.grid.proofs.Passed.{after-passed, after-rest, good-order}
-use Rattle.count.specs.Count.{class, count}
-use Rattle.count.proofs.Laws.{bounds, class-small}
+use Rattle.count.specs.Order.{orderClass, orderCount}
+use Rattle.count.proofs.Terminals.{order-bounds, order-class-small}
 use Rattle.draw.specs.Draw.{drawCheck}
 use Rattle.judge.specs.Judge.{sizesCheck, cellsCheck, judgeCheck}
 use Rattle.judge.proofs.Checks.{sized, few}
@@ -29,16 +29,16 @@ given-most Good k n h = h refl
 given-most (Refused r) k n h = omega arith
 
 module _ (p : Panel) (s t : Cell) where
-  pub order-small : checkOrder p s t ≡ Good → count p s t ≤ 16384
+  pub order-small : checkOrder p s t ≡ Good → orderCount p s t ≤ 16384
   order-small e =
       let g = good-order p s t e in
-      omega (arith, bounds p s t (g .entry) (g .exit) (g .differ) .1, area-small (g .panel .sides))
+      omega (arith, order-bounds p s t (g .entry) (g .exit) .1, area-small (g .panel .sides))
 
-  pub class-fits : given (checkOrder p s t) (class p s t) < 2 ^ 8
-  class-fits = omega (arith, given-most (checkOrder p s t) (class p s t) 5 (λ e. class-small p s t))
+  pub class-fits : given (checkOrder p s t) (orderClass p s t) < 2 ^ 8
+  class-fits = omega (arith, given-most (checkOrder p s t) (orderClass p s t) 6 (λ e. order-class-small p s t))
 
-  pub draw-small : (size : ℕ) → drawCheck p s t size ≡ Good → count p s t ≤ 16384
-  draw-small size e = order-small (after-passed (checkOrder p s t) (expect (leb (2 * count p s t) size) ShortBuffer Good) e)
+  pub draw-small : (size : ℕ) → drawCheck p s t size ≡ Good → orderCount p s t ≤ 16384
+  draw-small size e = order-small (after-passed (checkOrder p s t) (expect (leb (2 * orderCount p s t) size) ShortBuffer Good) e)
 
   pub judge-small : (list : List ℕ) (room : ℕ) → judgeCheck p s t list room ≡ Good → length (cellsIn list) ≤ 16384
   judge-small list room e =

@@ -9,7 +9,7 @@ use Rattle.grid.specs.declared.Check.{Check}
 use Rattle.grid.specs.Check.{checkOrder}
 use Rattle.grid.specs.Bytes.{cellsIn}
 use Rattle.grid.specs.Answer.{refusalNumber, given, cellsAnswer}
-use Rattle.count.specs.Count.{class, count}
+use Rattle.count.specs.Order.{orderClass, orderCount}
 use Rattle.draw.specs.Draw.{drawCheck, Leaves}
 use Rattle.judge.specs.Judge.{judgeCheck, scratchAfter}
 
@@ -33,12 +33,12 @@ packedBehind c class count = packed (refusalNumber c) (given c class) (given c c
 
 -- Bound's answer, packed
 pub record PacksBound (p : Panel) (s t : Cell) (r : ℕ) : Type 0 where
-  pub packs : r ≡ packedBehind (checkOrder p s t) (class p s t) (count p s t)
+  pub packs : r ≡ packedBehind (checkOrder p s t) (orderClass p s t) (orderCount p s t)
 
 -- Draw's answer, packed, and the buffer as Draw leaves it; there is no class
 pub record PacksDraw (p : Panel) (s t : Cell) (old new : List ℕ) (r : ℕ) : Type 0 where
-  pub packs : r ≡ packedBehind (drawCheck p s t (length old)) 0 (count p s t)
-  pub leaves : Leaves p s t old new (cellsAnswer (drawCheck p s t (length old)) (count p s t))
+  pub packs : r ≡ packedBehind (drawCheck p s t (length old)) 0 (orderCount p s t)
+  pub leaves : Leaves p s t old new (cellsAnswer (drawCheck p s t (length old)) (orderCount p s t))
 
 -- Judge's answer, packed, and scratch as Judge leaves it; there is no class
 pub record PacksJudge (p : Panel) (s t : Cell) (list old new : List ℕ) (r : ℕ) : Type 0 where

@@ -18,7 +18,7 @@ use Rattle.list.specs.List.{wholeCells, noneTwice, runs}
 use Rattle.list.specs.Check.{checkWalk}
 use Rattle.scratch.specs.Scratch.{cleared}
 
--- the refusals tested before 7: 1; 18; 2 to 4; 6, the list is empty or has an odd number of bytes; 5, scratch is shorter than mn
+-- the refusals tested before 7: 1; 18; 2; 3; 6, the list is empty or has an odd number of bytes; 5, scratch is shorter than mn
 abbrev pub sizesCheck : Panel → Cell → Cell → ℕ → ℕ → Check
 sizesCheck p s t bytes room =
     after (checkOrder p s t)

@@ -82,9 +82,10 @@ fn try_ends(ex: u32, ey: u32, tx: u32, ty: u32) {
     try_ends_at(ex, ey, tx, ty, PITCH);
 }
 
-// 1 to 5, where the list is good but for what is named.
+// 1, 5, 2 and 3, where the list is good but for what is named; at last equal terminals, which the list does not
+// end at.
 fn orders() {
-    text(b"1 to 5:\n");
+    text(b"1, 5, 2, 3:\n");
     let mut enough = [0u8; 8];
     try_sides(3, 2, &mut enough);
     try_sides(0, 2, &mut enough);
@@ -114,7 +115,7 @@ fn pitches() {
     try_panel(panel_of(3, 129, MAX), &mut scratch);
 }
 
-// 18 with each fault that is tested after it: 2, 3, 4, 6, 5, 7, 8, 9 and 11.
+// 18 with each fault that is tested after it: 2, 3, 6, 5, 7, 8, 9 and 11, one of them with equal terminals.
 fn pitch_and_more() {
     try_ends_at(4, 1, 1, 2, 999);
     try_ends_at(1, 1, 1, 3, 10001);
@@ -218,6 +219,43 @@ fn one_cell() {
     try_list(b"\x03\x02");
 }
 
+// A list on the panel of 3 by 2, both leads on (2,1).
+fn try_spot(list: &[u8]) {
+    let mut scratch = [0u8; 8];
+    let c = Cell { x: 2, y: 1 };
+    try_order(panel_of(3, 2, PITCH), c, c, list, &mut scratch);
+}
+
+// Equal terminals: the cell itself; another; a cell off the panel; two cells from it, to it and off the panel;
+// the cell twice on end; there and back; around a square; around it to another cell, and with a jump.
+fn equal_terminals() {
+    text(b"equal terminals:\n");
+    try_spot(b"\x02\x01");
+    try_spot(b"\x01\x01");
+    try_spot(b"\x02\x03");
+    try_spot(b"\x02\x01\x01\x01");
+    try_spot(b"\x01\x01\x02\x01");
+    try_spot(b"\x02\x01\x02\x00");
+    try_spot(b"\x02\x01\x02\x01");
+    try_spot(b"\x02\x01\x01\x01\x02\x01");
+    try_spot(b"\x02\x01\x03\x01\x03\x02\x02\x02\x02\x01");
+    try_spot(b"\x02\x01\x03\x01\x03\x02\x02\x02\x01\x02");
+    try_spot(b"\x02\x01\x03\x02\x02\x02\x02\x01");
+    try_spot(b"");
+}
+
+// The smallest panel, with scratch for its cell, with more and with none.
+fn smallest() {
+    let p = panel_of(1, 1, PITCH);
+    let c = Cell { x: 1, y: 1 };
+    let mut exact = [0u8; 1];
+    try_order(p, c, c, b"\x01\x01", &mut exact);
+    let mut more = [0u8; 3];
+    try_order(p, c, c, b"\x01\x01", &mut more);
+    let mut none = [0u8; 0];
+    try_order(p, c, c, b"\x01\x01", &mut none);
+}
+
 // The first bytes of the snake, its last cell changed to (x, y), on the panel of 128 by 128 from
 // (1,1) to the exit, with the first bytes of scratch.
 fn try_snake(
@@ -277,5 +315,7 @@ fn main() {
     three_faults();
     faults_and_ends();
     one_cell();
+    equal_terminals();
+    smallest();
     large();
 }

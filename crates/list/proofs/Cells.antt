@@ -5,11 +5,11 @@ use native.Mathlib.Numerals.{add-one, add-two}
 use native.Mathlib.Omega.{arith}
 use mathlib.Core.Path.{_≡_, refl, sym, ap, _∙_}
 use mathlib.Core.List.{List, [], _∷_}
-use lib.ListN.{length, drop, getD, length-drop}
+use lib.ListN.{length, drop, getD, set, length-drop}
 use lib.Seq.{drop-cons}
 use Rattle.grid.specs.declared.Cell.{Cell}
 use Rattle.grid.specs.Bytes.{bytes, cellsIn}
-use Rattle.list.specs.List.{cellAt}
+use Rattle.list.specs.List.{cellAt, withCells}
 
 pub cells-next : (b : List ℕ) (i : ℕ) → i + 1 < length b → cellsIn (drop i b) ≡ cellAt b i ∷ cellsIn (drop (i + 2) b)
 cells-next b i h =
@@ -35,6 +35,12 @@ pub bytes-cells : (b : List ℕ) → length b % 2 ≡ 0 → bytes (cellsIn b) �
 bytes-cells [] e = refl
 bytes-cells (x ∷ []) e = absurd (omega arith)
 bytes-cells (x ∷ y ∷ b) e = ap (λ (k : List ℕ). x ∷ y ∷ k) (bytes-cells b (omega arith))
+
+-- a cell put into the first two bytes of a buffer
+pub put-first : (b : List ℕ) (c : Cell) → 2 ≤ length b → set (set b 0 (c .x)) 1 (c .y) ≡ withCells (c ∷ []) b
+put-first [] c h = absurd (omega arith)
+put-first (x ∷ []) c h = absurd (omega arith)
+put-first (x ∷ y ∷ b) c h = refl
 
 -- of what goes by each two successive cells: the first two of the cells from i, and the rest
 pub pairs-more {ℓ} : {X : Type ℓ} (F : List Cell → X) (G : Cell → Cell → X → X)

@@ -15,12 +15,12 @@ use Rattle.grid.specs.Panel.{area, goodPanel}
 use Rattle.grid.specs.Check.{checkPanel}
 use Rattle.grid.specs.Bytes.{bytes, cellsIn}
 use Rattle.grid.proofs.Bytes.{length-bytes, cells-bytes}
-use Rattle.grid.proofs.Facts.{and-parts, and-both}
 use Rattle.grid.proofs.Passed.{expect-passed, expect-rest, after-passed, after-rest, panel-passed, panel-passes}
 use Rattle.grid.proofs.Tests.{expect-yes, after-good}
 use Rattle.list.specs.List.{wholeCells, allOn, allSteps}
-use Rattle.list.specs.Check.{checkWalk, goodCount, checkList}
-use Rattle.list.proofs.Whole.{is-whole}
+use Rattle.list.specs.Check.{checkWalk, checkList}
+use Rattle.list.proofs.Cells.{length-cells}
+use Rattle.list.proofs.Whole.{whole, is-whole}
 
 pub walk-good : (p : Panel) (l : List Cell) → checkWalk p l ≡ Good → (allOn p l ≡ true) × (allSteps l ≡ true)
 walk-good p l e = (expect-passed (allOn p l) _ _ e, expect-passed (allSteps l) _ _ (expect-rest (allOn p l) _ _ e))
@@ -33,7 +33,7 @@ pub record GoodList (p : Panel) (l : List Cell) : Type 0 where
   pub panel : goodPanel p ≡ true
   pub on : allOn p l ≡ true
   pub next : allSteps l ≡ true
-  pub some : 2 ≤ length l
+  pub some : 1 ≤ length l
   pub few : length l ≤ area p
 
 module _ (p : Panel) (list : List ℕ) (e : checkList p list ≡ Good) where
@@ -41,28 +41,24 @@ module _ (p : Panel) (list : List ℕ) (e : checkList p list ≡ Good) where
   list-whole = expect-passed (wholeCells (length list)) _ _ (after-rest (checkPanel p) _ e)
 
   pub list-good : GoodList p (cellsIn list)
-  unfolding goodCount
   list-good =
       let l = cellsIn list in
       let w = expect-rest (wholeCells (length list)) _ _ (after-rest (checkPanel p) _ e) in
       let (o, n) = walk-good p l (after-passed (checkWalk p l) _ w) in
-      let k = and-parts (leb 2 (length l)) (leb (length l) (area p)) (expect-passed (goodCount p (length l)) _ _ (after-rest (checkWalk p l) _ w)) in
       record {
         panel = panel-passed p (after-passed (checkPanel p) _ e);
         on = o;
         next = n;
-        some = leb-true _ _ (k .0);
-        few = leb-true _ _ (k .1);
+        some = omega (arith, whole (length list) list-whole, length-cells list);
+        few = leb-true _ _ (expect-passed (leb (length l) (area p)) _ _ (after-rest (checkWalk p l) _ w));
       }
 
 pub is-list-good : (p : Panel) (l : List Cell) → GoodList p l → checkList p (bytes l) ≡ Good
-unfolding goodCount
 is-list-good p l g =
     let back = cells-bytes l in
     let whole : wholeCells (length (bytes l)) ≡ true = is-whole (length (bytes l)) (omega (arith, g .some, length-bytes l)) (omega (arith, length-bytes l)) in
     let walk = is-walk-good p (cellsIn (bytes l)) (ap (allOn p) back ∙ g .on) (ap allSteps back ∙ g .next) in
-    let count : goodCount p (length l) ≡ true = and-both (le-leb 2 (length l) (g .some)) (le-leb (length l) (area p) (g .few)) in
     sym (after-good _ (panel-passes p (g .panel))
     (expect-yes _ _ whole
     (after-good _ walk
-    (expect-yes StepCount _ (ap (λ (k : List Cell). goodCount p (length k)) back ∙ count) refl))))
+    (expect-yes StepCount _ (le-leb (length (cellsIn (bytes l))) (area p) (omega (arith, ap length back, g .few))) refl))))

@@ -1,6 +1,5 @@
 -- Document 01, "Judge" and "Write": the refusals of a list that both calls test, and those of Write before its buffer, in order.
 use Prim.Native.Nat.{ℕ}
-use mathlib.Core.Bool.{Bool, _&&_}
 use mathlib.Core.List.{List}
 use lib.ListN.{length}
 use lib.Dec.{leb}
@@ -18,14 +17,10 @@ use Rattle.list.specs.List.{wholeCells, allOn, allSteps}
 abbrev pub checkWalk : Panel → List Cell → Check
 checkWalk p l = expect (allOn p l) CellOff (expect (allSteps l) NotNeighbours Good)
 
--- 2 cells or more, and at most mn
-unfoldable pub goodCount : Panel → ℕ → Bool
-goodCount p k = leb 2 k && leb k (area p)
-
--- 1; 18; 6, the list is empty or has an odd number of bytes; 7; 8; 15, one cell only or more than mn
+-- 1; 18; 6, the list is empty or has an odd number of bytes; 7; 8; 15, more than mn − 1 steps, which are more than mn cells
 abbrev pub checkList : Panel → List ℕ → Check
 checkList p list =
     after (checkPanel p)
     (expect (wholeCells (length list)) ListLength
     (after (checkWalk p (cellsIn list))
-    (expect (goodCount p (length (cellsIn list))) StepCount Good)))
+    (expect (leb (length (cellsIn list)) (area p)) StepCount Good)))

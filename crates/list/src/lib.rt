@@ -12,7 +12,7 @@ ghost use lib.ListN.{length, getD, set};
 ghost use Rattle.grid.specs.Panel.{maxSide, dist, neighbours};
 ghost use Rattle.grid.specs.Bytes.{InBytes, cellsIn};
 ghost use Rattle.list.specs.List.{cellAt, squaredDistance, wholeCells, allOn, allSteps};
-ghost use Rattle.list.specs.Check.{checkWalk, goodCount, checkList};
+ghost use Rattle.list.specs.Check.{checkWalk, checkList};
 
 pub fn byte_at(s: &[u8], i: usize) -> u32
     requires { ⌜ i < length (now s) ⌝ }
@@ -122,15 +122,6 @@ fn check_walk(p: Panel, list: &[u8]) -> Check
     Check::Good
 }
 
-fn good_count(p: Panel, k: usize) -> bool
-    ensures { λ r. ⌜ r ≡ goodCount p k ⌝ }
-{
-    if 2 <= k {
-        return k <= area_of(p);
-    }
-    false
-}
-
 // What Write refuses whatever the buffer.
 pub fn check_list(p: Panel, list: &[u8]) -> Check
     ensures { λ r. ⌜ r ≡ checkList p (now (list .entry)) ⌝ }
@@ -146,7 +137,7 @@ pub fn check_list(p: Panel, list: &[u8]) -> Check
     if let Check::Refused(r) = w {
         return Check::Refused(r);
     }
-    if !good_count(p, list.len() / 2) {
+    if area_of(p) < list.len() / 2 {
         return Check::Refused(Refusal::StepCount);
     }
     Check::Good

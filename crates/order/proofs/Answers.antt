@@ -21,8 +21,8 @@ use Rattle.grid.proofs.Facts.{clash, area-small}
 use Rattle.grid.proofs.Passed.{GoodOrder, good-order}
 use Rattle.grid.proofs.Tests.{expect-yes, after-good, answer-good}
 use Rattle.count.specs.declared.ClassCount.{ClassCount}
-use Rattle.count.specs.Count.{classCount, count}
-use Rattle.count.proofs.Laws.{bounds}
+use Rattle.count.specs.Order.{orderClassCount, orderCount}
+use Rattle.count.proofs.Terminals.{order-bounds}
 use Rattle.list.proofs.Cells.{length-cells}
 use Rattle.bound.specs.declared.BoundAnswer.{BoundAnswer}
 use Rattle.bound.specs.declared.BoundAnswer.the-variants as bound
@@ -51,27 +51,27 @@ module _ (p : Panel) (s t : Cell) (f : ClassCount) (e : boundOf p s t ≡ bound.
   n = f .count .0
 
   -- the order is good, and they are its own
-  given-good : (checkOrder p s t ≡ Good) × (classCount p s t ≡ f)
+  given-good : (checkOrder p s t ≡ Good) × (orderClassCount p s t ≡ f)
   given-good =
-      let (g, h) = behind-good (checkOrder p s t) bound.Refused (bound.Given (classCount p s t)) (bound.Given f) (λ r q. clash (cc)) e in
+      let (g, h) = behind-good (checkOrder p s t) bound.Refused (bound.Given (orderClassCount p s t)) (bound.Given f) (λ r q. clash (cc)) e in
       (g, (cc))
 
   ready : GoodOrder p s t
   ready = good-order p s t (given-good .0)
 
-  counted : count p s t ≡ n
+  counted : orderCount p s t ≡ n
   counted = ap (λ (f : ClassCount). f .count .0) (given-good .1)
 
-  count-bounds : (2 ≤ n) × (n ≤ 16384)
+  count-bounds : (1 ≤ n) × (n ≤ 16384)
   count-bounds =
-      let (some, few) = bounds p s t (ready .entry) (ready .exit) (ready .differ) in
+      let (some, few) = order-bounds p s t (ready .entry) (ready .exit) in
       (omega (arith, counted), omega (arith, counted, area-small (ready .panel .sides)))
 
   -- Draw leaves a longest track in a buffer for the cells of any track
   module _ {old new : List ℕ} {r : CellsAnswer} (size : length old ≡ 32768) (d : Draws p s t old new r) where
     answered : r ≡ cells.Given (record { 0 = n })
     answered =
-        let room = le-leb (2 * count p s t) (length old) (omega (arith, counted, count-bounds)) in
+        let room = le-leb (2 * orderCount p s t) (length old) (omega (arith, counted, count-bounds)) in
         let passed : drawCheck p s t (length old) ≡ Good = sym (after-good _ (given-good .0) (expect-yes _ _ room refl)) in
         d .gives .answers ∙ sym (answer-good _ _ passed refl) ∙ ap (λ (k : ℕ). cells.Given (record { 0 = k })) counted
 
@@ -87,7 +87,7 @@ pub record Drawn (p : Panel) (n : ℕ) (buffer : List ℕ) : Type 0 where
   pub panel : GoodPanel p
   pub on : All (OnPanel p) (front n buffer)
   pub size : length (front n buffer) ≡ n
-  pub some : 2 ≤ n
+  pub some : 1 ≤ n
   pub few : n ≤ 16384
   pub fits : 2 * n ≤ length buffer
   pub lent : length (take (2 * n) buffer) ≡ 2 * n

@@ -18,3 +18,4 @@ pub mod FourRows
 pub mod Wide
 pub mod Exists
 pub mod Theorem
+pub mod Whole

@@ -11,7 +11,7 @@ use mathlib.Core.List.{List, [], _∷_, _++_}
 use native.Mathlib.Omega.{arith}
 use lib.ListN.{length, take, drop, getD, length-append, length-drop}
 use lib.Seq.{take-at, take-add, length-take-le}
-use lib.Dec.{leb}
+use lib.Dec.{leb, ltb}
 use borrow.Author.Tests.{le-leb, lt-leb}
 use Rattle.grid.specs.declared.Cell.{Cell}
 use Rattle.grid.specs.declared.Panel.{Panel}
@@ -37,7 +37,7 @@ use Rattle.list.proofs.Checks.{GoodList, list-whole, list-good, is-list-good}
 use Rattle.step_letters.specs.Letters.{lettersFrom, lettersOf, allKnown, walkOn, walkFrom}
 use Rattle.step_letters.proofs.Lists.{length-letters-from}
 use Rattle.step_letters.proofs.Directions.{known-letters, walk-letters, letters-walk}
-use Rattle.record_head.specs.Head.{headLength, headOf, hasMark, panelIn, entryIn, stepsIn, lettersIn, goodSteps, checkHead}
+use Rattle.record_head.specs.Head.{headLength, headOf, hasMark, panelIn, entryIn, stepsIn, lettersIn, checkHead}
 use Rattle.record_head.proofs.Heads.{panel-back, entry-back, steps-back, letters-back, head-back, head-is}
 use Rattle.record.specs.declared.ReadAnswer.{ReadAnswer}
 use Rattle.record.specs.Write.{recordOf, recordLength, checkWrite, writeAnswer, writeBuffer, recordMade}
@@ -64,11 +64,10 @@ module _ (p : Panel) (s : Cell) (l : List Cell) (rest : List ℕ) where
 
     accepted : checkRecord file ≡ Good
     accepted =
-        let some : 2 ≤ suc (length l) = g .some in
         let few : suc (length l) ≤ area p = g .few in
         let fits : length l ≤ length behind = omega (arith, length-append (lettersFrom s l) rest, length-letters-from s l) in
         let on = and-parts (onPanel p s) (allOn p l) (g .on) .0 in
-        let head = head-back p s (length l) behind (g .panel) on (omega arith) (omega arith) fits in
+        let head = head-back p s (length l) behind (g .panel) on (omega arith) fits in
         let letters = ap allKnown letters-written ∙ known-letters s l in
         let cells = ap₂ allOn (panel-back p s (length l) behind) cells-written ∙ g .on in
         sym (after-good _ head (after-good _ (sym (expect-yes _ _ letters refl)) (expect-yes _ _ cells refl)))
@@ -77,7 +76,7 @@ module _ (p : Panel) (s : Cell) (l : List Cell) (rest : List ℕ) where
 read-record : (p : Panel) (l : List Cell) (rest buffer : List ℕ) → GoodList p l → 2 * length l ≤ length buffer
     → (readAnswer (recordOf p l ++ rest) buffer ≡ ReadAnswer.Given p (record { 0 = length l }) (recordLength l))
     × (readBuffer (recordOf p l ++ rest) buffer ≡ withCells l buffer)
-read-record p [] rest buffer g room = let none : 2 ≤ 0 = g .some in absurd (omega arith)
+read-record p [] rest buffer g room = let none : 1 ≤ 0 = g .some in absurd (omega arith)
 read-record p (s ∷ l) rest buffer g room =
     let f = file p s l rest in
     let r = behind p s l rest in
@@ -101,12 +100,11 @@ written : (p : Panel) (list out : List ℕ) → checkWrite p list out ≡ Good
 written p list out e =
     let l = cellsIn list in
     let g = list-good p list (after-passed (checkList p list) _ e) in
-    let some : 1 ≤ length l = omega (arith, g .some) in
     let a : writeAnswer p list out ≡ BytesAnswer.Given (recordLength l) = sym (answer-good _ _ e refl) in
     let b : writeBuffer p list out ≡ recordOf p l ++ drop (recordLength l) out = sym (answer-good _ _ e refl) in (
       a,
       ap₂ (λ (w : BytesAnswer) (o : List ℕ). take ((bytesValues w) .bytes) o) a b
-          ∙ take-at (recordOf p l) _ (recordLength l) (length-record p l some),
+          ∙ take-at (recordOf p l) _ (recordLength l) (length-record p l (g .some)),
     )
 
 pub reads-back : (p : Panel) (list out rest buffer : List ℕ) → checkWrite p list out ≡ Good → length list ≤ length buffer
@@ -142,7 +140,7 @@ module _ (f : List ℕ) (g : GoodRecord f) where
     panel = g .head .panel;
     on = g .cells;
     next = walked .1;
-    some = omega (arith, steps-read, g .head .some);
+    some = omega arith;
     few = omega (arith, steps-read, g .head .few);
   }
 
@@ -203,7 +201,7 @@ never-five f =
     (expect-not (goodSides (panelIn f)) Side _ (omega arith)
     (expect-not (goodPitch (panelIn f)) Pitch Good (omega arith) good-not))
     (expect-not (onPanel (panelIn f) (entryIn f)) EntryOff Good (omega arith) good-not))
-    (expect-not (goodSteps (panelIn f) (stepsIn f)) StepCount _ (omega arith)
+    (expect-not (ltb (stepsIn f) (area (panelIn f))) StepCount _ (omega arith)
     (expect-not (leb (headLength + stepsIn f) (length f)) CutShort Good (omega arith) good-not)))))
     (after-not (checkKnown (lettersIn f)) _
     (expect-not (allKnown (lettersIn f)) UnknownByte Good (omega arith) good-not)
@@ -221,3 +219,11 @@ read-empty f = (
 
 pub letters-read : (f : List ℕ) → checkRecord f ≡ Good → lettersAnswer f ≡ lettersOf (cellsRead f)
 letters-read f e = sym (answer-good _ _ e (walked f (record-good f e) .0))
+
+-- a record of one cell has no letters
+pub no-letters : (f : List ℕ) → stepsIn f ≡ 0 → lettersAnswer f ≡ []
+no-letters f e = go (checkRecord f)
+  where
+    go : (c : Check) → answer c (λ r. []) (lettersIn f) ≡ []
+    go Good = ap (λ (k : ℕ). take k (drop headLength f)) e
+    go (Check.Refused r) = refl

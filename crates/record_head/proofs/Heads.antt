@@ -1,6 +1,6 @@
 -- The head of a record: what is read from a head that was written, that every head which passes the check is the one that is written of
 -- what it says, and what the check says where it refuses nothing. Only these laws know which byte of the head holds what.
-use Prim.Native.Nat.{ℕ, zero, suc, _+_, _-_, _*_, _/_, _%_, _≤_, _<_}
+use Prim.Native.Nat.{ℕ, zero, suc, _+_, _*_, _/_, _%_, _≤_, _<_}
 use mathlib.Core.Path.{_≡_, refl, sym, ap, _∙_}
 use mathlib.Core.Bool.{Bool, true, false, _&&_}
 use mathlib.Core.List.{List, [], _∷_, _++_}
@@ -8,7 +8,7 @@ use native.Mathlib.Omega.{arith}
 use lib.Dec.{leb, ltb, eqb}
 use lib.ListN.{length, take, drop, getD}
 use lib.Seq.{drop-cons}
-use borrow.Author.Tests.{lt-ltb, le-ltb, le-leb, leb-true, leb-false, eqb-true}
+use borrow.Author.Tests.{lt-ltb, ltb-true, le-leb, leb-true, eqb-true}
 use Rattle.grid.specs.declared.Cell.{Cell}
 use Rattle.grid.specs.declared.Panel.{Panel}
 use Rattle.grid.specs.declared.Refusal.the-variants.{Mark}
@@ -19,17 +19,9 @@ use Rattle.grid.proofs.Facts.{good, is-good, is-on, area-small, and-parts, and-
 use Rattle.grid.proofs.Passed.{expect-passed, expect-rest, after-passed, after-rest, good-entry, panel-passes}
 use Rattle.grid.proofs.Tests.{expect-yes, expect-no, after-good}
 use Rattle.record_head.specs.Head.{markHigh, markLow, headOf, headLength, pitchAt, stepsAt, hasMark, hasHead}
-use Rattle.record_head.specs.Head.{panelIn, entryIn, stepsIn, lettersIn, goodSteps, checkHead}
+use Rattle.record_head.specs.Head.{panelIn, entryIn, stepsIn, lettersIn, checkHead}
 
 -- ---- numbers
-
--- below n is at most n − 1, for numbers from 1
-pub below-last : (k n : ℕ) → 1 ≤ k → ltb k n ≡ leb k (n - 1)
-below-last k n h = by-case (leb k (n - 1)) refl
-  where
-    by-case : (t : Bool) → leb k (n - 1) ≡ t → ltb k n ≡ leb k (n - 1)
-    by-case true e = lt-ltb k n (omega (arith, leb-true k (n - 1) e)) ∙ sym e
-    by-case false e = le-ltb k n (omega (arith, leb-false k (n - 1) e)) ∙ sym e
 
 high-and-low : (k : ℕ) → 256 * (k / 256) + k % 256 ≡ k
 high-and-low k = omega arith
@@ -45,42 +37,32 @@ pub record GoodHead (f : List ℕ) : Type 0 where
   pub long : headLength ≤ length f
   pub panel : goodPanel (panelIn f) ≡ true
   pub entry : onPanel (panelIn f) (entryIn f) ≡ true
-  pub some : 1 ≤ stepsIn f
   pub few : stepsIn f < area (panelIn f)
   pub whole : headLength + stepsIn f ≤ length f
 
 pub head-good : (f : List ℕ) → checkHead f ≡ Good → GoodHead f
-unfolding goodSteps
 head-good f e =
     let e₁ = expect-rest (hasMark f) _ _ e in
     let e₂ = expect-rest (hasHead f) _ _ e₁ in
     let e₃ = after-rest (checkEntry (panelIn f) (entryIn f)) _ e₂ in
-    let e₄ = expect-rest (goodSteps (panelIn f) (stepsIn f)) _ _ e₃ in
+    let e₄ = expect-rest (ltb (stepsIn f) (area (panelIn f))) _ _ e₃ in
     let front = good-entry (panelIn f) (entryIn f) (after-passed _ _ e₂) in
-    let k = and-parts (leb 1 (stepsIn f)) (leb (stepsIn f) (area (panelIn f) - 1)) (expect-passed _ _ _ e₃) in
-    let low = leb-true 1 (stepsIn f) (k .0) in
     record {
       mark = expect-passed (hasMark f) _ _ e;
       long = leb-true _ _ (expect-passed (hasHead f) _ _ e₁);
       panel = is-good (front .0);
       entry = is-on (front .1);
-      some = low;
-      few = below (stepsIn f) (area (panelIn f)) low (leb-true _ _ (k .1));
+      few = ltb-true _ _ (expect-passed (ltb (stepsIn f) (area (panelIn f))) _ _ e₃);
       whole = leb-true _ _ (expect-passed (leb (headLength + stepsIn f) (length f)) _ _ e₄);
     }
-  where
-    below : (k n : ℕ) → 1 ≤ k → k ≤ n - 1 → k < n
-    below k n a b = omega arith
 
 pub is-head-good : (f : List ℕ) → GoodHead f → checkHead f ≡ Good
-unfolding goodSteps
 is-head-good f g =
     let entry = sym (after-good _ (panel-passes (panelIn f) (g .panel)) (expect-yes _ _ (g .entry) refl)) in
-    let steps = and-both (le-leb 1 (stepsIn f) (g .some)) (le-leb (stepsIn f) (area (panelIn f) - 1) (omega (arith, g .few))) in
     sym (expect-yes _ _ (g .mark)
     (expect-yes _ _ (le-leb _ _ (g .long))
     (after-good _ entry
-    (expect-yes _ _ steps
+    (expect-yes _ _ (lt-ltb _ _ (g .few))
     (expect-yes _ _ (le-leb _ _ (g .whole)) refl)))))
 
 -- the step count of a good head has two bytes to spare
@@ -113,15 +95,14 @@ module _ (p : Panel) (s : Cell) (k : ℕ) (rest : List ℕ) where
   pub letters-back : lettersIn file ≡ take k rest
   letters-back = ap (λ (n : ℕ). take n rest) steps-back
 
-  pub head-back : goodPanel p ≡ true → onPanel p s ≡ true → 1 ≤ k → k < area p → k ≤ length rest → checkHead file ≡ Good
+  pub head-back : goodPanel p ≡ true → onPanel p s ≡ true → k < area p → k ≤ length rest → checkHead file ≡ Good
   unfolding hasMark
-  head-back g o some few fits =
+  head-back g o few fits =
       is-head-good file record {
         mark = and-both (le-leb 2 (length file) (omega arith)) refl;
         long = omega arith;
         panel = ap goodPanel panel-back ∙ g;
         entry = o;
-        some = omega (arith, steps-back);
         few = omega (arith, steps-back);
         whole = omega (arith, steps-back);
       }

@@ -1,15 +1,15 @@
 -- Document 01, "Record", with R-1's pitch: the head of a record, byte by byte, and "Read": what is refused of it, in order.
-use Prim.Native.Nat.{ℕ, _+_, _-_, _*_, _/_, _%_}
+use Prim.Native.Nat.{ℕ, _+_, _*_, _/_, _%_}
 use mathlib.Core.Bool.{Bool, _&&_}
 use mathlib.Core.List.{List, [], _∷_}
 use lib.ListN.{length, take, drop, getD}
-use lib.Dec.{leb, eqb}
+use lib.Dec.{leb, ltb, eqb}
 use Rattle.grid.specs.declared.Panel.{Panel}
 use Rattle.grid.specs.declared.Cell.{Cell}
 use Rattle.grid.specs.declared.Check.{Check}
 use Rattle.grid.specs.declared.Check.the-variants.{Good}
 use Rattle.grid.specs.declared.Refusal.the-variants.{Mark, CutShort, StepCount}
-use Rattle.grid.specs.Panel.{panel, upTo, area}
+use Rattle.grid.specs.Panel.{panel, area}
 use Rattle.grid.specs.Check.{checkEntry, expect, after}
 use Rattle.list.specs.List.{cellAt}
 use Rattle.record_head.specs.declared.Head.{Head}
@@ -83,15 +83,11 @@ headIn f = record { panel = panelIn f; entry = entryIn f; steps = record { 0 = s
 abbrev pub lettersIn : List ℕ → List ℕ
 lettersIn f = take (stepsIn f) (drop headLength f)
 
--- a step count of 1 to mn − 1
-unfoldable pub goodSteps : Panel → ℕ → Bool
-goodSteps p k = upTo (area p - 1) k
-
--- 14, the mark is missing or other; 17, fewer than 10 bytes; 1; 18; 2; 15, step count 0 or above mn − 1; 17, letters cut short
+-- 14, the mark is missing or other; 17, fewer than 10 bytes; 1; 18; 2; 15, the step count is above mn − 1; 17, letters cut short
 abbrev pub checkHead : List ℕ → Check
 checkHead f =
     expect (hasMark f) Mark
     (expect (hasHead f) CutShort
     (after (checkEntry (panelIn f) (entryIn f))
-    (expect (goodSteps (panelIn f) (stepsIn f)) StepCount
+    (expect (ltb (stepsIn f) (area (panelIn f))) StepCount
     (expect (leb (headLength + stepsIn f) (length f)) CutShort Good))))

@@ -16,7 +16,7 @@ ghost use Prim.Native.Nat.{_≤_, _<_, _+_, _/_, _%_};
 ghost use lib.ListN.{length, drop, set};
 ghost use Rattle.grid.specs.Panel.{onPanel, goodPanel};
 ghost use Rattle.grid.specs.Bytes.{PartOf};
-ghost use Rattle.record_head.specs.Head.{headOf, headLength, hasMark, pairAt, hasHead, headIn, stepsIn, lettersIn, goodSteps, checkHead};
+ghost use Rattle.record_head.specs.Head.{headOf, headLength, hasMark, pairAt, hasHead, headIn, stepsIn, lettersIn, checkHead};
 
 // The mark (a magic number).
 pub const MARK_HIGH: u8 = 0x46;
@@ -122,15 +122,6 @@ pub fn letters_in<'a>(file: &'a [u8]) -> &'a [u8]
     &file[HEAD..end]
 }
 
-fn good_steps(p: Panel, steps: Steps) -> bool
-    ensures { λ r. ⌜ r ≡ goodSteps p (steps .0) ⌝ }
-{
-    if 1 <= steps.0 {
-        return (steps.0 as usize) < area_of(p);
-    }
-    false
-}
-
 // What Read refuses before it looks at a letter.
 pub fn check_head(file: &[u8]) -> Check
     ensures { λ r. ⌜ r ≡ checkHead (now (file .entry)) ⌝ }
@@ -149,7 +140,7 @@ pub fn check_head(file: &[u8]) -> Check
     if let Check::Refused(r) = c {
         return Check::Refused(r);
     }
-    if !good_steps(p, k) {
+    if area_of(p) <= k.0 as usize {
         return Check::Refused(Refusal::StepCount);
     }
     if file.len() < HEAD + k.0 as usize {

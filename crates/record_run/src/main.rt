@@ -82,6 +82,10 @@ fn round_trips() {
     // The smallest pitch, 3 and 232, and the largest, 39 and 16.
     there_and_back(panel_of(1, 2, 0x03E8), &[1, 2, 1, 1]);
     there_and_back(panel_of(2, 1, 0x2710), &[2, 1, 1, 1]);
+    // One cell: no step, and no letter.
+    there_and_back(panel_of(1, 1, PITCH), &[1, 1]);
+    there_and_back(panel_of(2, 2, PITCH), &[2, 1]);
+    there_and_back(panel_of(128, 128, 0x2710), &[128, 127]);
 }
 
 // A list into a filled buffer of 12 bytes: one that is not written leaves it as it was.
@@ -119,8 +123,22 @@ fn bad_steps() {
 }
 
 fn bad_counts() {
-    not_written(2, 2, &[1, 1]);
     not_written(2, 1, &[1, 1, 2, 1, 1, 1]);
+    not_written(1, 2, &[1, 2, 1, 1, 1, 2, 1, 1]);
+}
+
+// One cell: off the panel, and in a buffer of 10 bytes, a byte too short, and empty.
+fn one_cell() {
+    not_written(2, 2, &[3, 1]);
+    let p = panel_of(2, 2, PITCH);
+    let mut exact = [170u8; 10];
+    show_write(p, &[1, 2], &mut exact);
+    show_bytes(&exact);
+    let mut short = [170u8; 9];
+    show_write(p, &[1, 2], &mut short);
+    show_bytes(&short);
+    let mut none = [170u8; 0];
+    show_write(p, &[1, 2], &mut none);
 }
 
 fn write_refusals() {
@@ -130,6 +148,7 @@ fn write_refusals() {
     bad_cells();
     bad_steps();
     bad_counts();
+    one_cell();
     // A buffer a byte too short.
     not_written(4, 1, &[1, 1, 2, 1, 3, 1, 4, 1]);
     // Two faults: the one tested first.
@@ -160,7 +179,7 @@ fn write_pitch_and_more() {
     try_write(panel_of(2, 2, 999), &[]);
     try_write(panel_of(2, 2, 10001), &[1, 1, 1, 3]);
     try_write(panel_of(3, 2, 0), &[1, 1, 3, 1]);
-    try_write(panel_of(2, 2, MAX), &[1, 1]);
+    try_write(panel_of(2, 1, MAX), &[1, 1, 2, 1, 1, 1]);
     try_write(panel_of(4, 1, 999), &[1, 1, 2, 1, 3, 1, 4, 1]);
 }
 
@@ -181,7 +200,7 @@ fn bad_marks() {
     try_file(&[0x55, 0x46, 5, 1, 0x0F, 0xA0, 2, 1, 0, 2, 0x45, 0x45]);
 }
 
-// Files of 8, 9 and 10 bytes: the last is a whole head, whose step count is then looked at. A head cut
+// Files of 8, 9 and 10 bytes: the last is a whole head, and with no step the record of one cell. A head cut
 // short before a bad side.
 fn short_heads() {
     try_file(&[0x46, 0x55, 5, 1, 0x0F, 0xA0, 2, 1]);
@@ -197,10 +216,12 @@ fn bad_heads() {
     try_file(&[0x46, 0x55, 5, 1, 0x0F, 0xA0, 2, 0, 0, 2, 0x45, 0x45]);
 }
 
-fn bad_step_counts() {
+// At first no step, with bytes behind the record; then mn steps, more than that, and one on one cell.
+fn step_counts() {
     try_file(&[0x46, 0x55, 5, 1, 0x0F, 0xA0, 2, 1, 0, 0, 0x45, 0x45]);
     try_file(&[0x46, 0x55, 2, 1, 0x0F, 0xA0, 1, 1, 0, 2, 0x45, 0x57]);
     try_file(&[0x46, 0x55, 5, 1, 0x0F, 0xA0, 2, 1, 1, 2, 0x45, 0x45]);
+    try_file(&[0x46, 0x55, 1, 1, 0x0F, 0xA0, 1, 1, 0, 1, 0x45]);
 }
 
 fn bad_letters() {
@@ -216,7 +237,7 @@ fn read_refusals() {
     bad_marks();
     short_heads();
     bad_heads();
-    bad_step_counts();
+    step_counts();
     bad_letters();
 }
 
@@ -244,7 +265,7 @@ fn read_pitch_and_more() {
     try_file(&[0x46, 0x55, 5, 1, 0x03, 0xE7, 2, 1, 0]);
     try_file(&[0x46, 0x55, 0, 1, 0, 0, 2, 1, 0, 2, 0x45, 0x45]);
     try_file(&[0x46, 0x55, 5, 1, 0x03, 0xE7, 6, 1, 0, 2, 0x45, 0x45]);
-    try_file(&[0x46, 0x55, 5, 1, 0x27, 0x11, 2, 1, 0, 0]);
+    try_file(&[0x46, 0x55, 5, 1, 0x27, 0x11, 2, 1, 0, 5]);
     try_file(&[0x46, 0x55, 5, 1, 0, 0, 2, 1, 0, 2, 0x45]);
     try_file(&[0x46, 0x55, 5, 1, 0xFF, 0xFF, 2, 1, 0, 2, 0x45, 0x58]);
     try_file(&[0x46, 0x55, 5, 1, 0x03, 0xE7, 2, 1, 0, 2, 0x57, 0x57]);
@@ -266,7 +287,8 @@ fn read_short(file: &[u8], k: usize)
 }
 
 // A buffer that is empty, one that is a byte too short, and one just long enough; bytes after the record.
-// Then an empty buffer behind a bad pitch.
+// Then an empty buffer behind a bad pitch; and a record of one cell, whose letters are empty as those of a
+// refused file are: an empty buffer tells the two apart.
 fn buffers() {
     text(b"buffers\n");
     let file = [
@@ -291,6 +313,12 @@ fn buffers() {
     show_letters(&file);
     let other = [0x46, 0x55, 5, 1, 0x03, 0xE7, 2, 1, 0, 2, 0x45, 0x45];
     read_short(&other, 0);
+    show_letters(&other);
+    let spot = [0x46, 0x55, 5, 1, 0x0F, 0xA0, 2, 1, 0, 0, 0x4E];
+    read_short(&spot, 0);
+    read_short(&spot, 1);
+    read_short(&spot, 2);
+    show_letters(&spot);
 }
 
 // The number that Read gives for the first n bytes of a file.
@@ -435,6 +463,8 @@ fn main() {
     prefixes(&[0x46, 0x55, 5, 1, 0x0F, 0xA0, 2, 1, 0, 2, 0x45, 0x45]);
     // A bad pitch, which is looked at from 10 bytes on.
     prefixes(&[0x46, 0x55, 5, 1, 0x03, 0xE7, 2, 1, 0, 2, 0x45, 0x45]);
+    // A record of one cell is its head.
+    prefixes(&[0x46, 0x55, 5, 1, 0x0F, 0xA0, 2, 1, 0, 0, 0x45, 0x45]);
     changed_bytes();
     largest();
 }

@@ -77,6 +77,12 @@ fn orders() {
     show(b"a square, to the right", b"2 2 1 1 2 1 4000\n");
     show(b"a square, down", b"2 2 1 1 1 2 4000\n");
     show(b"three by three", b"3 3 1 2 3 2 4000\n");
+    show(b"entry equals exit", b"1 1 1 1 1 1 4000\n");
+    show(b"entry equals exit in one row", b"5 1 2 1 2 1 4000\n");
+    show(
+        b"entry equals exit, 128 by 128",
+        b"128 128 128 128 128 128 10000\n",
+    );
     show_large(
         b"128 by 128, corner to corner",
         b"128 128 1 1 128 128 4000\n",
@@ -109,7 +115,6 @@ fn refusals() {
     show(b"a side of 0", b"5 0 1 1 2 1 4000\n");
     show(b"entry off", b"5 5 6 1 2 1 4000\n");
     show(b"exit off", b"1 1 1 1 2 1 4000\n");
-    show(b"entry equals exit", b"1 1 1 1 1 1 4000\n");
     show(b"all zero", b"0 0 0 0 0 0 0\n");
 }
 

@@ -1,5 +1,5 @@
 // Every panel up to 5 by 5 against a search through all tracks from an entry, which knows nothing of the
-// router: for every ordered pair of different cells Bound's count and Draw's track; for every entry and
+// router: for every ordered pair of cells, equal or not, Bound's count and Draw's track; for every entry and
 // wanted count Exit's cell, against a plain scan of what the search found. Prints, for each class, the
 // number of pairs and the sum of their counts; how many pairs were wrong; how often Exit was to give a
 // cell, how often none, and how often it answered otherwise.
@@ -23,8 +23,8 @@ use trial::print::text;
 
 // Pairs and cells for each class, and the wrong pairs; and how Exit answered.
 struct Totals {
-    pairs: [u32; 6],
-    cells: [u32; 6],
+    pairs: [u32; 7],
+    cells: [u32; 7],
     wrong: u32,
     exits: Tally,
 }
@@ -148,7 +148,7 @@ fn right(o: Order, count: u32, best: &[u32]) -> bool {
 fn add_pair(t: Totals, o: Order, best: &[u32]) -> Totals {
     let b = bound_values(bound::bound(o.panel, o.entry, o.exit));
     let count = b.count.0;
-    let at = (b.class % 6) as usize;
+    let at = (b.class % 7) as usize;
     let mut next = t;
     let pairs = next.pairs[at];
     let cells = next.cells[at];
@@ -235,9 +235,7 @@ fn add_exits(t: Totals, panel: Panel, entry: Cell) -> Totals {
     for code in 0..25 {
         let exit = nth(code);
         if on(panel, exit) {
-            if !same(entry, exit) {
-                next = add_pair(next, Order { panel, entry, exit }, &best);
-            }
+            next = add_pair(next, Order { panel, entry, exit }, &best);
         }
     }
     add_every_wanted(next, panel, entry, &best)
@@ -257,8 +255,8 @@ fn add_entries(t: Totals, panel: Panel) -> Totals {
 
 fn all_panels() -> Totals {
     let mut t = Totals {
-        pairs: [0; 6],
-        cells: [0; 6],
+        pairs: [0; 7],
+        cells: [0; 7],
         wrong: 0,
         exits: Tally {
             given: 0,
@@ -274,10 +272,10 @@ fn all_panels() -> Totals {
 }
 
 fn print_class(t: Totals, class: usize) {
-    if 6 <= class {
+    if 7 <= class {
         return;
     }
-    named(b"class ", (class % 6) as u32);
+    named(b"class ", (class % 7) as u32);
     named(b": pairs ", t.pairs[class]);
     named(b", cells ", t.cells[class]);
     text(b"\n");
@@ -290,6 +288,7 @@ fn main() {
     print_class(t, 3);
     print_class(t, 4);
     print_class(t, 5);
+    print_class(t, 6);
     named(b"wrong ", t.wrong);
     text(b"\n");
     text(b"exits: ");

@@ -25,13 +25,13 @@ enum-told c = search needs
 passed : (c : tie.After-enum-told) → let a = c .before .before .before .args in checkOrder (a .p) (a .entry) (a .exit) ≡ Good
 passed c = sym (c .before .before .check-order .ensures) ∙ c .enum-told .given .1
 
-class-count-requires : tie.Need-class-count-requires
-class-count-requires c κs = let g = good-order _ _ _ (passed c) in (g .panel .sides, (g .entry, g .exit))
+order-class-count-requires : tie.Need-order-class-count-requires
+order-class-count-requires c κs = let g = good-order _ _ _ (passed c) in (g .panel .sides, (g .entry, g .exit))
 
 returns-2 : tie.Need-returns-2
-returns-2 c = bounds-order _ _ _ (answer-good _ _ (passed (c .before)) (ap Given (c .class-count .ensures)))
+returns-2 c = bounds-order _ _ _ (answer-good _ _ (passed (c .before)) (ap Given (c .order-class-count .ensures)))
 
 pub bound-spec : {M : Type 1} → statement M
 bound-spec =
     tie.close
-    (tie.spec check-order-requires enum-known-c returns enum-told class-count-requires returns-2)
+    (tie.spec check-order-requires enum-known-c returns enum-told order-class-count-requires returns-2)

@@ -23,7 +23,7 @@ line-by-line-requires : tie.Need-line-by-line-requires
 line-by-line-requires c κs = search needs
 
 returns-2 : tie.Need-returns-2
-returns-2 c = c .before .line-by-line .ensures
+returns-2 c = c .line-by-line .ensures
 
 pub class-count-spec : {M : Type 1} → statement M
 class-count-spec =

@@ -53,7 +53,7 @@ same-length-2 c = search needs
 returns-2 : tie.Need-returns-2
 returns-2 c =
     let d = c .before .before .before .before in
-    through-is (drawn (d .before .before .before)) (d .put-line .ensures)
+    through-is (d .put-line .ensures) (drawn (d .before .before .before))
 
 pub put-turn-spec : {M : Type 1} → statement M
 put-turn-spec =

@@ -4,7 +4,7 @@ use native.Mathlib.Omega.{arith}
 use mathlib.Core.Path.{ap, subst, _∙_}
 use Rattle.grid.specs.Panel.{panel, cell}
 use Rattle.grid.specs.Check.{checkOrder}
-use Rattle.count.specs.Count.{count}
+use Rattle.count.specs.Order.{orderCount}
 use Rattle.bound.specs.declared.BoundValues.{BoundValues}
 use Rattle.bound.specs.Bound.{Bounds}
 use Rattle.host.specs.declared.Order.{Order}
@@ -36,7 +36,7 @@ pack-requires c κs =
     let b = bounded (c .before) in
     let v = c .bound-values .ensures in (
       omega (arith, ap (λ (w : BoundValues). w .class) v, b .class, class-fits p s t),
-      omega (arith, ap (λ (w : BoundValues). w .count .0) v, b .count, count-fits (checkOrder p s t) (count p s t) (order-small p s t)),
+      omega (arith, ap (λ (w : BoundValues). w .count .0) v, b .count, count-fits (checkOrder p s t) (orderCount p s t) (order-small p s t)),
     )
 
 returns : tie.Need-returns

@@ -1,8 +1,9 @@
 -- Each test that passes leaves the tests behind it: a lemma at each place says so, and each `return` gives the first that fails.
 use borrow.Author.Needs.{needs}
-use borrow.Author.Tests.{not-true, not-false}
-use Prim.Native.Nat.{ℕ}
-use mathlib.Core.Path.{_≡_, refl, sym, ap, _∙_}
+use borrow.Author.Tests.{not-true, not-false, le-leb, lt-leb}
+use Prim.Native.Nat.{ℕ, _≤_, _<_}
+use native.Mathlib.Omega.{arith}
+use mathlib.Core.Path.{_≡_, refl, sym, _∙_}
 use mathlib.Core.List.{List}
 use lib.ListN.{length}
 use denote.Ref.{now}
@@ -10,11 +11,12 @@ use Rattle.grid.specs.declared.Panel.{Panel}
 use Rattle.grid.specs.declared.Check.{Check}
 use Rattle.grid.specs.declared.Check.the-variants.{Good}
 use Rattle.grid.specs.declared.Refusal.the-variants.{ListLength}
+use Rattle.grid.specs.Panel.{area}
 use Rattle.grid.specs.Bytes.{cellsIn}
 use Rattle.grid.specs.Check.{checkPanel, expect, after}
 use Rattle.grid.proofs.Tests.{expect-yes, expect-no, after-good, after-refused}
 use Rattle.list.specs.List.{wholeCells}
-use Rattle.list.specs.Check.{checkWalk, goodCount}
+use Rattle.list.specs.Check.{checkWalk}
 use Rattle.list.proofs.Cells.{length-cells}
 use Rattle.list.proofs.check_list.Statement.{statement}
 use Rattle.list.proofs.check_list.Tie as tie
@@ -42,10 +44,12 @@ walk-good : (c : tie.After-enum-told2) (k : Check) {z : Check} → z ≡ k
 walk-good c k e =
     whole-good (c .before .before .before) _ (after-good k (sym (c .before .before .check-walk .ensures) ∙ c .enum-told2 .given .1) e)
 
--- the count of cells is half that of the bytes
-counted : (c : tie.After-good-count)
-    → goodCount (P (start (c .before))) (length (cellsIn (L (start (c .before))))) ≡ c .good-count .result
-counted c = ap (goodCount (P (start (c .before)))) (length-cells (L (start (c .before)))) ∙ sym (c .good-count .ensures)
+-- the cells are half as many as the bytes: more than mn, or not
+many : (c : tie.Then2) → let s = start (c .before .before) in area (P s) < length (cellsIn (L s))
+many c = let s = start (c .before .before) in omega (arith, c .if2 .taken, c .before .area-of .ensures, length-cells (L s))
+
+few : (c : tie.Else2) → let s = start (c .before .before) in length (cellsIn (L s)) ≤ area (P s)
+few c = let s = start (c .before .before) in omega (arith, c .if2 .left, c .before .area-of .ensures, length-cells (L s))
 
 check-panel-requires : tie.Need-check-panel-requires
 check-panel-requires c κs = search needs
@@ -79,16 +83,16 @@ returns-3 c =
 enum-told-2 : tie.Need-enum-told-2
 enum-told-2 c = search needs
 
-good-count-requires : tie.Need-good-count-requires
-good-count-requires c κs = search needs
+area-of-requires : tie.Need-area-of-requires
+area-of-requires c κs = search needs
 
 returns-4 : tie.Need-returns-4
 returns-4 c =
-    walk-good (c .before .before) _ (expect-no _ _ (counted (c .before) ∙ not-true _ (c .if2 .taken)))
+    walk-good (c .before .before) _ (expect-no _ _ (lt-leb _ _ (many c)))
 
 returns-5 : tie.Need-returns-5
 returns-5 c =
-    walk-good (c .before .before) _ (expect-yes _ _ (counted (c .before) ∙ not-false _ (c .if2 .left)) refl)
+    walk-good (c .before .before) _ (expect-yes _ _ (le-leb _ _ (few c)) refl)
 
 pub check-list-spec : {M : Type 1} → statement M
 check-list-spec =
@@ -104,6 +108,6 @@ check-list-spec =
     enum-known-w
     returns-3
     enum-told-2
-    good-count-requires
+    area-of-requires
     returns-4
     returns-5)

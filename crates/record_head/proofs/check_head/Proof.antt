@@ -1,20 +1,22 @@
 -- Each test that passes leaves the tests behind it: a lemma at each place says so, and each `return` gives the first that fails.
 use borrow.Author.Needs.{needs}
-use borrow.Author.Tests.{not-true, not-false, le-leb, lt-leb, leb-true}
-use Prim.Native.Nat.{ℕ, _+_}
+use borrow.Author.Tests.{not-true, not-false, le-leb, lt-leb, leb-true, lt-ltb, le-ltb}
+use Prim.Native.Nat.{ℕ, _+_, _≤_, _<_}
+use native.Mathlib.Omega.{arith}
 use mathlib.Core.Path.{_≡_, refl, sym, ap, _∙_}
 use mathlib.Core.Bool.{true}
 use mathlib.Core.List.{List}
 use lib.ListN.{length}
-use lib.Dec.{leb}
+use lib.Dec.{leb, ltb}
 use denote.Ref.{now}
 use Rattle.grid.proofs.Tests.{expect-yes, expect-no, after-good, after-refused}
 use Rattle.grid.specs.declared.Check.{Check}
 use Rattle.grid.specs.declared.Refusal.the-variants.{Mark, CutShort, StepCount}
+use Rattle.grid.specs.Panel.{area}
 use Rattle.grid.specs.Check.{checkEntry, expect, after}
 use Rattle.record_head.specs.declared.Head.{Head}
 use Rattle.record_head.specs.Head.{headLength}
-use Rattle.record_head.specs.Head.{hasMark, hasHead, panelIn, entryIn, stepsIn, goodSteps}
+use Rattle.record_head.specs.Head.{hasMark, hasHead, panelIn, entryIn, stepsIn}
 use Rattle.record_head.proofs.check_head.Statement.{statement}
 use Rattle.record_head.proofs.check_head.Tie as tie
 
@@ -29,7 +31,7 @@ abbrev atEntry : List ℕ → Check → Check
 atEntry f k = atLength f (after (checkEntry (panelIn f) (entryIn f)) k)
 
 abbrev atSteps : List ℕ → Check → Check
-atSteps f k = atEntry f (expect (goodSteps (panelIn f) (stepsIn f)) StepCount k)
+atSteps f k = atEntry f (expect (ltb (stepsIn f) (area (panelIn f))) StepCount k)
 
 abbrev F : tie.Else1 → List ℕ
 F c = now (c .before .before .before .args .file)
@@ -58,12 +60,24 @@ G c = F (at-head c .before .before .before)
 entry-on : (c : tie.After-enum-told) (k : Check) {z : Check} → z ≡ k → z ≡ atEntry (G c) k
 entry-on c k e = long (at-head c .before) _ (after-good k (entered (c .before .before) ∙ c .enum-told .given .1) e)
 
--- what the head says of the step count
-stepped : (c : tie.After-good-steps) → goodSteps (panelIn (G (c .before))) (stepsIn (G (c .before))) ≡ c .good-steps .result
-stepped c = sym (c .good-steps .ensures ∙ ap (λ (h : Head). goodSteps (h .panel) (h .steps .0)) (at-head (c .before) .head-in .ensures))
+-- what the head says of the step count: mn or more, or fewer
+abbrev at-area : tie.After-area-of → tie.After-enum-told
+at-area c = c .before
 
-steps-good : (c : tie.Else3) (k : Check) {z : Check} → z ≡ k → z ≡ atSteps (G (c .before .before)) k
-steps-good c k e = entry-on (c .before .before) _ (expect-yes _ k (stepped (c .before) ∙ not-false _ (c .if3 .left)) e)
+mn : (c : tie.After-area-of) → c .area-of .result ≡ area (panelIn (G (at-area c)))
+mn c = c .area-of .ensures ∙ ap (λ (h : Head). area (h .panel)) (at-head (at-area c) .head-in .ensures)
+
+steps : (c : tie.After-area-of) → at-head (at-area c) .head-in .result .steps .0 ≡ stepsIn (G (at-area c))
+steps c = ap (λ (h : Head). h .steps .0) (at-head (at-area c) .head-in .ensures)
+
+few : (c : tie.Else3) → let f = G (at-area (c .before .before)) in stepsIn f < area (panelIn f)
+few c = let a = c .before .before in omega (arith, mn a, steps a, c .if3 .left)
+
+many : (c : tie.Then3) → let f = G (at-area (c .before .before)) in area (panelIn f) ≤ stepsIn f
+many c = let a = c .before .before in omega (arith, mn a, steps a, c .if3 .taken)
+
+steps-good : (c : tie.Else3) (k : Check) {z : Check} → z ≡ k → z ≡ atSteps (G (at-area (c .before .before))) k
+steps-good c k e = entry-on (at-area (c .before .before)) _ (expect-yes _ k (lt-ltb _ _ (few c)) e)
 
 -- the length that the head asks for
 asked : (c : tie.After-enum-told)
@@ -99,11 +113,14 @@ returns-3 c =
 enum-told : tie.Need-enum-told
 enum-told c = search needs
 
-good-steps-requires : tie.Need-good-steps-requires
-good-steps-requires c κs = search needs
+area-of-requires : tie.Need-area-of-requires
+area-of-requires c κs = search needs
+
+cast-if3 : tie.Need-cast-if3
+cast-if3 c = search needs
 
 returns-4 : tie.Need-returns-4
-returns-4 c = entry-on (c .before .before) _ (expect-no _ _ (stepped (c .before) ∙ not-true _ (c .if3 .taken)))
+returns-4 c = entry-on (at-area (c .before .before)) _ (expect-no _ _ (le-ltb _ _ (many c)))
 
 cast-if4 : tie.Need-cast-if4
 cast-if4 c = search needs
@@ -114,12 +131,12 @@ add-if4 c = search needs
 returns-5 : tie.Need-returns-5
 returns-5 c =
     let passed = c .before .before in
-    steps-good passed _ (expect-no _ _ (asked (passed .before .before) ∙ lt-leb _ _ (c .if4 .taken)))
+    steps-good passed _ (expect-no _ _ (asked (at-area (passed .before .before)) ∙ lt-leb _ _ (c .if4 .taken)))
 
 returns-6 : tie.Need-returns-6
 returns-6 c =
     let passed = c .before .before in
-    steps-good passed _ (expect-yes _ _ (asked (passed .before .before) ∙ le-leb _ _ (c .if4 .left)) refl)
+    steps-good passed _ (expect-yes _ _ (asked (at-area (passed .before .before)) ∙ le-leb _ _ (c .if4 .left)) refl)
 
 pub check-head-spec : {M : Type 1} → statement M
 check-head-spec =
@@ -134,7 +151,8 @@ check-head-spec =
     enum-known-c
     returns-3
     enum-told
-    good-steps-requires
+    area-of-requires
+    cast-if3
     returns-4
     cast-if4
     add-if4

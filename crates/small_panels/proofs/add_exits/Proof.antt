@@ -27,9 +27,6 @@ nth-requires c κs = search needs
 on-requires : tie.Need-on-requires Inv-loop μ-loop
 on-requires c κs = search needs
 
-same-requires : tie.Need-same-requires Inv-loop μ-loop
-same-requires c κs = search needs
-
 slice-aggregate-add-pair : tie.Need-slice-aggregate-add-pair Inv-loop μ-loop
 slice-aggregate-add-pair c = search needs
 
@@ -65,7 +62,6 @@ add-exits-spec =
     loop-holds
     nth-requires
     on-requires
-    same-requires
     slice-aggregate-add-pair
     add-pair-requires
     add-code

@@ -7,15 +7,15 @@ use denote.Ref.{now}
 use lib.ListN.{drop}
 use Rattle.text.specs.Front.{begins}
 use Rattle.grid.proofs.Tests.{cond-yes, cond-no}
-use Rattle.gerber.specs.Layer.{headOf, move}
+use Rattle.gerber.specs.Layer.{headOf}
 use Rattle.gerber.proofs.Heads.{head-length}
 use Rattle.gerber_trace.specs.Trace.{lineAt}
 use borrow.Author.Needs.{needs}
-use Rattle.gerber_trace.proofs.move_at.Statement.{statement}
-use Rattle.gerber_trace.proofs.move_at.Tie as tie
+use Rattle.gerber_trace.proofs.first_at.Statement.{statement}
+use Rattle.gerber_trace.proofs.first_at.Tie as tie
 
 abbrev start : tie.After-text-at → tie.Start
-start c = c .before .before .before .before
+start c = c .before .before .before .before .before
 
 -- the text that was looked for is the head
 found : (c : tie.After-text-at) → begins (headOf (start c .args .p)) (now (start c .args .file)) ≡ c .text-at .result
@@ -33,29 +33,25 @@ text-at-requires c κs = search needs
 returns : tie.Need-returns
 returns c = cond-no _ _ (found (c .before) ∙ not-true _ (c .if1 .taken)) refl
 
-slice-aggregate-line-at : tie.Need-slice-aggregate-line-at
-slice-aggregate-line-at c = search needs
-
 line-at-requires : tie.Need-line-at-requires
 line-at-requires c κs = search needs
 
 returns-2 : tie.Need-returns-2
 returns-2 c =
-    let behind = c .before .before in
+    let behind = c .before in
     let s = start (behind .before) in
     let F = now (s .args .file) in
     let p = s .args .p in
     cond-yes _ _ (found (behind .before) ∙ not-false _ (behind .if1 .left))
-    (c .line-at .ensures ∙ ap (λ (k : ℕ). lineAt p move (drop k F)) (sym (head-length p)))
+    (c .line-at .ensures ∙ ap (λ (k : ℕ). lineAt p (now (s .args .operation)) (drop k F)) (sym (head-length p)))
 
-pub move-at-spec : {M : Type 1} → statement M
-move-at-spec =
+pub first-at-spec : {M : Type 1} → statement M
+first-at-spec =
     tie.close
     (tie.spec
     head-of-requires
     slice-aggregate-text-at
     text-at-requires
     returns
-    slice-aggregate-line-at
     line-at-requires
     returns-2)
