@@ -1,15 +1,18 @@
--- A corner track taken apart (peeled): its first lines, which sweep a rectangle from the corner a, and the corner track of the rectangle that remains.
-use Prim.Native.Nat.{ℕ, _+_, _-_, _*_, _%_, _≤_, _<_}
+-- A corner track taken apart (peeled): its first lines, which sweep a rectangle from the corner a, and the rectangle that remains. And so which cells it
+-- has, in their order.
+use Prim.Native.Nat.{ℕ, zero, suc, _+_, _-_, _*_, _≤_, _<_}
 use mathlib.Core.Path.{_≡_}
-use mathlib.Core.Bool.{Bool, true, false, _||_}
-use lib.Dec.{eqb}
+use mathlib.Core.Bool.{Bool, true, false, cond, not, _||_}
+use mathlib.Core.List.{List, [], _++_}
+use lib.Dec.{leb, ltb, eqb}
 use Rattle.grid.specs.declared.Cell.{Cell}
-use Rattle.grid.specs.Panel.{cell, dist, Neighbours, sameCell}
-use Rattle.line.specs.Rectangle.{Inside, cellsBetween, ahead, turning, sweepEnd}
+use Rattle.grid.specs.Panel.{cell, dist, sameCell}
+use Rattle.line.specs.Rectangle.{ahead, turning}
+use Rattle.line.specs.Sweep.{sweep}
 use Rattle.line.specs.Drawn.{Bytes}
 use Rattle.corner.specs.declared.Sizes.{Sizes}
+use Rattle.corner.specs.declared.Lines.{Lines}
 use Rattle.corner.specs.declared.Peeled.{Peeled}
-use Rattle.corner.specs.Corner.{cornerCount, trackCount}
 
 -- the track is one line: the rectangle has one column or one row, or the target is the corner
 abbrev pub oneLine : Cell → Cell → Cell → Bool
@@ -30,21 +33,20 @@ pub record Open (w h dx dy : ℕ) : Type 0 where
   pub down : dy < h
   pub away : 1 ≤ dx + dy
 
--- the target is dx cells from where k lines of w cells there and back begin, and ex from where they end
-pub data Turned (k w dx ex : ℕ) : Type 0 where
-  even : k % 2 ≡ 0 → ex ≡ dx → Turned k w dx ex
-  odd : k % 2 ≡ 1 → dx + ex + 1 ≡ w → Turned k w dx ex
+-- the lines that go first of w columns and h rows, the target being dx columns and dy rows away: all rows up to the one before the target's, or, in two
+-- rows, all columns up to the one before the target's; else one line
+abbrev pub rowsFirst : ℕ → Lines
+rowsFirst k = record { row = true; count = k }
 
--- k rows of w cells may go first: the target is in none of them, and their cells and the count of what remains add up
-pub record First (k w h dx dy : ℕ) : Type 0 where
-  pub some : 1 ≤ k
-  pub far : k ≤ dy
-  pub counts : (h' ex ey : ℕ) → h ≡ h' + k → Turned k w dx ex → dy ≡ ey + k → cornerCount w h dx dy ≡ w * k + cornerCount w h' ex ey
+abbrev pub columnsFirst : ℕ → Lines
+columnsFirst k = record { row = false; count = k }
 
--- rows, or else columns, which are the rows of the turned rectangle
-abbrev pub Chosen : Bool → ℕ → ℕ → ℕ → ℕ → ℕ → Type 0
-Chosen true k w h dx dy = First k w h dx dy
-Chosen false k w h dx dy = First k h w dy dx
+unfoldable pub chosen : ℕ → ℕ → ℕ → ℕ → Lines
+chosen w h dx dy =
+    cond (ltb 1 dy) (rowsFirst (dy - 1))
+    (cond (eqb dy 0) (columnsFirst 1)
+    (cond (eqb h 2) (cond (ltb 1 dx) (columnsFirst (dx - 1)) (rowsFirst 1))
+    (cond (eqb dx (w - 1)) (columnsFirst 1) (rowsFirst 1))))
 
 -- the p-th cell of the q-th row, or else of the q-th column
 abbrev pub place : Bool → ℕ → ℕ → Cell
@@ -77,17 +79,23 @@ abbrev pub firstLines : Bool → Cell → Cell → ℕ → Peeled
 firstLines true a b k = linesOff true (a .x) (a .y) (b .x) (b .y) k
 firstLines false a b k = linesOff false (a .y) (a .x) (b .y) (b .x) k
 
--- lines and rest lie in the rectangle and have no cell in common, the rest begins beside the lines' end, and the cells add up
-pub record Peel (a b t : Cell) (r : Peeled) : Type 0 where
-  pub size : r .cells .0 ≡ cellsBetween a (r .far)
-  pub end : r .end ≡ sweepEnd (r .row) a (r .far)
-  pub size-back : r .cells .0 ≡ cellsBetween (r .end) (r .home)
-  pub end-back : a ≡ sweepEnd (r .row) (r .end) (r .home)
-  pub lines : (d : Cell) → Inside a (r .far) d → Inside a b d
-  pub same : (d : Cell) → Inside (r .end) (r .home) d → Inside a (r .far) d
-  pub rest : (d : Cell) → Inside (r .corner) (r .opposite) d → Inside a b d
-  pub apart : (d : Cell) → Inside a (r .far) d → Inside (r .corner) (r .opposite) d → ⊥
-  pub beside : Neighbours (r .end) (r .corner)
-  pub target : Inside (r .corner) (r .opposite) t
-  pub counts : trackCount a b t ≡ r .cells .0 + trackCount (r .corner) (r .opposite) t
-  pub less : dist (r .corner .x) (r .opposite .x) + dist (r .corner .y) (r .opposite .y) < dist (a .x) (b .x) + dist (a .y) (b .y)
+-- the lines that go first of the rectangle of a and b, chosen along its longer side
+unfoldable pub peeled : Cell → Cell → Cell → Peeled
+peeled a b t =
+    let w = dist (a .x) (b .x) + 1 in
+    let h = dist (a .y) (b .y) + 1 in
+    let wide = chosen w h (dist (a .x) (t .x)) (dist (a .y) (t .y)) in
+    let tall = chosen h w (dist (a .y) (t .y)) (dist (a .x) (t .x)) in
+    cond (leb h w) (firstLines (wide .row) a b (wide .count)) (firstLines (not (tall .row)) a b (tall .count))
+
+-- the cells of the corner track from a to t in the rectangle of a and b: those of one line, or of the lines that go first and then of what remains. Lines
+-- can be taken off at most k times.
+abbrev pub cornerFrom : ℕ → Cell → Cell → Cell → List Cell
+cornerFrom zero a b t = []
+cornerFrom (suc k) a b t =
+    let r = peeled a b t in
+    cond (oneLine a b t) (sweep (eqb (a .y) (t .y)) a t) (sweep (r .row) a (r .far) ++ cornerFrom k (r .corner) (r .opposite) t)
+
+-- each time a side gets shorter
+unfoldable pub cornerCells : Cell → Cell → Cell → List Cell
+cornerCells a b t = cornerFrom (suc (dist (a .x) (b .x) + dist (a .y) (b .y))) a b t

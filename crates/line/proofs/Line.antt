@@ -134,22 +134,20 @@ ahead-next p q i h =
     let c = ahead-below {p = ahead p q 1} {q = q} i g (omega arith) in
     omega arith)
 
--- k numbers on the way from p to q, the last one first, are those on the way back
-pub ahead-back : (p q k i : ℕ) → i < k → k ≤ dist p q + 1 → ahead p q (k - (i + 1)) ≡ ahead (ahead p q (k - 1)) p i
-ahead-back p q k i h l =
+-- m steps from one end are i steps from the other
+pub ahead-back : (p q m i : ℕ) → m + i ≡ dist p q → ahead p q m ≡ ahead q p i
+ahead-back p q m i h =
     by-le p q
     (λ e.
-    let a = ahead-up {p = p} {q = q} (k - (i + 1)) e in
-    let b = ahead-up {p = p} {q = q} (k - 1) e in
-    let g : p ≤ ahead p q (k - 1) = omega arith in
-    let w = dist-down g in
-    let c = ahead-below {p = ahead p q (k - 1)} {q = p} i g (omega arith) in
+    let d = dist-up e in
+    let w = dist-down e in
+    let a = ahead-up {p = p} {q = q} m e in
+    let b = ahead-below {p = q} {q = p} i e (omega arith) in
     omega arith)
     (λ e.
-    let a = ahead-below {p = p} {q = q} (k - (i + 1)) (lt-le e) (omega arith) in
-    let b = ahead-below {p = p} {q = q} (k - 1) (lt-le e) (omega arith) in
-    let g : ahead p q (k - 1) ≤ p = omega arith in
-    let c = ahead-up {p = ahead p q (k - 1)} {q = p} i g in
+    let d = dist-down (lt-le e) in
+    let a = ahead-below {p = p} {q = q} m (lt-le e) (omega arith) in
+    let b = ahead-up {p = q} {q = p} i (lt-le e) in
     omega arith)
 
 -- e takes the numbers to the cells of a row, or of a column

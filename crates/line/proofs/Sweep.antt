@@ -19,9 +19,9 @@ use Rattle.line.specs.Rectangle.{Inside, cellsBetween, ahead, turning, s
 use Rattle.line.specs.Line.{line, cellNumber, numbered, stepTo, snake, allLines}
 use Rattle.line.specs.Sweep.{lineFrom, lines, sweep}
 use Rattle.line.specs.Drawn.{Bytes, InBytes, ReadySnake, ReadyLines, written}
-use Rattle.line.proofs.Between.{between-sym, start-between, below, by-le, lt-le, dist-eq, dist-small, dist-up, dist-down}
+use Rattle.line.proofs.Between.{between-sym, start-between, below, by-le, lt-le, dist-same, dist-eq, dist-small, dist-up, dist-down}
 use Rattle.line.proofs.Between.{ahead-up, ahead-down, Cut, cut}
-use Rattle.line.proofs.Frame.{Frame, in-rows, in-columns, turning-even, turning-next, turning-once}
+use Rattle.line.proofs.Frame.{Frame, in-rows, in-columns, turning-even, turning-odd, turning-next, turning-once}
 use Rattle.line.proofs.Line.{Axis, in-row, in-column, line-track, length-line, line-same, line-back}
 use Rattle.line.proofs.Line.{ahead-start, ahead-stop, ahead-next, ahead-back}
 use Rattle.line.proofs.Line.{Unit, row-unit, column-unit, number-small, step-small, line-numbered, stepped}
@@ -63,12 +63,8 @@ module _ (E : ℕ → ℕ → Cell) where
   from-back : (p p' q : ℕ) → reverse (lineFrom E p p' q) ≡ lineFrom E p' p q
   from-back p p' q =
       line-back (λ i. E (ahead p p' i) q) (dist p p' + 1)
-      ∙ line-same _ _ (dist p p' + 1)
-      (λ i h. ap (λ (r : ℕ). E r q) (ahead-back p p' (dist p p' + 1) i h (omega arith) ∙ ap (λ (r : ℕ). ahead r p i) (last (omega arith))))
+      ∙ line-same _ _ (dist p p' + 1) (λ i h. ap (λ (r : ℕ). E r q) (ahead-back p p' (dist p p' + 1 - (i + 1)) i (omega arith)))
       ∙ ap (λ (n : ℕ). line (λ i. E (ahead p' p i) q) (n + 1)) (dist-sym p p')
-    where
-      last : dist p p' + 1 - 1 ≡ dist p p' → ahead p p' (dist p p' + 1 - 1) ≡ p'
-      last e = ap (ahead p p') e ∙ ahead-stop p p'
 
   -- the last line first, from where they end
   lines-back : (p p' : ℕ) (f : ℕ → ℕ) (k : ℕ)
@@ -87,13 +83,13 @@ module _ (E : ℕ → ℕ → Cell) where
       tail : (j : ℕ) → k - (j + 1) ≡ suc k - (suc j + 1)
       tail j = omega arith
 
-  -- k lines on the way from q to q' end in line l; from there they lead back to q
-  pub lines-home : (p p' q q' k : ℕ) {x o l : ℕ} → k ≤ dist q q' + 1 → x ≡ turning k p p' → o ≡ turning k p' p → l ≡ ahead q q' (k - 1)
-      → lines E x o (ahead l q) k ≡ reverse (lines E p p' (ahead q q') k)
-  lines-home p p' q q' k h ex eo el =
-      (λ i. lines E (ex i) (eo i) (ahead (el i) q) k)
-      ∙ sym (lines-same _ _ (λ j. ahead q q' (k - (j + 1))) (ahead (ahead q q' (k - 1)) q) k (λ j i. ahead-back q q' k j i h))
-      ∙ sym (lines-back p p' (ahead q q') k)
+  -- all lines from q to q', from where they end
+  lines-home : (p p' q q' : ℕ) → let k = suc (dist q q') in
+      lines E (turning k p p') (turning k p' p) (ahead q' q) k ≡ reverse (lines E p p' (ahead q q') k)
+  lines-home p p' q q' =
+      let k = suc (dist q q') in
+      sym (lines-back p p' (ahead q q') k
+      ∙ lines-same _ _ (λ j. ahead q q' (k - (j + 1))) (ahead q' q) k (λ j h. ahead-back q q' (k - (j + 1)) j (omega arith)))
 
 -- the first number, and the others
 cut-one : (q q' : ℕ) → 1 ≤ dist q q' → Cut q q' 1 q (ahead q q' 1)
@@ -163,13 +159,13 @@ turns f u c p p' k = snake f (stepTo u p p') (stepTo u p' p) c (dist p p' + 1) k
 
 -- ---- the lines are a track
 
-module _ {row : Bool} {E : ℕ → ℕ → Cell} (F : Frame row E) (axis : (q : ℕ) → Axis (λ p. E p q)) where
-  swept : (k p q p' q' : ℕ) → dist q q' ≡ k → From (E p q) (E p' q') (E (turning (k + 1) p p') q') (lines E p p' (ahead q q') (suc k))
-  swept zero p q p' q' d =
+module _ {row : Bool} {E : ℕ → ℕ → Cell} (F : Frame row E) where
+  swept : ((q : ℕ) → Axis (λ p. E p q)) → (k p q p' q' : ℕ) → dist q q' ≡ k → From (E p q) (E p' q') (E (turning (k + 1) p p') q') (lines E p p' (ahead q q') (suc k))
+  swept axis zero p q p' q' d =
       subst₂ (λ (r : ℕ) (l : List Cell). From (E p q) (E p' r) (E (turning 1 p p') r) l) (dist-eq q q' d)
       (sym (lines-next E p p' q q' 0 (omega arith) ∙ append-nil _))
       (subst (λ (r : ℕ). From (E p q) (E p' q) (E r q) (lineFrom E p p' q)) (sym (turning-once p p')) (line-track (axis q) p p'))
-  swept (suc k) p q p' q' d =
+  swept axis (suc k) p q p' q' d =
       let C = cut-one q q' (omega arith) in
       subst₂ (λ (r : ℕ) (l : List Cell). From (E p q) (E p' q') (E r q') l)
       (sym (turning-next (k + 1) p p') ∙ ap (λ (j : ℕ). turning j p p') (omega arith))
@@ -179,11 +175,27 @@ module _ {row : Bool} {E : ℕ → ℕ → Cell} (F : Frame row E) (axis : (q : 
       (λ g i. F .inside (between-sym (F .inside-along i)) (C .behind _ (F .inside-over i)))
       (λ g i j. C .apart _ (F .inside-over i) (F .inside-over j))
       (line-track (axis q) p p') (F .beside p' q (ahead q q' 1) (C .beside))
-      (swept k p' (ahead q q' 1) p q' (omega (arith, C .left))))
+      (swept axis k p' (ahead q q' 1) p q' (omega (arith, C .left))))
 
-  sweep-in : (p q p' q' : ℕ) → From (E p q) (E p' q') (sweepEnd row (E p q) (E p' q')) (sweep row (E p q) (E p' q'))
-  sweep-in p q p' q' =
-      subst₂ (λ (c : Cell) (l : List Cell). From (E p q) (E p' q') c l) (sym (F .end p q p' q')) (sym (F .sweeps p q p' q')) (swept (dist q q') p q p' q' refl)
+  sweep-in : ((q : ℕ) → Axis (λ p. E p q)) → (p q p' q' : ℕ) → From (E p q) (E p' q') (sweepEnd row (E p q) (E p' q')) (sweep row (E p q) (E p' q'))
+  sweep-in axis p q p' q' =
+      subst₂ (λ (c : Cell) (l : List Cell). From (E p q) (E p' q') c l) (sym (F .end p q p' q')) (sym (F .sweeps p q p' q')) (swept axis (dist q q') p q p' q' refl)
+
+  -- from where the lines end they have the same cells, the last one first
+  pub sweep-home : (p q p' q' : ℕ) {x o : ℕ} → x ≡ turning (dist q q' + 1) p p' → o ≡ turning (dist q q' + 1) p' p
+      → sweep row (E x q') (E o q) ≡ reverse (sweep row (E p q) (E p' q'))
+  sweep-home p q p' q' {x} {o} e f =
+      let n = add-one (dist q q') in
+      let e' = e ∙ ap (λ (k : ℕ). turning k p p') n in
+      let f' = f ∙ ap (λ (k : ℕ). turning k p' p) n in
+      F .sweeps x q' o q
+      ∙ (λ j. lines E (e' j) (f' j) (ahead q' q) (suc (dist-sym q' q j)))
+      ∙ lines-home E p p' q q' ∙ ap reverse (sym (F .sweeps p q p' q'))
+
+  pub line-home : (p q p' q' : ℕ) → q ≡ q' → sweep row (E p' q') (E p q) ≡ reverse (sweep row (E p q) (E p' q'))
+  line-home p q p' q' e =
+      let z = dist-same e in
+      sweep-home p q p' q' (sym (turning-odd _ p p' (omega arith))) (sym (turning-odd _ p' p (omega arith)))
 
   length-in : (p q p' q' : ℕ) → length (sweep row (E p q) (E p' q')) ≡ cellsBetween (E p q) (E p' q')
   length-in p q p' q' =
@@ -195,8 +207,8 @@ sweep-track true a b = sweep-in in-rows in-row (a .x) (a .y) (b .x) (b .y)
 sweep-track false a b = sweep-in in-columns in-column (a .y) (a .x) (b .y) (b .x)
 
 pub length-sweep : (row : Bool) (a b : Cell) → length (sweep row a b) ≡ cellsBetween a b
-length-sweep true a b = length-in in-rows in-row (a .x) (a .y) (b .x) (b .y)
-length-sweep false a b = length-in in-columns in-column (a .y) (a .x) (b .y) (b .x)
+length-sweep true a b = length-in in-rows (a .x) (a .y) (b .x) (b .y)
+length-sweep false a b = length-in in-columns (a .y) (a .x) (b .y) (b .x)
 
 -- ---- the numbers that the code writes are these cells
 
