@@ -24,10 +24,12 @@ use Rattle.grid.proofs.Tests.{cond-yes, cond-no, answer-good, answer-refused}
 use Rattle.grid.proofs.Bytes.{front-bytes, length-bytes}
 use Rattle.line.specs.Rectangle.{Inside}
 use Rattle.corner.specs.Corner.{trackCount, cornerCount}
+use Rattle.corner.specs.Peel.{cornerCells}
 use Rattle.corner.specs.Drawn.{Ready}
-use Rattle.line.specs.Drawn.{Drawn}
+use Rattle.line.specs.Drawn.{written, Drawn}
 use Rattle.line.proofs.Between.{Between, dist-up, by-eq}
 use Rattle.corner.proofs.Count.{count-full}
+use Rattle.corner.proofs.Track.{corner-drawn}
 use Rattle.line.proofs.Frame.{inside, inside-x, inside-y}
 use Rattle.count.specs.Count.{odd}
 use Rattle.count.proofs.Colour.{closed-no-longer}
@@ -126,6 +128,9 @@ module _ (p : Panel) (old : List ℕ) (fine : ringCheck p (length old) ≡ check
       read : length (d .cells) ≡ k → new ≡ bytes (d .cells) ++ drop (2 * k) old → front k new ≡ d .cells
       read s w = (λ i. front (sym s i) (w i)) ∙ front-bytes (d .cells) (drop (2 * k) old)
 
-  pub drawn : {k : Cells} {new : List ℕ} → k .0 ≡ ringCount p → Drawn (Inside first (far p)) first t (trackCount first (far p) t) old new
-      → Rings p old new (Given k)
-  drawn q d = record { gives = gives-cells _ _ (answer-good _ _ fine (λ i. Given (record { 0 = q i }))); leaves = longest q d }
+  pub drawn : {k : Cells} {new : List ℕ} → k .0 ≡ ringCount p
+      → new ≡ written (cornerCells first (far p) t) (trackCount first (far p) t) old → Rings p old new (Given k)
+  drawn q w = record {
+    gives = gives-cells _ _ (answer-good _ _ fine (λ i. Given (record { 0 = q i })));
+    leaves = longest q (corner-drawn (ready .inside) w);
+  }
