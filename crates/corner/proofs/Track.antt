@@ -14,7 +14,6 @@ use Rattle.grid.proofs.Tests.{both-branches, cond-yes, cond-no}
 use Rattle.grid.proofs.Track.{join, widen}
 use Rattle.line.specs.Rectangle.{Inside}
 use Rattle.line.specs.Sweep.{sweep}
-use Rattle.line.specs.Drawn.{written, Drawn}
 use Rattle.line.proofs.Frame.{first-inside, inside-part}
 use Rattle.line.proofs.Sweep.{sweep-track, length-sweep}
 use Rattle.corner.specs.declared.Peeled.{Peeled}
@@ -60,11 +59,6 @@ module _ (a b t : Cell) (i : Inside a b t) where
 
   pub length-corner : length (cornerCells a b t) ≡ trackCount a b t
   length-corner = full .1
-
--- a buffer that begins with these cells
-pub corner-drawn : {a b t : Cell} {old new : List ℕ} → Inside a b t → new ≡ written (cornerCells a b t) (trackCount a b t) old
-    → Drawn (Inside a b) a t (trackCount a b t) old new
-corner-drawn {a} {b} {t} i w = record { cells = cornerCells a b t; size = length-corner a b t i; track = corner-track a b t i; written = w }
 
 -- ---- a turn of the loop that draws them: one line is left, or the lines that the code takes off
 

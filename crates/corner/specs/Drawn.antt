@@ -4,7 +4,7 @@ use mathlib.Core.List.{List}
 use lib.ListN.{length}
 use Rattle.grid.specs.declared.Cell.{Cell}
 use Rattle.corner.specs.Corner.{Inside, trackCount}
-pub use Rattle.line.specs.Drawn.{InBytes, written, Drawn}
+pub use Rattle.line.specs.Drawn.{InBytes, written}
 
 -- a rectangle of cells in bytes, a target in it, and room for the corner track
 pub record Ready (a b t : Cell) (buf : List ℕ) : Type 0 where
