@@ -1,3 +1,4 @@
+pub mod Track
 pub mod Drawing
 pub mod Answer
 pub mod Sides
