@@ -10,7 +10,7 @@ use Rattle.grid.specs.declared.Check.the-variants.{Good, Refused}
 use Rattle.grid.specs.declared.CellsAnswer.{CellsAnswer}
 use Rattle.grid.specs.declared.CellsAnswer.the-variants as cells
 use Rattle.grid.specs.declared.BytesAnswer.{BytesAnswer}
-use Rattle.grid.specs.Check.{answer}
+use Rattle.grid.specs.Check.{after, answer}
 use Rattle.grid.specs.Answer.{cellsAnswer, cellsValues, GivesCells, bytesAnswer, bytesValues, GivesBytes}
 use Rattle.grid.proofs.Facts.{clash}
 
@@ -18,6 +18,11 @@ pub through {ℓ κ} : {A : Type ℓ} {B : Type κ} (f : A → B) (c : Check) (g
     → f (answer c g a) ≡ answer c (λ r. f (g r)) (f a)
 through f Good g a = refl
 through f (Refused r) g a = refl
+
+-- an answer behind two checks, one by one or as one
+pub answer-after {ℓ} : {A : Type ℓ} (c d : Check) (f : Refusal → A) (a : A) → answer c f (answer d f a) ≡ answer (after c d) f a
+answer-after Good d f a = refl
+answer-after (Refused r) d f a = refl
 
 pub gives-cells : (c : Check) (k : ℕ) {r : CellsAnswer} → r ≡ cellsAnswer c k → GivesCells c k r
 gives-cells c k e = record {
