@@ -19,10 +19,10 @@ pub through {ℓ κ} : {A : Type ℓ} {B : Type κ} (f : A → B) (c : Check) (g
 through f Good g a = refl
 through f (Refused r) g a = refl
 
--- an answer behind two checks, one by one or as one
-pub answer-after {ℓ} : {A : Type ℓ} (c d : Check) (f : Refusal → A) (a : A) → answer c f (answer d f a) ≡ answer (after c d) f a
-answer-after Good d f a = refl
-answer-after (Refused r) d f a = refl
+-- an answer behind two checks, one after the other, is the one behind what they are together
+pub answer-after {ℓ} : {A : Type ℓ} (c d : Check) {k : Check} (f : Refusal → A) (a : A) → after c d ≡ k → answer c f (answer d f a) ≡ answer k f a
+answer-after Good d f a e = ap (λ (k : Check). answer k f a) e
+answer-after (Refused r) d f a e = ap (λ (k : Check). answer k f a) e
 
 pub gives-cells : (c : Check) (k : ℕ) {r : CellsAnswer} → r ≡ cellsAnswer c k → GivesCells c k r
 gives-cells c k e = record {
