@@ -1,6 +1,6 @@
 -- What a bench call answers: where the bench's check refuses, that refusal; where it passes, what the call for large panels answers.
 use Prim.Native.Nat.{ℕ}
-use mathlib.Core.Path.{_≡_, refl, sym, subst}
+use mathlib.Core.Path.{_≡_, refl, sym, subst, _∙_}
 use mathlib.Core.List.{List}
 use lib.ListN.{length}
 use Rattle.grid.specs.declared.Panel.{Panel}
@@ -50,8 +50,8 @@ module _ (p : Panel) (s t : Cell) where
       scratch = answer-good _ (scratchAfter p s t list old) e (j .scratch);
     }
 
-    pub judge-refused : {r : Refusal} → checkBench p ≡ Refused r → BenchJudges p s t list old old (cells.Refused r)
-    judge-refused e = record {
+    pub judge-refused : {new : List ℕ} {r : Refusal} → checkBench p ≡ Refused r → new ≡ old → BenchJudges p s t list old new (cells.Refused r)
+    judge-refused e l = record {
       gives = cells-refused p (judgeCheck p s t list (length old)) (length (cellsIn list)) e;
-      scratch = answer-refused _ (scratchAfter p s t list old) e;
+      scratch = l ∙ answer-refused _ (scratchAfter p s t list old) e;
     }

@@ -1,6 +1,6 @@
 -- What Draw answers and leaves on the bench, as Checks.antt says it of the others.
 use Prim.Native.Nat.{ℕ}
-use mathlib.Core.Path.{_≡_, refl}
+use mathlib.Core.Path.{_≡_}
 use mathlib.Core.List.{List}
 use lib.ListN.{length}
 use Rattle.grid.specs.declared.Panel.{Panel}
@@ -18,5 +18,5 @@ module _ (p : Panel) (s t : Cell) (old : List ℕ) where
   pub draw-passed : {new : List ℕ} {a : CellsAnswer} → checkBench p ≡ Good → Draws p s t old new a → BenchDraws p s t old new a
   draw-passed e d = record { gives = cells-passed p (drawCheck p s t (length old)) (orderCount p s t) e (d .gives); leaves = d .leaves }
 
-  pub draw-refused : {r : Refusal} → checkBench p ≡ Refused r → BenchDraws p s t old old (cells.Refused r)
-  draw-refused e = record { gives = cells-refused p (drawCheck p s t (length old)) (orderCount p s t) e; leaves = refl }
+  pub draw-refused : {new : List ℕ} {r : Refusal} → checkBench p ≡ Refused r → new ≡ old → BenchDraws p s t old new (cells.Refused r)
+  draw-refused e l = record { gives = cells-refused p (drawCheck p s t (length old)) (orderCount p s t) e; leaves = l }
