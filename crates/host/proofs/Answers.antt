@@ -16,6 +16,8 @@ use Rattle.grid.specs.Check.{checkOrder, expect}
 use Rattle.grid.specs.Answer.{given, cellsValues, GivesCells}
 use Rattle.grid.proofs.Facts.{area-small}
 use Rattle.grid.proofs.Passed.{after-passed, after-rest, good-order}
+use Rattle.bound.specs.declared.BoundAnswer.{BoundAnswer}
+use Rattle.bound.specs.Bound.{boundValues, GivesBound}
 use Rattle.count.specs.Order.{orderClass, orderCount}
 use Rattle.count.proofs.Terminals.{order-bounds, order-class-small}
 use Rattle.draw.specs.Draw.{drawCheck}
@@ -34,9 +36,6 @@ module _ (p : Panel) (s t : Cell) where
       let g = good-order p s t e in
       omega (arith, order-bounds p s t (g .entry) (g .exit) .1, area-small (g .panel .sides))
 
-  pub class-fits : given (checkOrder p s t) (orderClass p s t) < 2 ^ 8
-  class-fits = omega (arith, given-most (checkOrder p s t) (orderClass p s t) 6 (λ e. order-class-small p s t))
-
   pub draw-small : (size : ℕ) → drawCheck p s t size ≡ Good → orderCount p s t ≤ 16384
   draw-small size e = order-small (after-passed (checkOrder p s t) (expect (leb (2 * orderCount p s t) size) ShortBuffer Good) e)
 
@@ -47,8 +46,20 @@ module _ (p : Panel) (s t : Cell) where
       let z = sized p s t (length list) room (after-passed sizes cells e) in
       omega (arith, few p s t (cellsIn list) (after-rest sizes cells e), area-small (z .ordered .panel .sides))
 
-pub count-fits : (c : Check) (k : ℕ) → (c ≡ Good → k ≤ 16384) → given c k < 2 ^ 24
+count-fits : (c : Check) (k : ℕ) → (c ≡ Good → k ≤ 16384) → given c k < 2 ^ 24
 count-fits c k h = omega (arith, given-most c k 16384 h)
+
+-- an answer in class and count
+module _ {c : Check} {p : Panel} {s t : Cell} {a : BoundAnswer} (g : GivesBound c p s t a) where
+  pub bound-fits : (c ≡ Good → orderCount p s t ≤ 16384) → ((boundValues a) .class < 2 ^ 8) × ((boundValues a) .count .0 < 2 ^ 24)
+  bound-fits h = (
+    omega (arith, g .class, given-most c (orderClass p s t) 6 (λ e. order-class-small p s t)),
+    omega (arith, g .count, count-fits c (orderCount p s t) h),
+  )
+
+  pub bound-packed : {r : ℕ} → r ≡ packed ((boundValues a) .refusal) ((boundValues a) .class) ((boundValues a) .count .0)
+      → r ≡ packedBehind c (orderClass p s t) (orderCount p s t)
+  bound-packed e = e ∙ (λ i. packed (g .number i) (g .class i) (g .count i))
 
 -- an answer in cells
 module _ {c : Check} {k : ℕ} {a : CellsAnswer} (g : GivesCells c k a) where

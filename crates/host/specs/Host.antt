@@ -12,6 +12,7 @@ use Rattle.grid.specs.Answer.{refusalNumber, given, cellsAnswer}
 use Rattle.count.specs.Order.{orderClass, orderCount}
 use Rattle.draw.specs.Draw.{drawCheck, Leaves}
 use Rattle.judge.specs.Judge.{judgeCheck, scratchAfter}
+use Rattle.bench.specs.Bench.{onBench, benchScratch}
 
 -- refusal · 2^32 + class · 2^24 + count
 abbrev pub packed : ℕ → ℕ → ℕ → ℕ
@@ -44,3 +45,15 @@ pub record PacksDraw (p : Panel) (s t : Cell) (old new : List ℕ) (r : ℕ) : T
 pub record PacksJudge (p : Panel) (s t : Cell) (list old new : List ℕ) (r : ℕ) : Type 0 where
   pub packs : r ≡ packedBehind (judgeCheck p s t list (length old)) 0 (length (cellsIn list))
   pub scratch : new ≡ scratchAfter p s t list old
+
+-- the same of the bench's calls
+pub record PacksBenchBound (p : Panel) (s t : Cell) (r : ℕ) : Type 0 where
+  pub packs : r ≡ packedBehind (onBench p (checkOrder p s t)) (orderClass p s t) (orderCount p s t)
+
+pub record PacksBenchDraw (p : Panel) (s t : Cell) (old new : List ℕ) (r : ℕ) : Type 0 where
+  pub packs : r ≡ packedBehind (onBench p (drawCheck p s t (length old))) 0 (orderCount p s t)
+  pub leaves : Leaves p s t old new (cellsAnswer (onBench p (drawCheck p s t (length old))) (orderCount p s t))
+
+pub record PacksBenchJudge (p : Panel) (s t : Cell) (list old new : List ℕ) (r : ℕ) : Type 0 where
+  pub packs : r ≡ packedBehind (onBench p (judgeCheck p s t list (length old))) 0 (length (cellsIn list))
+  pub scratch : new ≡ benchScratch p s t list old

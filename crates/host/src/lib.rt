@@ -1,5 +1,7 @@
 // The calls of the order desk's C host: each takes numbers and byte slices, and gives refusal, class
 // and count packed in one number. host/foil.h declares them.
+use bound::BoundAnswer;
+use bound::bound_values;
 use grid::Cell;
 use grid::Cells;
 use grid::CellsAnswer;
@@ -10,7 +12,8 @@ ghost use mathlib.Core.Path.{_≡_};
 ghost use Prim.Native.Nat.{_<_, _^_};
 ghost use Rattle.grid.specs.Panel.{panel, cell};
 ghost use Rattle.grid.specs.Answer.{cellsValues};
-ghost use Rattle.host.specs.Host.{packed, PacksBound, PacksDraw, PacksJudge};
+ghost use Rattle.bound.specs.Bound.{boundValues};
+ghost use Rattle.host.specs.Host.{packed, PacksBound, PacksDraw, PacksJudge, PacksBenchBound, PacksBenchDraw, PacksBenchJudge};
 
 const REFUSAL_UNIT: u64 = 4294967296;
 
@@ -41,6 +44,15 @@ fn pack(refusal: u32, class: u32, count: Cells) -> u64
     (refusal as u64) * REFUSAL_UNIT + (class as u64) * CLASS_UNIT + (count.0 as u64)
 }
 
+fn pack_bound(a: BoundAnswer) -> u64
+    requires { ⌜ (boundValues a) .class < 2 ^ 8 ⌝ }
+    requires { ⌜ (boundValues a) .count .0 < 2 ^ 24 ⌝ }
+    ensures { λ r. ⌜ r ≡ packed ((boundValues a) .refusal) ((boundValues a) .class) ((boundValues a) .count .0) ⌝ }
+{
+    let v = bound_values(a);
+    pack(v.refusal, v.class, v.count)
+}
+
 // An answer without a class.
 fn pack_cells(a: CellsAnswer) -> u64
     requires { ⌜ (cellsValues a) .cells .0 < 2 ^ 24 ⌝ }
@@ -56,8 +68,7 @@ pub extern "C" fn foil_bound(m: u32, n: u32, pitch: u32, sx: u32, sy: u32, tx: u
     ensures { λ r. ⌜ PacksBound (panel m n pitch) (cell sx sy) (cell tx ty) r ⌝ }
 {
     let o = order_of(m, n, pitch, sx, sy, tx, ty);
-    let v = bound::bound_values(bound::bound(o.panel, o.entry, o.exit));
-    pack(v.refusal, v.class, v.count)
+    pack_bound(bound::bound(o.panel, o.entry, o.exit))
 }
 
 // Draw: refusal · 2^32 + count.
@@ -95,4 +106,56 @@ pub extern "C" fn foil_judge(
 {
     let o = order_of(m, n, pitch, sx, sy, tx, ty);
     pack_cells(judge::judge(o.panel, o.entry, o.exit, list, scratch))
+}
+
+// The same three calls for the bench, with the same parameters.
+#[no_mangle]
+pub extern "C" fn foil_bench_bound(
+    m: u32,
+    n: u32,
+    pitch: u32,
+    sx: u32,
+    sy: u32,
+    tx: u32,
+    ty: u32,
+) -> u64
+    ensures { λ r. ⌜ PacksBenchBound (panel m n pitch) (cell sx sy) (cell tx ty) r ⌝ }
+{
+    let o = order_of(m, n, pitch, sx, sy, tx, ty);
+    pack_bound(bench::bound(o.panel, o.entry, o.exit))
+}
+
+#[no_mangle]
+pub extern "C" fn foil_bench_draw(
+    m: u32,
+    n: u32,
+    pitch: u32,
+    sx: u32,
+    sy: u32,
+    tx: u32,
+    ty: u32,
+    buffer: &mut [u8],
+) -> u64
+    ensures { λ r. ⌜ PacksBenchDraw (panel m n pitch) (cell sx sy) (cell tx ty) (now (buffer .entry)) (now (buffer .exit)) r ⌝ }
+{
+    let o = order_of(m, n, pitch, sx, sy, tx, ty);
+    pack_cells(bench::draw(o.panel, o.entry, o.exit, buffer))
+}
+
+#[no_mangle]
+pub extern "C" fn foil_bench_judge(
+    m: u32,
+    n: u32,
+    pitch: u32,
+    sx: u32,
+    sy: u32,
+    tx: u32,
+    ty: u32,
+    list: &[u8],
+    scratch: &mut [u8],
+) -> u64
+    ensures { λ r. ⌜ PacksBenchJudge (panel m n pitch) (cell sx sy) (cell tx ty) (now (list .entry)) (now (scratch .entry)) (now (scratch .exit)) r ⌝ }
+{
+    let o = order_of(m, n, pitch, sx, sy, tx, ty);
+    pack_cells(bench::judge(o.panel, o.entry, o.exit, list, scratch))
 }
