@@ -1,18 +1,8 @@
 -- The three parts are those of Bound's answer on the bench, and fit.
 use borrow.Author.Needs.{needs}
-use mathlib.Core.Path.{subst}
-use Rattle.grid.specs.Panel.{panel, cell}
-use Rattle.grid.proofs.Passed.{after-rest}
-use Rattle.bench.specs.Bench.{checkBench, BenchBounds}
-use Rattle.host.specs.declared.Order.{Order}
-use Rattle.host.proofs.Answers.{order-small, bound-fits, bound-packed}
+use Rattle.host.proofs.Answers.{bench-bound-fits, bench-bound-packed}
 use Rattle.host.proofs.foil_bench_bound.Statement.{statement}
 use Rattle.host.proofs.foil_bench_bound.Tie as tie
-
--- the promise of the order's seven numbers
-bounded : (c : tie.After-bound) → let a = c .before .before .args in
-    BenchBounds (panel (a .m) (a .n) (a .pitch)) (cell (a .sx) (a .sy)) (cell (a .tx) (a .ty)) (c .bound .result)
-bounded c = subst (λ (o : Order). BenchBounds (o .panel) (o .entry) (o .exit) (c .bound .result)) (c .before .order-of .ensures) (c .bound .ensures)
 
 order-of-requires : tie.Need-order-of-requires
 order-of-requires c κs = search needs
@@ -21,12 +11,10 @@ bound-requires : tie.Need-bound-requires
 bound-requires c κs = search needs
 
 pack-bound-requires : tie.Need-pack-bound-requires
-pack-bound-requires c κs =
-    let a = c .before .before .args in
-    bound-fits (bounded c) (λ e. order-small _ _ _ (after-rest (checkBench (panel (a .m) (a .n) (a .pitch))) _ e))
+pack-bound-requires c κs = bench-bound-fits (c .bound .ensures)
 
 returns : tie.Need-returns
-returns c = record { packs = bound-packed (bounded (c .before)) (c .pack-bound .ensures) }
+returns c = rw (c .before .before .order-of .ensures) at (bench-bound-packed (c .before .bound .ensures) (c .pack-bound .ensures))
 
 pub foil-bench-bound-spec : {M : Type 1} → statement M
 foil-bench-bound-spec = tie.close (tie.spec order-of-requires bound-requires pack-bound-requires returns)
