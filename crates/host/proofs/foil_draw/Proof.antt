@@ -10,14 +10,14 @@ order-of-requires c κs = search needs
 draw-requires : tie.Need-draw-requires
 draw-requires c κs = search needs
 
+returns : tie.Need-returns
+returns c = rw (c .before .before .before .before .before .order-of .ensures) at (draw-packed (c .before .before .before .draw .ensures) (c .pack-cells .ensures))
+
 pack-cells-requires : tie.Need-pack-cells-requires
 pack-cells-requires c κs = draw-fits (c .before .before .draw .ensures)
 
 same-length : tie.Need-same-length
 same-length c = search needs
-
-returns : tie.Need-returns
-returns c = rw (c .before .before .before .before .before .order-of .ensures) at (draw-packed (c .before .before .before .draw .ensures) (c .pack-cells .ensures))
 
 pub foil-draw-spec : {M : Type 1} → statement M
 foil-draw-spec = tie.close (tie.spec order-of-requires draw-requires pack-cells-requires same-length returns)

@@ -10,14 +10,14 @@ order-of-requires c κs = search needs
 judge-requires : tie.Need-judge-requires
 judge-requires c κs = search needs
 
+returns : tie.Need-returns
+returns c = rw (c .before .before .before .before .before .order-of .ensures) at (judge-packed (c .before .before .before .judge .ensures) (c .pack-cells .ensures))
+
 pack-cells-requires : tie.Need-pack-cells-requires
 pack-cells-requires c κs = judge-fits (c .before .before .judge .ensures)
 
 same-length : tie.Need-same-length
 same-length c = search needs
-
-returns : tie.Need-returns
-returns c = rw (c .before .before .before .before .before .order-of .ensures) at (judge-packed (c .before .before .before .judge .ensures) (c .pack-cells .ensures))
 
 pub foil-judge-spec : {M : Type 1} → statement M
 foil-judge-spec = tie.close (tie.spec order-of-requires judge-requires pack-cells-requires same-length returns)
