@@ -1,7 +1,7 @@
 -- R-7: on a panel that both take, the bench's calls and those for large panels give equal answers and leave equal buffers. Asked for are sides of
 -- at most 32 alone: where such a panel is refused, both refuse it alike.
 use Prim.Native.Nat.{ℕ, _≤_}
-use mathlib.Core.Path.{_≡_, refl, sym, ap, _∙_}
+use mathlib.Core.Path.{_≡_, refl, sym, ap, _∙_, subst₂}
 use mathlib.Core.Bool.{Bool, true}
 use mathlib.Core.List.{List}
 use lib.ListN.{length}
@@ -12,16 +12,18 @@ use Rattle.grid.specs.declared.Refusal.the-variants.{BenchSide}
 use Rattle.grid.specs.declared.Check.{Check}
 use Rattle.grid.specs.declared.Check.the-variants.{Good, Refused}
 use Rattle.grid.specs.declared.CellsAnswer.{CellsAnswer}
-use Rattle.grid.specs.Check.{expect, after, checkPanel, checkEntry, checkOrder}
+use Rattle.grid.specs.Check.{expect, after, answer, checkPanel, checkEntry, checkOrder}
 use Rattle.grid.specs.Answer.{cellsAnswer, GivesCells}
 use Rattle.grid.proofs.Facts.{and-both}
 use Rattle.grid.proofs.Tests.{after-after}
 use Rattle.grid.proofs.Answers.{answer-after}
 use Rattle.bound.specs.declared.BoundAnswer.{BoundAnswer}
 use Rattle.bound.specs.Bound.{boundAnswer, Bounds}
-use Rattle.draw.specs.Draw.{drawCheck, Draws}
+use Rattle.list.specs.List.{withCells}
+use Rattle.draw.specs.Track.{drawnTrack}
+use Rattle.draw.specs.Draw.{drawCheck, Draws, drawBuffer}
 use Rattle.judge.specs.Judge.{sizesCheck, judgeCheck, scratchAfter, Judges}
-use Rattle.bench.specs.Bench.{benchSide, fitsBench, checkBench, onBench, benchScratch, BenchBounds, BenchDraws, BenchJudges}
+use Rattle.bench.specs.Bench.{benchSide, fitsBench, checkBench, onBench, benchBuffer, benchScratch, BenchBounds, BenchDraws, BenchJudges}
 
 -- ---- checks that test the panel first: to test it before them changes nothing
 
@@ -76,8 +78,17 @@ module _ (p : Panel) (w : p .width ≤ benchSide) (h : p .height ≤ benchSide) 
     pub bound-same : {r r' : BoundAnswer} → BenchBounds p s t r → Bounds p s t r' → r ≡ r'
     bound-same b b' = b .answers ∙ ap (λ (c : Check). boundAnswer c p s t) order-same ∙ sym (b' .answers)
 
-    pub draw-answer-same : {old new new' : List ℕ} {r r' : CellsAnswer} → BenchDraws p s t old new r → Draws p s t old new' r' → r ≡ r'
-    draw-answer-same {old} d d' = cells-same (draw-check-same (length old)) (d .gives) (d' .gives)
+    module _ {old new new' : List ℕ} {r r' : CellsAnswer}
+        (b : BenchDraws p s t old new r × (new ≡ benchBuffer p s t old)) (d : Draws p s t old new' r' × (new' ≡ drawBuffer p s t old)) where
+      pub draw-same : (r ≡ r') × (new ≡ new')
+      draw-same =
+          let e = draw-check-same (length old) in
+          let track = withCells (drawnTrack (p .width) (p .height) s t) old in
+          (cells-same e (b .0 .gives) (d .0 .gives), b .1 ∙ ap (λ (c : Check). answer c (λ q. old) track) e ∙ sym (d .1))
+
+      -- so the longest-track sentence, which is of the large call, holds of what the bench answers and leaves
+      pub bench-longest : Draws p s t old new r
+      bench-longest = subst₂ (λ (r : CellsAnswer) (new : List ℕ). Draws p s t old new r) (sym (draw-same .0)) (sym (draw-same .1)) (d .0)
 
     pub judge-same : {list old new new' : List ℕ} {r r' : CellsAnswer}
         → BenchJudges p s t list old new r → Judges p s t list old new' r' → (r ≡ r') × (new ≡ new')

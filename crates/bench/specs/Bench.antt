@@ -18,6 +18,8 @@ use Rattle.grid.specs.Answer.{GivesCells}
 use Rattle.count.specs.Order.{orderCount}
 use Rattle.bound.specs.declared.BoundAnswer.{BoundAnswer}
 use Rattle.bound.specs.Bound.{GivesBound}
+use Rattle.list.specs.List.{withCells}
+use Rattle.draw.specs.Track.{drawnTrack}
 use Rattle.draw.specs.Draw.{drawCheck, Leaves}
 use Rattle.judge.specs.Judge.{judgeCheck, scratchAfter}
 
@@ -44,6 +46,10 @@ BenchBounds p s t r = GivesBound (onBench p (checkOrder p s t)) p s t r
 pub record BenchDraws (p : Panel) (s t : Cell) (old new : List ℕ) (r : CellsAnswer) : Type 0 where
   pub gives : GivesCells (onBench p (drawCheck p s t (length old))) (orderCount p s t) r
   pub leaves : Leaves p s t old new r
+
+-- which longest track it is: the buffer after the call, as it was where the check refuses, else with Draw's track at its front
+abbrev pub benchBuffer : Panel → Cell → Cell → List ℕ → List ℕ
+benchBuffer p s t old = answer (onBench p (drawCheck p s t (length old))) (λ r. old) (withCells (drawnTrack (p .width) (p .height) s t) old)
 
 -- scratch after the call: untouched where 1, 18 or 19 is met, else as Judge leaves it
 abbrev pub benchScratch : Panel → Cell → Cell → List ℕ → List ℕ → List ℕ

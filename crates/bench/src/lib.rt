@@ -10,7 +10,7 @@ use grid::after;
 use grid::check_panel;
 use grid::expect;
 ghost use mathlib.Core.Path.{_≡_};
-ghost use Rattle.bench.specs.Bench.{fitsBench, checkBench, BenchBounds, BenchDraws, BenchJudges};
+ghost use Rattle.bench.specs.Bench.{fitsBench, checkBench, BenchBounds, BenchDraws, benchBuffer, BenchJudges};
 
 // The largest side of a panel on the bench.
 const BENCH_SIDE: u32 = 32;
@@ -47,6 +47,7 @@ pub fn bound(p: Panel, entry: Cell, exit: Cell) -> BoundAnswer
 // Draw on the bench.
 pub fn draw(p: Panel, entry: Cell, exit: Cell, buf: &mut [u8]) -> CellsAnswer
     ensures { λ r. ⌜ BenchDraws p entry exit (now (buf .entry)) (now (buf .exit)) r ⌝ }
+    ensures cells { λ _. ⌜ now (buf .exit) ≡ benchBuffer p entry exit (now (buf .entry)) ⌝ }
 {
     let c = check_bench(p);
     if let Check::Refused(r) = c {
