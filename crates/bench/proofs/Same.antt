@@ -66,10 +66,13 @@ module _ (p : Panel) (w : p .width ≤ benchSide) (h : p .height ≤ benchSide) 
     pub judge-check-same : (list : List ℕ) (room : ℕ) → onBench p (judgeCheck p s t list room) ≡ judgeCheck p s t list room
     judge-check-same list room = same _ (then p (sizesCheck p s t (length list) room) _ (sizes-first p s t (length list) room))
 
-    scratch-same : (list old : List ℕ) → benchScratch p s t list old ≡ scratchAfter p s t list old
+    pub scratch-same : (list old : List ℕ) → benchScratch p s t list old ≡ scratchAfter p s t list old
     scratch-same list old =
         let sizes = sizesCheck p s t (length list) (length old) in
         answer-after (checkBench p) sizes _ _ (same sizes (sizes-first p s t (length list) (length old)))
+
+    pub buffer-same : (old : List ℕ) → benchBuffer p s t old ≡ drawBuffer p s t old
+    buffer-same old = ap (λ (c : Check). answer c (λ r. old) (withCells (drawnTrack (p .width) (p .height) s t) old)) (draw-check-same (length old))
 
     -- two answers in cells behind equal checks
     cells-same : {c d : Check} {k : ℕ} {r r' : CellsAnswer} → c ≡ d → GivesCells c k r → GivesCells d k r' → r ≡ r'
@@ -81,10 +84,7 @@ module _ (p : Panel) (w : p .width ≤ benchSide) (h : p .height ≤ benchSide) 
     module _ {old new new' : List ℕ} {r r' : CellsAnswer}
         (b : BenchDraws p s t old new r × (new ≡ benchBuffer p s t old)) (d : Draws p s t old new' r' × (new' ≡ drawBuffer p s t old)) where
       pub draw-same : (r ≡ r') × (new ≡ new')
-      draw-same =
-          let e = draw-check-same (length old) in
-          let track = withCells (drawnTrack (p .width) (p .height) s t) old in
-          (cells-same e (b .0 .gives) (d .0 .gives), b .1 ∙ ap (λ (c : Check). answer c (λ q. old) track) e ∙ sym (d .1))
+      draw-same = (cells-same (draw-check-same (length old)) (b .0 .gives) (d .0 .gives), b .1 ∙ buffer-same old ∙ sym (d .1))
 
       -- so the longest-track sentence, which is of the large call, holds of what the bench answers and leaves
       pub bench-longest : Draws p s t old new r

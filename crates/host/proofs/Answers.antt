@@ -20,10 +20,10 @@ use Rattle.count.specs.Order.{orderClass, orderCount}
 use Rattle.count.proofs.Terminals.{order-bounds, order-class-small}
 use Rattle.bound.specs.declared.BoundAnswer.{BoundAnswer}
 use Rattle.bound.specs.Bound.{boundValues, GivesBound, Bounds}
-use Rattle.draw.specs.Draw.{drawCheck, Leaves, Draws}
+use Rattle.draw.specs.Draw.{drawCheck, Leaves, Draws, drawBuffer}
 use Rattle.judge.specs.Judge.{sizesCheck, cellsCheck, judgeCheck, Judges}
 use Rattle.judge.proofs.Checks.{sized, few}
-use Rattle.bench.specs.Bench.{checkBench, onBench, BenchBounds, BenchDraws, BenchJudges}
+use Rattle.bench.specs.Bench.{checkBench, onBench, BenchBounds, BenchDraws, benchBuffer, BenchJudges}
 use Rattle.host.specs.Host.{packed, packedBehind, PacksBound, PacksDraw, PacksJudge, PacksBenchBound, PacksBenchDraw, PacksBenchJudge}
 
 -- a value is as small behind its check as where the check is good
@@ -112,14 +112,14 @@ module _ {p : Panel} {s t : Cell} {old new : List ℕ} {a : CellsAnswer} where
   pub draw-fits : Draws p s t old new a → CellsFit a
   draw-fits d = fit-cells (d .gives) (draw-small p s t (length old))
 
-  pub draw-packed : {r : ℕ} → Draws p s t old new a → CellsPacked a r → PacksDraw p s t old new r
-  draw-packed d e = record { packs = behind-cells (d .gives) e; leaves = leaves-given (d .gives) p s t old new (d .leaves) }
+  pub draw-packed : {r : ℕ} → Draws p s t old new a × (new ≡ drawBuffer p s t old) → CellsPacked a r → PacksDraw p s t old new r
+  draw-packed (d, w) e = record { packs = behind-cells (d .gives) e; leaves = leaves-given (d .gives) p s t old new (d .leaves); cells = w }
 
   pub bench-draw-fits : BenchDraws p s t old new a → CellsFit a
   bench-draw-fits d = fit-cells (d .gives) (on-bench p (drawCheck p s t (length old)) (draw-small p s t (length old)))
 
-  pub bench-draw-packed : {r : ℕ} → BenchDraws p s t old new a → CellsPacked a r → PacksBenchDraw p s t old new r
-  bench-draw-packed d e = record { packs = behind-cells (d .gives) e; leaves = leaves-given (d .gives) p s t old new (d .leaves) }
+  pub bench-draw-packed : {r : ℕ} → BenchDraws p s t old new a × (new ≡ benchBuffer p s t old) → CellsPacked a r → PacksBenchDraw p s t old new r
+  bench-draw-packed (d, w) e = record { packs = behind-cells (d .gives) e; leaves = leaves-given (d .gives) p s t old new (d .leaves); cells = w }
 
 module _ {p : Panel} {s t : Cell} {list old new : List ℕ} {a : CellsAnswer} where
   pub judge-fits : Judges p s t list old new a → CellsFit a

@@ -14,7 +14,7 @@ returns : tie.Need-returns
 returns c = rw (c .before .before .before .before .before .order-of .ensures) at (draw-packed (c .before .before .before .draw .ensures) (c .pack-cells .ensures))
 
 pack-cells-requires : tie.Need-pack-cells-requires
-pack-cells-requires c κs = draw-fits (c .before .before .draw .ensures)
+pack-cells-requires c κs = draw-fits (c .before .before .draw .ensures .0)
 
 same-length : tie.Need-same-length
 same-length c = search needs
