@@ -12,7 +12,8 @@ use Rattle.grid.proofs.Tests.{cond-yes, cond-no, both-branches}
 use Rattle.line.proofs.Between.{by-eq}
 use Rattle.corner.specs.declared.Lines.{Lines}
 use Rattle.corner.specs.Corner.{cornerCount}
-use Rattle.corner.specs.Peel.{Open, chosen}
+use Rattle.corner.specs.Cells.{chosen}
+use Rattle.corner.specs.Peel.{Open}
 use Rattle.corner.proofs.Chosen.{Turned, First, GoFirst}
 
 -- ---- the count, case by case

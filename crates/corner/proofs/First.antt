@@ -23,7 +23,8 @@ use Rattle.corner.specs.declared.Peeled.{Peeled}
 use Rattle.corner.specs.declared.Sizes.{Sizes}
 use Rattle.corner.specs.declared.Lines.{Lines}
 use Rattle.corner.specs.Corner.{cornerCount, trackCount}
-use Rattle.corner.specs.Peel.{oneLine, Measured, Open, chosen, Sides, FirstSides, firstLines, peeled}
+use Rattle.corner.specs.Cells.{oneLine, chosen, firstLines, peeled}
+use Rattle.corner.specs.Peel.{Measured, Open, Sides, FirstSides}
 use Rattle.corner.proofs.Chosen.{Turned, First, GoFirst, Peel}
 use Rattle.corner.proofs.Count.{chosen-right, count-turned, count-thin, count-flat, count-here}
 

@@ -18,7 +18,7 @@ use Rattle.line.proofs.Frame.{first-inside, inside-part}
 use Rattle.line.proofs.Sweep.{sweep-track, length-sweep}
 use Rattle.corner.specs.declared.Peeled.{Peeled}
 use Rattle.corner.specs.Corner.{trackCount}
-use Rattle.corner.specs.Peel.{oneLine, peeled, cornerFrom, cornerCells}
+use Rattle.corner.specs.Cells.{oneLine, peeled, cornerFrom, cornerCells}
 use Rattle.corner.proofs.Chosen.{Peel}
 use Rattle.corner.proofs.First.{Only, only, peel-right}
 

@@ -12,7 +12,8 @@ ghost use Rattle.grid.specs.Panel.{dist};
 ghost use Rattle.line.specs.Rectangle.{ahead, turning};
 ghost use mathlib.Core.List.{reverse};
 ghost use Rattle.corner.specs.Corner.{Inside, trackCount};
-ghost use Rattle.corner.specs.Peel.{oneLine, Measured, Open, chosen, place, Sides, linesOff, FirstSides, firstLines, peeled, cornerCells};
+ghost use Rattle.corner.specs.Cells.{oneLine, chosen, place, linesOff, firstLines, peeled, cornerCells};
+ghost use Rattle.corner.specs.Peel.{Measured, Open, Sides, FirstSides};
 ghost use Rattle.corner.specs.Drawn.{InBytes, Ready, written};
 
 // k steps from p towards q.

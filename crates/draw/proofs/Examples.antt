@@ -5,7 +5,7 @@ use Rattle.grid.specs.Panel.{cell, dist}
 use Rattle.grid.specs.Bytes.{bytes}
 use Rattle.line.specs.Rectangle.{ahead, turning}
 use Rattle.line.specs.Sweep.{sweep}
-use Rattle.corner.specs.Peel.{chosen, peeled, cornerCells}
+use Rattle.corner.specs.Cells.{chosen, peeled, cornerCells}
 use Rattle.plan.specs.Plan.{twoRows, wide, planOf}
 use Rattle.table.specs.Table.{placingFrom, placing, tabled}
 use Rattle.draw.specs.Track.{drawnTrack}

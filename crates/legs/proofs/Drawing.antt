@@ -14,7 +14,7 @@ use Rattle.grid.specs.Bytes.{bytes}
 use Rattle.line.specs.Rectangle.{Inside}
 use Rattle.line.specs.Drawn.{written}
 use Rattle.line.proofs.Drawn.{part-behind, part-long, written-long}
-use Rattle.corner.specs.Peel.{cornerCells}
+use Rattle.corner.specs.Cells.{cornerCells}
 use Rattle.corner.specs.Drawn.{Ready}
 use Rattle.corner.proofs.First.{track-most}
 use Rattle.plan.specs.declared.Leg.{Leg}

@@ -14,7 +14,7 @@ use Rattle.grid.specs.Track.{TrackIn, Track}
 use Rattle.grid.proofs.Facts.{beside-sym}
 use Rattle.grid.proofs.Track.{join, widen, backwards}
 use Rattle.line.specs.Rectangle.{Inside}
-use Rattle.corner.specs.Peel.{cornerCells}
+use Rattle.corner.specs.Cells.{cornerCells}
 use Rattle.corner.proofs.Track.{corner-track, length-corner}
 use Rattle.plan.specs.declared.Leg.{Leg}
 use Rattle.plan.specs.declared.Plan.{Plan}

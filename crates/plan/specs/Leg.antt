@@ -6,7 +6,7 @@ use mathlib.Core.List.{List, [], _∷_, _++_, reverse}
 use Rattle.grid.specs.declared.Cell.{Cell}
 pub use Rattle.grid.specs.Panel.{cell}
 use Rattle.corner.specs.Corner.{trackCount}
-use Rattle.corner.specs.Peel.{cornerCells}
+use Rattle.corner.specs.Cells.{cornerCells}
 use Rattle.plan.specs.declared.Leg.{Leg}
 use Rattle.plan.specs.declared.Plan.{Plan}
 use Rattle.plan.specs.declared.Plan.the-variants.{One, Two, Three, Five}

@@ -22,7 +22,7 @@ use Rattle.grid.proofs.Answers.{gives-cells}
 use Rattle.grid.proofs.Tests.{cond-yes, cond-no, answer-good, answer-refused}
 use Rattle.line.specs.Rectangle.{Inside}
 use Rattle.corner.specs.Corner.{trackCount, cornerCount}
-use Rattle.corner.specs.Peel.{cornerCells}
+use Rattle.corner.specs.Cells.{cornerCells}
 use Rattle.corner.specs.Drawn.{Ready}
 use Rattle.line.specs.Drawn.{written}
 use Rattle.line.proofs.Drawn.{written-front, written-behind}

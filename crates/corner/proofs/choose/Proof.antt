@@ -4,7 +4,7 @@ use native.Mathlib.Omega.{arith}
 use borrow.Author.Needs.{needs}
 use borrow.Author.Tests.{eq-eqb, ne-eqb, lt-ltb, le-ltb}
 use Rattle.grid.proofs.Tests.{cond-yes, cond-no}
-use Rattle.corner.specs.Peel.{chosen}
+use Rattle.corner.specs.Cells.{chosen}
 use Rattle.corner.proofs.choose.Statement.{statement}
 use Rattle.corner.proofs.choose.Tie as tie
 
