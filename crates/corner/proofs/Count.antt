@@ -1,20 +1,43 @@
--- The count of a corner track: the lines that go first, and the track of what remains, have the count's cells together.
+-- The count of a corner track, computed for some and then by law: the lines that go first, and the track of what remains, have the count's cells together.
 -- Outside the degenerate cases w * h + dx + dy keeps its parity when a row is taken away, so the rest is linear with w * h as an unknown.
 use Prim.Native.Nat.{ℕ, _+_, _-_, _*_, _/_, _%_, _≤_, _<_}
 use mathlib.Core.Path.{_≡_, refl, sym, ap, _∙_}
 use mathlib.Core.Logic.{_≢_}
+use mathlib.Core.List.{[], _∷_}
 use native.Mathlib.Omega.{arith}
 use native.Mathlib.Nat.{mul-comm, mul-one, mul-suc, mul-add, mul-pos}
 use native.Mathlib.Numerals.{add-one}
 use lib.Dec.{ltb, eqb}
+use lib.ListN.{length}
 use borrow.Author.Tests.{eq-eqb, ne-eqb, eqb-true, eqb-false, ltb-true, ltb-false}
+use Rattle.grid.specs.declared.Cell.{Cell}
+use Rattle.grid.specs.Panel.{cell, dist}
+use Rattle.grid.specs.Bytes.{bytes}
 use Rattle.grid.proofs.Tests.{cond-yes, cond-no, both-branches}
+use Rattle.line.specs.Rectangle.{ahead, turning}
+use Rattle.line.specs.Sweep.{sweep}
 use Rattle.line.proofs.Between.{by-eq}
 use Rattle.corner.specs.declared.Lines.{Lines}
-use Rattle.corner.specs.Corner.{cornerCount}
-use Rattle.corner.specs.Cells.{chosen}
+use Rattle.corner.specs.Corner.{cornerCount, trackCount}
+use Rattle.corner.specs.Cells.{chosen, peeled, cornerCells}
 use Rattle.corner.specs.Peel.{Open}
 use Rattle.corner.proofs.Chosen.{Turned, First, GoFirst}
+
+-- ---- some corner tracks, computed: a wrong choice of lines, or another one with as many cells, shows here by its numbers
+
+-- by how many cells the track from the corner (1, 1) of 4 by 3 cells to one of them misses the count
+abbrev off : Cell → ℕ
+off t = dist (length (cornerCells (cell 1 1) (cell 4 3) t)) (trackCount (cell 1 1) (cell 4 3) t)
+
+corners-counted : off (cell 2 1) + off (cell 1 2) + off (cell 3 2) + off (cell 4 2) + off (cell 2 3) + off (cell 4 3) ≡ 0
+unfolding dist ahead turning sweep chosen peeled cornerCells cornerCount trackCount
+corners-counted = refl
+
+-- 3 by 3 to the opposite corner, rows first; 2 by 3, upright, to the corner below
+corners-shown : (bytes (cornerCells (cell 1 1) (cell 3 3) (cell 3 3)) ≡ 1 ∷ 1 ∷ 2 ∷ 1 ∷ 3 ∷ 1 ∷ 3 ∷ 2 ∷ 2 ∷ 2 ∷ 1 ∷ 2 ∷ 1 ∷ 3 ∷ 2 ∷ 3 ∷ 3 ∷ 3 ∷ [])
+    × (bytes (cornerCells (cell 1 1) (cell 2 3) (cell 1 3)) ≡ 1 ∷ 1 ∷ 2 ∷ 1 ∷ 2 ∷ 2 ∷ 1 ∷ 2 ∷ 1 ∷ 3 ∷ [])
+unfolding dist ahead turning sweep chosen peeled cornerCells
+corners-shown = (refl, refl)
 
 -- ---- the count, case by case
 
@@ -150,11 +173,11 @@ module _ {w h dx dy : ℕ} (o : Open w h dx dy) where
   two : dy ≡ 1 → dx ≤ 1 → h ≡ 2 → First 1 w h dx dy
   two a b c = row-right w h dx dy (o .across) (o .down) (omega arith) (λ u. b) (λ u v. absurd (u c))
 
-  far : dy ≡ 1 → dx + 1 ≡ w → h ≢ 2 → First 1 h w dy dx
+  far : dy ≡ 1 → dx ≡ w - 1 → h ≢ 2 → First 1 h w dy dx
   far a b c = let z = o .wide in row-right h w dy dx (o .down) (o .across) (omega arith) (λ u. omega arith) (λ u v. omega arith)
 
-  other : dy ≡ 1 → dx + 1 ≢ w → h ≢ 2 → First 1 w h dx dy
-  other a b c = row-right w h dx dy (o .across) (o .down) (omega arith) (λ u. absurd (c u)) (λ u v. omega arith)
+  other : dy ≡ 1 → dx ≢ w - 1 → h ≢ 2 → First 1 w h dx dy
+  other a b c = let z = o .wide in row-right w h dx dy (o .across) (o .down) (omega arith) (λ u. absurd (c u)) (λ u v. omega arith)
 
   -- the lines that are chosen
   abbrev Fine : Lines → Type 0
@@ -172,6 +195,6 @@ module _ {w h dx dy : ℕ} (o : Open w h dx dy) where
       (λ c. both-branches Fine (ltb 1 dx) _ _
       (λ d. let k = ltb-true 1 dx d in rows-right _ _ _ _ _ (o .high) (omega arith) (omega arith) (o .across))
       (λ d. two e (ltb-false 1 dx d) (eqb-true _ _ c)))
-      (λ c. both-branches Fine (eqb dx (w - 1)) _ _
-      (λ d. let k = eqb-true dx (w - 1) d in far e (omega arith) (eqb-false _ _ c))
-      (λ d. other e (λ k. eqb-false dx (w - 1) d (omega arith)) (eqb-false _ _ c)))))
+      (λ c. both-branches Fine _ _ _
+      (λ d. far e (eqb-true _ _ d) (eqb-false _ _ c))
+      (λ d. other e (eqb-false _ _ d) (eqb-false _ _ c)))))

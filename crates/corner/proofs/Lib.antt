@@ -4,4 +4,3 @@ pub mod First
 pub mod Track
 pub mod Forward
 pub mod Backward
-pub mod Examples
