@@ -11,7 +11,9 @@ judge-requires : tie.Need-judge-requires
 judge-requires c κs = search needs
 
 returns : tie.Need-returns
-returns c = rw (c .before .before .before .before .before .order-of .ensures) at (judge-packed (c .before .before .before .judge .ensures) (c .pack-cells .ensures))
+returns c =
+    let call = c .before .before .before in
+    rw (call .before .before .order-of .ensures) at (judge-packed (call .judge .ensures) (c .pack-cells .ensures))
 
 pack-cells-requires : tie.Need-pack-cells-requires
 pack-cells-requires c κs = judge-fits (c .before .before .judge .ensures)
