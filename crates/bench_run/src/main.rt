@@ -27,7 +27,7 @@ const LARGE: usize = 33300;
 // In how many ways an order is tried.
 const WAYS: u32 = 6;
 
-// The orders of the first part in each of these ways, and those that are made up.
+// Nine panels with 5 ^ 4 pairs of terminals in each of these ways; and the orders that are made up.
 const SMALL_TRIALS: u32 = 33750;
 
 const MADE_UP: u32 = 4096;
@@ -64,8 +64,8 @@ struct Seen {
     count: u32,
 }
 
-// How many bytes are lent to Draw, how many of what it left are the list that Judge gets, which of them is
-// changed before (one behind the list: none), and how many bytes of scratch.
+// How many bytes Draw is lent, how many of them Judge then gets for its list, which of these is changed
+// between (one behind the list: none), and how many bytes of scratch Judge is lent.
 struct Sizes {
     buffer: usize,
     list: usize,
