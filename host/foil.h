@@ -73,7 +73,7 @@ uint64_t foil_bound(uint32_t m, uint32_t n, uint32_t pitch,
 
 /* Draw: writes a longest track from entry to exit at the front of the buffer and gives its number of
  * cells, the count of foil_bound. It takes 2 bytes for each cell; FOIL_MAX_BYTES are always enough. For
- * equal terminals it writes that cell.
+ * equal terminals it writes that cell. For the same sides and terminals it is always the same track.
  * Refused, in order: 1, 18, 2, 3; 5, the buffer is shorter than 2 bytes for each cell of the count.
  * After: the bytes behind the track are as before; a refusal changes no byte. The class is 0. */
 uint64_t foil_draw(uint32_t m, uint32_t n, uint32_t pitch,

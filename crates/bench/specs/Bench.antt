@@ -27,6 +27,7 @@ use Rattle.judge.specs.Judge.{judgeCheck, scratchAfter}
 abbrev pub benchSide : ℕ
 benchSide = 32
 
+-- both sides fit it
 abbrev pub fitsBench : Panel → Bool
 fitsBench p = leb (p .width) benchSide && leb (p .height) benchSide
 
