@@ -7,7 +7,6 @@ use Rattle.grid.specs.declared.Cell.{Cell}
 use Rattle.grid.specs.Panel.{dist, Neighbours}
 use Rattle.line.specs.Rectangle.{Inside, cellsBetween, sweepEnd}
 use Rattle.line.specs.Sweep.{sweep}
-use Rattle.corner.specs.declared.Lines.{Lines}
 use Rattle.corner.specs.declared.Peeled.{Peeled}
 use Rattle.corner.specs.Corner.{cornerCount, trackCount}
 

@@ -10,7 +10,7 @@ use native.Mathlib.Nat.{mul-le-mul}
 use lib.Dec.{leb, eqb}
 use borrow.Author.Tests.{eqb-true, eqb-false, eq-eqb, ne-eqb, le-leb, lt-leb}
 use Rattle.grid.specs.declared.Cell.{Cell}
-use Rattle.grid.specs.Panel.{cell, dist}
+use Rattle.grid.specs.Panel.{dist}
 use Rattle.grid.proofs.Tests.{both-branches, cond-yes, cond-no}
 use Rattle.grid.proofs.Facts.{clash, or-cases, dist-sym, ne-cases, same-ne, same-eq}
 use Rattle.line.specs.Rectangle.{Inside, cellsBetween, ahead, turning, sweepEnd}
@@ -23,7 +23,7 @@ use Rattle.corner.specs.declared.Peeled.{Peeled}
 use Rattle.corner.specs.declared.Sizes.{Sizes}
 use Rattle.corner.specs.declared.Lines.{Lines}
 use Rattle.corner.specs.Corner.{cornerCount, trackCount}
-use Rattle.corner.specs.Cells.{oneLine, chosen, firstLines, peeled}
+use Rattle.corner.specs.Cells.{oneLine, chosen, linesBy, firstLines, peeled}
 use Rattle.corner.specs.Peel.{Measured, Open, Sides, FirstSides}
 use Rattle.corner.proofs.Chosen.{Turned, First, GoFirst, Peel}
 use Rattle.corner.proofs.Count.{chosen-right, count-turned, count-thin, count-flat, count-here}
@@ -40,10 +40,6 @@ ends k p p' =
     by-eq (k % 2) 0
     (λ e. Ends.even e (turning-even k p p' e) (turning-even k p' p e))
     (λ e. Ends.odd (omega arith) (turning-odd k p p' e) (turning-odd k p' p e))
-
-ends-here : {k p p' x o : ℕ} → Ends k p p' x o → x ≡ turning k p p'
-ends-here {k} {p} {p'} (Ends.even e f g) = f ∙ sym (turning-even k p p' e)
-ends-here {k} {p} {p'} (Ends.odd e f g) = f ∙ sym (turning-odd k p p' (omega arith))
 
 ends-dist : {k p p' x o : ℕ} → Ends k p p' x o → dist x o ≡ dist p p'
 ends-dist (Ends.even e f g) = λ i. dist (f i) (g i)
@@ -76,18 +72,6 @@ counted-rows = record { count = λ p q p' q' i. refl }
 counted-columns : Counted in-columns
 unfolding in-columns trackCount
 counted-columns = record { count = λ p q p' q' i. count-turned _ _ _ _ (dist-less (inside-x i)) (dist-less (inside-y i)) }
-
--- the first k of the lines q to q', each from p to p'
-abbrev off : Bool → (ℕ → ℕ → Cell) → (p q p' q' k : ℕ) → Peeled
-off row E p q p' q' k = record {
-  row = row;
-  far = E p' (ahead q q' (k - 1));
-  end = E (turning k p p') (ahead q q' (k - 1));
-  home = E (turning k p' p) q;
-  cells = record { 0 = (dist p p' + 1) * k };
-  corner = E (turning k p p') (ahead q q' k);
-  opposite = E (turning k p' p) q';
-}
 
 module _ {row : Bool} {E : ℕ → ℕ → Cell} {F : Frame row E} (C : Counted F) (p q p' q' : ℕ) (t : Cell) (i : Inside (E p q) (E p' q') t)
     {k : ℕ} (r : First k (dist p p' + 1) (dist q q' + 1) (dist p (F .along t)) (dist q (F .over t))) where
@@ -122,7 +106,7 @@ module _ {row : Bool} {E : ℕ → ℕ → Cell} {F : Frame row E} (C : Counted 
       ∙ ap (λ (n : ℕ). (dist p p' + 1) * k + cornerCount (n + 1) (dist m q' + 1) ex ey) (sym (ends-dist e))
       ∙ ap (λ (n : ℕ). (dist p p' + 1) * k + n) (sym (C .count x m o q' rest-target))
 
-  taken-off : Peel (E p q) (E p' q') t (off row E p q p' q' k)
+  taken-off : Peel (E p q) (E p' q') t (linesBy row E p q p' q' k)
   taken-off = record {
     size = ap (λ (j : ℕ). (dist p p' + 1) * j) (sym (u .size)) ∙ sym (F .size p q p' l);
     end = ap (λ (j : ℕ). E (turning j p p') l) (sym (u .size)) ∙ sym (F .end p q p' l);

@@ -20,7 +20,7 @@ use Rattle.corner.specs.declared.Peeled.{Peeled}
 use Rattle.corner.specs.Corner.{trackCount}
 use Rattle.corner.specs.Cells.{oneLine, peeled, cornerFrom, cornerCells}
 use Rattle.corner.proofs.Chosen.{Peel}
-use Rattle.corner.proofs.First.{Only, only, peel-right}
+use Rattle.corner.proofs.First.{only, peel-right}
 
 -- a track of the rectangle with the count's cells
 abbrev Full : Cell → Cell → Cell → List Cell → Type 0

@@ -31,22 +31,25 @@ chosen w h dx dy =
     (cond (eqb h 2) (cond (ltb 1 dx) (columnsFirst (dx - 1)) (rowsFirst 1))
     (cond (eqb dx (w - 1)) (columnsFirst 1) (rowsFirst 1))))
 
+-- the first k of the lines q to q', each from p to p', and the rectangle that remains; E p q is the p-th cell of the q-th line
+abbrev pub linesBy : Bool → (ℕ → ℕ → Cell) → ℕ → ℕ → ℕ → ℕ → ℕ → Peeled
+linesBy row E p q p' q' k = record {
+  row = row;
+  far = E p' (ahead q q' (k - 1));
+  end = E (turning k p p') (ahead q q' (k - 1));
+  home = E (turning k p' p) q;
+  cells = record { 0 = (dist p p' + 1) * k };
+  corner = E (turning k p p') (ahead q q' k);
+  opposite = E (turning k p' p) q';
+}
+
 -- the p-th cell of the q-th row, or else of the q-th column
 abbrev pub place : Bool → ℕ → ℕ → Cell
 place true p q = cell p q
 place false p q = cell q p
 
--- the first k of the lines q to q', each from p to p', and the lines that remain
 abbrev pub linesOff : Bool → ℕ → ℕ → ℕ → ℕ → ℕ → Peeled
-linesOff row p q p' q' k = record {
-  row = row;
-  far = place row p' (ahead q q' (k - 1));
-  end = place row (turning k p p') (ahead q q' (k - 1));
-  home = place row (turning k p' p) q;
-  cells = record { 0 = (dist p p' + 1) * k };
-  corner = place row (turning k p p') (ahead q q' k);
-  opposite = place row (turning k p' p) q';
-}
+linesOff row p q p' q' k = linesBy row (place row) p q p' q' k
 
 -- the first k rows, or else columns, of the rectangle of a and b from the corner a
 abbrev pub firstLines : Bool → Cell → Cell → ℕ → Peeled

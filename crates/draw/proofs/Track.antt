@@ -1,6 +1,6 @@
 -- The track that Draw draws is a longest one: between different cells it is the one that the plan, or the table on 3 by 3, shows to have the count's cells.
 use Prim.Native.Nat.{ℕ}
-use mathlib.Core.Path.{_≡_, refl, sym, _∙_, subst}
+use mathlib.Core.Path.{_≡_, sym, _∙_, subst}
 use mathlib.Core.Bool.{true}
 use mathlib.Core.Logic.{_≢_}
 use mathlib.Core.List.{List, [], _∷_}

@@ -16,7 +16,7 @@ use Rattle.grid.specs.Track.{TrackIn}
 use Rattle.grid.proofs.Facts.{dist-sym}
 use Rattle.grid.proofs.Track.{join}
 use Rattle.line.specs.Rectangle.{Inside, cellsBetween, ahead, turning, sweepEnd}
-use Rattle.line.specs.Line.{line, cellNumber, numbered, stepTo, snake, allLines}
+use Rattle.line.specs.Line.{line, cellNumber, stepTo, snake, allLines}
 use Rattle.line.specs.Sweep.{lineFrom, lines, sweep}
 use Rattle.line.specs.Drawn.{Bytes, InBytes, ReadySnake, ReadyLines, written}
 use Rattle.line.proofs.Between.{between-sym, start-between, below, by-le, lt-le, dist-same, dist-eq, dist-small, dist-up, dist-down}

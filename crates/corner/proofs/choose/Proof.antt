@@ -1,6 +1,5 @@
 -- Each return is the case of the definition that the tests before it lead to.
 use mathlib.Core.Path.{refl}
-use native.Mathlib.Omega.{arith}
 use borrow.Author.Needs.{needs}
 use borrow.Author.Tests.{eq-eqb, ne-eqb, lt-ltb, le-ltb}
 use Rattle.grid.proofs.Tests.{cond-yes, cond-no}
