@@ -23,8 +23,7 @@ use Rattle.bound.specs.Bound.{boundValues, GivesBound, Bounds}
 use Rattle.draw.specs.Draw.{drawCheck, Leaves, Draws, drawBuffer}
 use Rattle.judge.specs.Judge.{sizesCheck, cellsCheck, judgeCheck, Judges}
 use Rattle.judge.proofs.Checks.{sized, few}
-use Rattle.bench.specs.Bench.{checkBench, onBench, BenchBounds, BenchDraws, benchBuffer, BenchJudges}
-use Rattle.host.specs.Host.{packed, packedBehind, PacksBound, PacksDraw, PacksJudge, PacksBenchBound, PacksBenchDraw, PacksBenchJudge}
+use Rattle.host.specs.Host.{packed, packedBehind, PacksBound, PacksDraw, PacksJudge}
 
 -- a value is as small behind its check as where the check is good
 given-most : (c : Check) (k n : ℕ) → (c ≡ Good → k ≤ n) → given c k ≤ n
@@ -46,10 +45,6 @@ module _ (p : Panel) (s t : Cell) where
       let cells = cellsCheck p s t (cellsIn list) in
       let z = sized p s t (length list) room (after-passed sizes cells e) in
       omega (arith, few p s t (cellsIn list) (after-rest sizes cells e), area-small (z .ordered .panel .sides))
-
--- what is given behind a bench call's check is given behind that of the call for large panels
-on-bench : (p : Panel) (c : Check) {k n : ℕ} → (c ≡ Good → k ≤ n) → onBench p c ≡ Good → k ≤ n
-on-bench p c h e = h (after-rest (checkBench p) c e)
 
 count-fits : (c : Check) (k : ℕ) → (c ≡ Good → k ≤ 16384) → given c k < 2 ^ 24
 count-fits c k h = omega (arith, given-most c k 16384 h)
@@ -78,12 +73,6 @@ module _ {p : Panel} {s t : Cell} {a : BoundAnswer} where
 
   pub bound-packed : {r : ℕ} → Bounds p s t a → BoundPacked a r → PacksBound p s t r
   bound-packed b e = record { packs = behind-bound b e }
-
-  pub bench-bound-fits : BenchBounds p s t a → BoundFits a
-  bench-bound-fits b = fits-bound b (on-bench p (checkOrder p s t) (order-small p s t))
-
-  pub bench-bound-packed : {r : ℕ} → BenchBounds p s t a → BoundPacked a r → PacksBenchBound p s t r
-  bench-bound-packed b e = record { packs = behind-bound b e }
 
 -- ---- an answer in cells
 
@@ -115,21 +104,9 @@ module _ {p : Panel} {s t : Cell} {old new : List ℕ} {a : CellsAnswer} where
   pub draw-packed : {r : ℕ} → Draws p s t old new a × (new ≡ drawBuffer p s t old) → CellsPacked a r → PacksDraw p s t old new r
   draw-packed (d, w) e = record { packs = behind-cells (d .gives) e; leaves = leaves-given (d .gives) p s t old new (d .leaves); cells = w }
 
-  pub bench-draw-fits : BenchDraws p s t old new a → CellsFit a
-  bench-draw-fits d = fit-cells (d .gives) (on-bench p (drawCheck p s t (length old)) (draw-small p s t (length old)))
-
-  pub bench-draw-packed : {r : ℕ} → BenchDraws p s t old new a × (new ≡ benchBuffer p s t old) → CellsPacked a r → PacksBenchDraw p s t old new r
-  bench-draw-packed (d, w) e = record { packs = behind-cells (d .gives) e; leaves = leaves-given (d .gives) p s t old new (d .leaves); cells = w }
-
 module _ {p : Panel} {s t : Cell} {list old new : List ℕ} {a : CellsAnswer} where
   pub judge-fits : Judges p s t list old new a → CellsFit a
   judge-fits j = fit-cells (j .gives) (judge-small p s t list (length old))
 
   pub judge-packed : {r : ℕ} → Judges p s t list old new a → CellsPacked a r → PacksJudge p s t list old new r
   judge-packed j e = record { packs = behind-cells (j .gives) e; scratch = j .scratch }
-
-  pub bench-judge-fits : BenchJudges p s t list old new a → CellsFit a
-  bench-judge-fits j = fit-cells (j .gives) (on-bench p (judgeCheck p s t list (length old)) (judge-small p s t list (length old)))
-
-  pub bench-judge-packed : {r : ℕ} → BenchJudges p s t list old new a → CellsPacked a r → PacksBenchJudge p s t list old new r
-  bench-judge-packed j e = record { packs = behind-cells (j .gives) e; scratch = j .scratch }

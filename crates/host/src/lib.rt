@@ -5,14 +5,19 @@ use bound::bound_values;
 use grid::Cell;
 use grid::Cells;
 use grid::CellsAnswer;
+use grid::Check;
 use grid::Panel;
+use grid::Refusal;
 use grid::cells_values;
+use grid::number_of;
 use grid::panel_of;
 ghost use mathlib.Core.Path.{_≡_};
 ghost use Prim.Native.Nat.{_<_, _^_};
 ghost use Rattle.grid.specs.Panel.{panel, cell};
 ghost use Rattle.grid.specs.Answer.{cellsValues};
+ghost use Rattle.grid.specs.Refusal.{number};
 ghost use Rattle.bound.specs.Bound.{boundValues};
+ghost use Rattle.bench.specs.Bench.{checkBench};
 ghost use Rattle.host.specs.Host.{packed, PacksBound, PacksDraw, PacksJudge, PacksBenchBound, PacksBenchDraw, PacksBenchJudge};
 
 const REFUSAL_UNIT: u64 = 4294967296;
@@ -108,7 +113,22 @@ pub extern "C" fn foil_judge(
     pack_cells(judge::judge(o.panel, o.entry, o.exit, list, scratch))
 }
 
-// The same three calls for the bench, with the same parameters.
+// A refusal without class and count.
+fn pack_refusal(r: Refusal) -> u64
+    ensures { λ k. ⌜ k ≡ packed (number r) 0 0 ⌝ }
+{
+    pack(number_of(r), 0, Cells(0))
+}
+
+// What the bench refuses of a panel: 1, 18, 19.
+fn check_sides(m: u32, n: u32, pitch: u32) -> Check
+    ensures { λ r. ⌜ r ≡ checkBench (panel m n pitch) ⌝ }
+{
+    bench::check_bench(panel_of(m, n, pitch))
+}
+
+// The same three calls for the bench, with the same parameters: each is the C call for large panels behind
+// the bench's check. So Bound, Draw and Judge keep one caller each, and are compiled as one piece with it.
 #[no_mangle]
 pub extern "C" fn foil_bench_bound(
     m: u32,
@@ -121,8 +141,11 @@ pub extern "C" fn foil_bench_bound(
 ) -> u64
     ensures { λ r. ⌜ PacksBenchBound (panel m n pitch) (cell sx sy) (cell tx ty) r ⌝ }
 {
-    let o = order_of(m, n, pitch, sx, sy, tx, ty);
-    pack_bound(bench::bound(o.panel, o.entry, o.exit))
+    let c = check_sides(m, n, pitch);
+    if let Check::Refused(r) = c {
+        return pack_refusal(r);
+    }
+    foil_bound(m, n, pitch, sx, sy, tx, ty)
 }
 
 #[no_mangle]
@@ -138,8 +161,11 @@ pub extern "C" fn foil_bench_draw(
 ) -> u64
     ensures { λ r. ⌜ PacksBenchDraw (panel m n pitch) (cell sx sy) (cell tx ty) (now (buffer .entry)) (now (buffer .exit)) r ⌝ }
 {
-    let o = order_of(m, n, pitch, sx, sy, tx, ty);
-    pack_cells(bench::draw(o.panel, o.entry, o.exit, buffer))
+    let c = check_sides(m, n, pitch);
+    if let Check::Refused(r) = c {
+        return pack_refusal(r);
+    }
+    foil_draw(m, n, pitch, sx, sy, tx, ty, buffer)
 }
 
 #[no_mangle]
@@ -156,6 +182,9 @@ pub extern "C" fn foil_bench_judge(
 ) -> u64
     ensures { λ r. ⌜ PacksBenchJudge (panel m n pitch) (cell sx sy) (cell tx ty) (now (list .entry)) (now (scratch .entry)) (now (scratch .exit)) r ⌝ }
 {
-    let o = order_of(m, n, pitch, sx, sy, tx, ty);
-    pack_cells(bench::judge(o.panel, o.entry, o.exit, list, scratch))
+    let c = check_sides(m, n, pitch);
+    if let Check::Refused(r) = c {
+        return pack_refusal(r);
+    }
+    foil_judge(m, n, pitch, sx, sy, tx, ty, list, scratch)
 }

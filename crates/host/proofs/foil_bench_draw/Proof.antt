@@ -1,25 +1,40 @@
--- The two parts are those of Draw's answer on the bench, and fit; the buffer is what Draw leaves.
+-- What the bench's check refuses is refused, and what it passes is answered by the C call for large panels.
+use mathlib.Core.Path.{refl, sym, _∙_}
 use borrow.Author.Needs.{needs}
-use Rattle.host.proofs.Answers.{bench-draw-fits, bench-draw-packed}
+use Rattle.host.proofs.Bench.{draw-refused, draw-passed}
 use Rattle.host.proofs.foil_bench_draw.Statement.{statement}
 use Rattle.host.proofs.foil_bench_draw.Tie as tie
 
-order-of-requires : tie.Need-order-of-requires
-order-of-requires c κs = search needs
+check-sides-requires : tie.Need-check-sides-requires
+check-sides-requires c κs = search needs
 
-draw-requires : tie.Need-draw-requires
-draw-requires c κs = search needs
+enum-known-c : tie.Need-enum-known-c
+enum-known-c c = search needs
+
+pack-refusal-requires : tie.Need-pack-refusal-requires
+pack-refusal-requires c κs = search needs
 
 returns : tie.Need-returns
 returns c =
-    let call = c .before .before .before in
-    rw (call .before .before .order-of .ensures) at (bench-draw-packed (call .draw .ensures) (c .pack-cells .ensures))
+    let told = c .before .before in
+    draw-refused (sym (told .before .before .check-sides .ensures) ∙ told .c .given .1) (c .pack-refusal .ensures) refl
 
-pack-cells-requires : tie.Need-pack-cells-requires
-pack-cells-requires c κs = bench-draw-fits (c .before .before .draw .ensures .0)
+enum-told : tie.Need-enum-told
+enum-told c = search needs
+
+foil-draw-requires : tie.Need-foil-draw-requires
+foil-draw-requires c κs = search needs
 
 same-length : tie.Need-same-length
 same-length c = search needs
 
+returns-2 : tie.Need-returns-2
+returns-2 c =
+    let call = c .before .before in
+    let passed = call .before .before in
+    draw-passed (sym (passed .before .before .check-sides .ensures) ∙ passed .enum-told .given .1) (call .foil-draw .ensures)
+
 pub foil-bench-draw-spec : {M : Type 1} → statement M
-foil-bench-draw-spec = tie.close (tie.spec order-of-requires draw-requires pack-cells-requires same-length returns)
+foil-bench-draw-spec =
+    tie.close
+    (tie.spec check-sides-requires enum-known-c pack-refusal-requires returns enum-told foil-draw-requires same-length returns-2)

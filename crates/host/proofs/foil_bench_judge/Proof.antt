@@ -1,25 +1,40 @@
--- The two parts are those of Judge's answer on the bench, and fit; scratch is what Judge leaves.
+-- What the bench's check refuses is refused, and what it passes is answered by the C call for large panels.
+use mathlib.Core.Path.{refl, sym, _∙_}
 use borrow.Author.Needs.{needs}
-use Rattle.host.proofs.Answers.{bench-judge-fits, bench-judge-packed}
+use Rattle.host.proofs.Bench.{judge-refused, judge-passed}
 use Rattle.host.proofs.foil_bench_judge.Statement.{statement}
 use Rattle.host.proofs.foil_bench_judge.Tie as tie
 
-order-of-requires : tie.Need-order-of-requires
-order-of-requires c κs = search needs
+check-sides-requires : tie.Need-check-sides-requires
+check-sides-requires c κs = search needs
 
-judge-requires : tie.Need-judge-requires
-judge-requires c κs = search needs
+enum-known-c : tie.Need-enum-known-c
+enum-known-c c = search needs
+
+pack-refusal-requires : tie.Need-pack-refusal-requires
+pack-refusal-requires c κs = search needs
 
 returns : tie.Need-returns
 returns c =
-    let call = c .before .before .before in
-    rw (call .before .before .order-of .ensures) at (bench-judge-packed (call .judge .ensures) (c .pack-cells .ensures))
+    let told = c .before .before in
+    judge-refused (sym (told .before .before .check-sides .ensures) ∙ told .c .given .1) (c .pack-refusal .ensures) refl
 
-pack-cells-requires : tie.Need-pack-cells-requires
-pack-cells-requires c κs = bench-judge-fits (c .before .before .judge .ensures)
+enum-told : tie.Need-enum-told
+enum-told c = search needs
+
+foil-judge-requires : tie.Need-foil-judge-requires
+foil-judge-requires c κs = search needs
 
 same-length : tie.Need-same-length
 same-length c = search needs
 
+returns-2 : tie.Need-returns-2
+returns-2 c =
+    let call = c .before .before in
+    let passed = call .before .before in
+    judge-passed (sym (passed .before .before .check-sides .ensures) ∙ passed .enum-told .given .1) (call .foil-judge .ensures)
+
 pub foil-bench-judge-spec : {M : Type 1} → statement M
-foil-bench-judge-spec = tie.close (tie.spec order-of-requires judge-requires pack-cells-requires same-length returns)
+foil-bench-judge-spec =
+    tie.close
+    (tie.spec check-sides-requires enum-known-c pack-refusal-requires returns enum-told foil-judge-requires same-length returns-2)
