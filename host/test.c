@@ -1,5 +1,8 @@
-/* Tests the three calls from C: the table of orders, the cases that are only run, equal terminals, hostile
- * numbers, and pitches.
+/* Tests the calls from C: the table of orders, the cases that are only run, equal terminals, hostile
+ * numbers, pitches, and sides around the bench cutter's 32.
+ *
+ * `bound`, `draw` and `judge` make the large call and the bench cutter's on equal buffers, and compare the two;
+ * they give the large one's answer. So every case is one for the bench too.
  *
  * The archive is not compiled with the sanitizers, so they see the code of this file only. What the calls
  * do is seen by fences: every buffer that a call gets stands against a page that may be neither read nor
@@ -60,6 +63,18 @@ static uint64_t answer(uint32_t refusal, uint32_t class, uint32_t count)
     return (uint64_t)refusal << 32 | (uint64_t)class << 24 | count;
 }
 
+/* What a bench call answers where the large one gives `large`: 19 where a side is too long for the bed, unless it is
+ * 1 or 18, which stand before 19; otherwise the same. */
+static uint64_t on_bench(struct order o, uint64_t large)
+{
+    uint32_t refusal = foil_refusal_in(large);
+    int fits = o.m <= FOIL_BENCH_MAX_SIDE && o.n <= FOIL_BENCH_MAX_SIDE;
+    return fits || refusal == FOIL_SIDE || refusal == FOIL_PITCH ? large : answer(FOIL_BENCH_SIDE, 0, 0);
+}
+
+/* The calls for every panel, and those for the bench. */
+enum calls { LARGE, BENCH };
+
 /* Bytes that are open, between two fences; CANARY wherever no buffer stands. */
 struct region {
     uint8_t *open;
@@ -108,12 +123,14 @@ static enum side sides(int some_empty)
     return some_empty ? SIDES : NOWHERE;
 }
 
-/* Whether the canaries beside a buffer live; the buffer is taken away. */
+/* Whether the canaries beside a buffer live; the buffer is taken away, and canaries stand everywhere again. */
 static int lift(struct region r, enum side side, size_t size)
 {
     uint8_t *rest = side == REAR ? r.open : r.open + size;
     int ok = all(rest, r.size - size, CANARY);
-    memset(r.open, CANARY, r.size);
+    if (!ok)
+        memset(rest, CANARY, r.size - size);
+    memset(side == REAR ? r.open + r.size - size : r.open, CANARY, size);
     return ok;
 }
 
@@ -123,30 +140,46 @@ static void protect(struct region r, int protection)
         abort();
 }
 
-/* What the last `draw` left in its buffer. */
-static uint8_t drawn[2 * FOIL_MAX_BYTES];
+static uint64_t bound(struct order o)
+{
+    uint64_t large = foil_bound(SEVEN(o));
+    EXPECT(foil_bench_bound(SEVEN(o)) == on_bench(o, large));
+    return large;
+}
 
-/* Draws into a buffer of `room` bytes, at both fences, and looks at what is left of it. */
-static uint64_t draw(struct order o, size_t room)
+/* Draws into a buffer of `room` bytes, at both fences, and looks at what is left of it, which `left` keeps. */
+static uint64_t draw_by(enum calls calls, struct order o, size_t room, uint8_t *left)
 {
     uint64_t first = 0;
     for (enum side side = FRONT; side < sides(room == 0); side++) {
         uint8_t *at = place(for_draw, side, room);
         if (room > 0)
             memset(at, OLD, room);
-        uint64_t got = foil_draw(SEVEN(o), at, room);
+        uint64_t got = (calls == BENCH ? foil_bench_draw : foil_draw)(SEVEN(o), at, room);
         if (side == FRONT) {
             first = got;
             if (room > 0)
-                memcpy(drawn, at, room);
+                memcpy(left, at, room);
         }
         EXPECT(got == first);
-        EXPECT(room == 0 || memcmp(drawn, at, room) == 0);
+        EXPECT(room == 0 || memcmp(left, at, room) == 0);
         size_t used = 2 * (size_t)foil_count_in(got);
-        EXPECT(used <= room && all(drawn + used, room - used, OLD));
+        EXPECT(used <= room && all(left + used, room - used, OLD));
         EXPECT(lift(for_draw, side, room));
     }
     return first;
+}
+
+/* What the last `draw` left in its buffer. */
+static uint8_t drawn[2 * FOIL_MAX_BYTES];
+
+static uint64_t draw(struct order o, size_t room)
+{
+    static uint8_t bench_drawn[sizeof drawn];
+    uint64_t large = draw_by(LARGE, o, room, drawn), bench = draw_by(BENCH, o, room, bench_drawn);
+    EXPECT(bench == on_bench(o, large));
+    EXPECT(bench != large || memcmp(bench_drawn, drawn, room) == 0);
+    return large;
 }
 
 /* Whether Judge came to look at the cells, and cleared its scratch for them: all that stands before 7 is passed. */
@@ -155,39 +188,49 @@ static int cells_looked_at(uint32_t refusal)
     return refusal == FOIL_OK || (refusal >= FOIL_CELL_OFF && refusal <= FOIL_WRONG_ENDS);
 }
 
-/* Judges a list with scratch of `room` bytes, at both fences, and looks at what is left of the two. */
+/* Judges a list, with scratch of `room` bytes at a fence, and looks at what is left of that. */
+static uint64_t judge_by(enum calls calls, struct order o, const uint8_t *list, size_t size, enum side side, size_t room)
+{
+    uint8_t *scratch = place(for_scratch, side, room);
+    if (room > 0)
+        memset(scratch, OLD, room);
+    uint64_t got = (calls == BENCH ? foil_bench_judge : foil_judge)(SEVEN(o), list, size, scratch, room);
+    size_t cleared = cells_looked_at(foil_refusal_in(got)) ? (size_t)o.m * o.n : 0;
+    EXPECT(cleared <= room);
+    if (cleared <= room && room > 0)
+        EXPECT(all(scratch, cleared, 0) && all(scratch + cleared, room - cleared, OLD));
+    EXPECT(lift(for_scratch, side, room));
+    return got;
+}
+
+/* Judges a list with scratch of `room` bytes, at both fences. What is left of the scratch follows from the answer, so
+ * equal answers leave equal bytes. */
 static uint64_t judge(struct order o, const uint8_t *list, size_t size, size_t room)
 {
     uint64_t first = 0;
     for (enum side side = FRONT; side < sides(size == 0 || room == 0); side++) {
-        uint8_t *bytes = place(for_list, side, size), *scratch = place(for_scratch, side, room);
+        uint8_t *bytes = place(for_list, side, size);
         if (size > 0)
             memcpy(bytes, list, size);
-        if (room > 0)
-            memset(scratch, OLD, room);
         protect(for_list, PROT_READ);
-        uint64_t got = foil_judge(SEVEN(o), bytes, size, scratch, room);
+        uint64_t large = judge_by(LARGE, o, bytes, size, side, room);
+        EXPECT(judge_by(BENCH, o, bytes, size, side, room) == on_bench(o, large));
         protect(for_list, PROT_READ | PROT_WRITE);
         if (side == FRONT)
-            first = got;
-        EXPECT(got == first);
-        size_t cleared = cells_looked_at(foil_refusal_in(got)) ? (size_t)o.m * o.n : 0;
-        EXPECT(cleared <= room);
-        if (cleared <= room && room > 0)
-            EXPECT(all(scratch, cleared, 0) && all(scratch + cleared, room - cleared, OLD));
+            first = large;
+        EXPECT(large == first);
         EXPECT(size == 0 || memcmp(bytes, list, size) == 0);
         EXPECT(lift(for_list, side, size));
-        EXPECT(lift(for_scratch, side, room));
     }
     return first;
 }
 
-/* An order that every call refuses alike, whatever 5 and 6 would say of its buffers. */
+/* An order that every large call refuses alike, whatever 5 and 6 would say of its buffers. */
 static void bad(struct order o, uint32_t refusal)
 {
     static const uint8_t list[] = {1, 1, 2, 1};
     uint64_t refused = answer(refusal, 0, 0);
-    EXPECT(foil_bound(SEVEN(o)) == refused);
+    EXPECT(bound(o) == refused);
     EXPECT(draw(o, 64) == refused);
     EXPECT(draw(o, 0) == refused);
     EXPECT(judge(o, list, sizeof list, 64) == refused);
@@ -197,8 +240,17 @@ static void bad(struct order o, uint32_t refusal)
     EXPECT(judge(o, list, 0, 0) == refused);
 }
 
+/* An order that is refused so at the usual pitch, at every pitch. */
+static void bad_at_every_pitch(struct order o, uint32_t refusal)
+{
+    for (size_t i = 0; i < PITCHES; i++) {
+        o.pitch = pitches[i];
+        bad(o, refusal_at(o.pitch, refusal));
+    }
+}
+
 /* An order that is not refused at the usual pitch: at every other the same answers and the same whole buffer, or 18. */
-static void at_every_pitch(struct order o, uint32_t class, uint32_t count)
+static void good_at_every_pitch(struct order o, uint32_t class, uint32_t count)
 {
     static uint8_t usual[sizeof drawn];
     size_t enough = 2 * (size_t)count, room = enough + 33, area = (size_t)o.m * o.n;
@@ -208,18 +260,18 @@ static void at_every_pitch(struct order o, uint32_t class, uint32_t count)
         o.pitch = pitches[i];
         int ok = good_pitch(o.pitch);
         uint64_t expected = ok ? answer(0, 0, count) : answer(FOIL_PITCH, 0, 0);
-        EXPECT(foil_bound(SEVEN(o)) == (ok ? answer(0, class, count) : expected));
+        EXPECT(bound(o) == (ok ? answer(0, class, count) : expected));
         EXPECT(draw(o, room) == expected);
         EXPECT(!ok || memcmp(drawn, usual, room) == 0);
         EXPECT(judge(o, usual, enough, area) == expected);
     }
 }
 
-/* An order that is not refused: the three calls agree with class and count. */
+/* An order that no large call refuses: the three agree with class and count. */
 static void good(struct order o, uint32_t class, uint32_t count)
 {
     size_t enough = 2 * (size_t)count, area = (size_t)o.m * o.n;
-    EXPECT(foil_bound(SEVEN(o)) == answer(0, class, count));
+    EXPECT(bound(o) == answer(0, class, count));
     EXPECT(draw(o, enough + 33) == answer(0, 0, count));
     EXPECT(draw(o, enough - 1) == answer(FOIL_SHORT_BUFFER, 0, 0));
     EXPECT(draw(o, 0) == answer(FOIL_SHORT_BUFFER, 0, 0));
@@ -235,7 +287,7 @@ static void good(struct order o, uint32_t class, uint32_t count)
     EXPECT(judge(o, drawn, enough, 0) == answer(FOIL_SHORT_BUFFER, 0, 0));
     drawn[enough - 1] = 0;
     EXPECT(judge(o, drawn, enough, area) == answer(FOIL_CELL_OFF, 0, 0));
-    at_every_pitch(o, class, count);
+    good_at_every_pitch(o, class, count);
 }
 
 /* An order with equal terminals: the track is that cell, told without Judge. */
@@ -244,6 +296,19 @@ static void spot(uint32_t m, uint32_t n, uint32_t x, uint32_t y)
     struct order o = {m, n, USUAL, x, y, x, y};
     good(o, 6, 1);
     EXPECT(draw(o, 2) == answer(0, 0, 1) && drawn[0] == x && drawn[1] == y);
+}
+
+/* An order between two cells of a panel: what is drawn is judged good with the bound's count, and equal
+ * terminals and no others are of class 6. */
+static void pair(struct order o)
+{
+    if (o.sx == o.tx && o.sy == o.ty) {
+        spot(o.m, o.n, o.sx, o.sy);
+        return;
+    }
+    uint64_t given = bound(o);
+    EXPECT(foil_class_in(given) >= 1 && foil_class_in(given) <= 5);
+    good(o, foil_class_in(given), foil_count_in(given));
 }
 
 static void table(void)
@@ -340,11 +405,7 @@ static void faults_at_every_pitch(void)
         {FOIL_EXIT_OFF, {7, 5, USUAL, 1, 1, 2, 0}},
     };
     for (size_t i = 0; i < sizeof cases / sizeof *cases; i++)
-        for (size_t j = 0; j < PITCHES; j++) {
-            struct order o = cases[i].order;
-            o.pitch = pitches[j];
-            bad(o, refusal_at(o.pitch, cases[i].refusal));
-        }
+        bad_at_every_pitch(cases[i].order, cases[i].refusal);
 }
 
 /* A list, and what Judge says of it at the usual pitch. */
@@ -367,7 +428,8 @@ static void judge_lists(struct order o, const struct judged *cases, size_t size)
         }
 }
 
-/* One list for each refusal of the cells, and two faults at once in both orders. */
+/* One list for each refusal of the cells, and two faults at once in both orders; on wider panels too, where 19
+ * stands before each. */
 static void lists(void)
 {
     static const struct judged cases[] = {
@@ -387,7 +449,9 @@ static void lists(void)
         {FOIL_WRONG_ENDS, 0, 4, {1, 1, 2, 1}},
         {FOIL_WRONG_ENDS, 0, 2, {1, 1}},
     };
-    judge_lists((struct order){3, 2, USUAL, 1, 1, 1, 2}, cases, sizeof cases / sizeof *cases);
+    static const uint32_t widths[] = {3, 32, 33, 128};
+    for (size_t i = 0; i < sizeof widths / sizeof *widths; i++)
+        judge_lists((struct order){widths[i], 2, USUAL, 1, 1, 1, 2}, cases, sizeof cases / sizeof *cases);
 }
 
 /* Lists for equal terminals, (2,1): the one cell alone is accepted, and a list back to it is no track. */
@@ -419,23 +483,77 @@ static void spot_lists(void)
     judge_lists((struct order){3, 2, USUAL, 2, 1, 2, 1}, cases, sizeof cases / sizeof *cases);
 }
 
-/* Every pair on panels up to 5 by 5: what is drawn is judged good with the bound's count, and equal terminals
- * and no others are of class 6. */
+/* Every pair on panels up to 5 by 5. */
 static void pairs(void)
 {
     for (uint32_t m = 1; m <= 5; m++)
         for (uint32_t n = 1; n <= 5; n++)
             for (uint32_t s = 0; s < m * n; s++)
-                for (uint32_t t = 0; t < m * n; t++) {
-                    struct order o = {m, n, USUAL, s % m + 1, s / m + 1, t % m + 1, t / m + 1};
-                    if (s == t) {
-                        spot(m, n, o.sx, o.sy);
-                        continue;
-                    }
-                    uint64_t bound = foil_bound(SEVEN(o));
-                    EXPECT(foil_class_in(bound) >= 1 && foil_class_in(bound) <= 5);
-                    good(o, foil_class_in(bound), foil_count_in(bound));
-                }
+                for (uint32_t t = 0; t < m * n; t++)
+                    pair((struct order){m, n, USUAL, s % m + 1, s / m + 1, t % m + 1, t / m + 1});
+}
+
+/* Panels with sides at the ends of what the bench takes and of what the large calls take: corner to corner, one
+ * cell, and each terminal off the panel, at every pitch. */
+static void sides_of_both(void)
+{
+    static const uint32_t lengths[] = {0, 1, 2, 3, 31, 32, 33, 128, 129};
+    enum { LENGTHS = sizeof lengths / sizeof *lengths };
+    for (size_t i = 0; i < LENGTHS * LENGTHS; i++) {
+        uint32_t m = lengths[i % LENGTHS], n = lengths[i / LENGTHS];
+        struct order across = {m, n, USUAL, 1, 1, m, n};
+        if (m == 0 || m == 129 || n == 0 || n == 129) {
+            bad_at_every_pitch(across, FOIL_SIDE);
+            continue;
+        }
+        pair(across);
+        pair((struct order){m, n, USUAL, m, 1, m, 1});
+        bad_at_every_pitch((struct order){m, n, USUAL, m + 1, n, 1, 1}, FOIL_ENTRY_OFF);
+        bad_at_every_pitch((struct order){m, n, USUAL, 1, n, 1, n + 1}, FOIL_EXIT_OFF);
+    }
+}
+
+/* What the large calls and the bench refuse an order by, each told by itself: 19 stands right after 1 and 18, and
+ * only a side from 33 to 128 is refused so. */
+static void refusals_of_both(void)
+{
+    static const struct {
+        uint32_t large, bench;
+        struct order order;
+    } cases[] = {
+        {0, 0, {32, 32, USUAL, 1, 1, 32, 32}},
+        {0, 0, {1, 32, USUAL, 1, 1, 1, 1}},
+        {0, 19, {33, 32, USUAL, 1, 1, 32, 32}},
+        {0, 19, {32, 33, USUAL, 1, 1, 32, 32}},
+        {0, 19, {33, 1, USUAL, 2, 1, 2, 1}},
+        {0, 19, {1, 128, USUAL, 1, 2, 1, 1}},
+        {0, 19, {128, 128, USUAL, 1, 1, 2, 1}},
+        {1, 1, {33, 0, USUAL, 1, 1, 2, 1}},
+        {1, 1, {0, 33, USUAL, 1, 1, 2, 1}},
+        {1, 1, {33, 129, USUAL, 1, 1, 2, 1}},
+        {1, 1, {129, 33, USUAL, 1, 1, 2, 1}},
+        {1, 1, {129, 33, 0, 1, 1, 2, 1}},
+        {1, 1, {256, 32, USUAL, 1, 1, 2, 1}},
+        {1, 1, {32, 0xFFFFFFFF, USUAL, 1, 1, 2, 1}},
+        {18, 18, {32, 32, 999, 1, 1, 2, 1}},
+        {18, 18, {33, 32, 999, 1, 1, 2, 1}},
+        {18, 18, {32, 33, 10001, 1, 1, 2, 1}},
+        {18, 18, {128, 128, 0, 129, 1, 0, 1}},
+        {2, 19, {33, 32, USUAL, 34, 1, 2, 1}},
+        {2, 19, {32, 33, USUAL, 0, 1, 0, 1}},
+        {3, 19, {33, 32, USUAL, 1, 1, 2, 33}},
+        {3, 19, {128, 3, USUAL, 1, 1, 129, 1}},
+        {2, 2, {32, 32, USUAL, 33, 1, 33, 1}},
+        {3, 3, {32, 32, USUAL, 1, 1, 1, 33}},
+    };
+    for (size_t i = 0; i < sizeof cases / sizeof *cases; i++) {
+        struct order o = cases[i].order;
+        EXPECT(foil_refusal_in(foil_bench_bound(SEVEN(o))) == cases[i].bench);
+        if (cases[i].large == FOIL_OK)
+            pair(o);
+        else
+            bad(o, cases[i].large);
+    }
 }
 
 int main(void)
@@ -451,6 +569,8 @@ int main(void)
     lists();
     spot_lists();
     pairs();
+    sides_of_both();
+    refusals_of_both();
     printf("%lu checks, %lu faults\n", checks, faults);
     return faults != 0;
 }

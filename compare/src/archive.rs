@@ -1,6 +1,6 @@
 //! The archive's calls, wrapped, and beside foil_judge the same call in C, c/judge.c by gcc and by clang.
 
-use crate::order::Order;
+use crate::order::{Order, Refusal};
 
 /// An answer taken apart: refusal, class and count, each 0 where there is none.
 #[derive(Clone, Copy, Debug, PartialEq, Eq)]
@@ -11,6 +11,10 @@ pub struct Answer {
 }
 
 impl Answer {
+    pub fn refused(refusal: Refusal) -> Answer {
+        Answer { refusal: refusal as u32, class: 0, count: 0 }
+    }
+
     fn of(packed: u64) -> Answer {
         Answer {
             refusal: (packed >> 32) as u32,
@@ -38,9 +42,21 @@ pub fn bound(order: &Order) -> Answer {
     call!(foil_bound(order))
 }
 
-pub fn draw(order: &Order, buffer: &mut [u8]) -> Answer {
-    call!(foil_draw(order, buffer: *mut u8 = buffer.as_mut_ptr(), buffer_len: usize = buffer.len()))
+pub fn bench_bound(order: &Order) -> Answer {
+    call!(foil_bench_bound(order))
 }
+
+/// foil_draw, or a call with its arguments and its promises.
+macro_rules! draw {
+    ($name:ident, $call:ident) => {
+        pub fn $name(order: &Order, buffer: &mut [u8]) -> Answer {
+            call!($call(order, buffer: *mut u8 = buffer.as_mut_ptr(), buffer_len: usize = buffer.len()))
+        }
+    };
+}
+
+draw!(draw, foil_draw);
+draw!(bench_draw, foil_bench_draw);
 
 /// foil_judge, or a call with its arguments and its promises.
 macro_rules! judge {
@@ -60,6 +76,7 @@ macro_rules! judge {
 pub type Judge = fn(&Order, &[u8], &mut [u8]) -> Answer;
 
 judge!(judge, foil_judge);
+judge!(bench_judge, foil_bench_judge);
 #[cfg(gcc)]
 judge!(judge_gcc, judge_gcc);
 #[cfg(clang)]

@@ -1,7 +1,7 @@
 //! A second implementation of Bound, Draw and Judge, and of a track's letters and squares, written from the
 //! demands and from the linear-time paper (document 000) alone, and a safe wrapper around the archive's
-//! three calls and around Judge in C. The tests compare one with the other, and with the program `foil`;
-//! the benchmark times them side by side.
+//! calls, the bench cutter's among them, and around Judge in C. The tests compare one with the other, and
+//! with the program `foil`; the benchmark times them side by side.
 
 pub mod archive;
 pub mod bound;

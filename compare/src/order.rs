@@ -30,6 +30,7 @@ pub enum Refusal {
     TooManyCells = 10,
     WrongEnds = 11,
     Pitch = 18,
+    BenchSide = 19,
 }
 
 /// What Bound gives where it does not refuse.
@@ -40,6 +41,7 @@ pub struct Bounded {
 }
 
 pub const MAX_SIDE: u32 = 128;
+pub const BENCH_MAX_SIDE: u32 = 32;
 pub const PITCH_RANGE: RangeInclusive<u32> = 1_000..=10_000;
 
 impl Order {
@@ -63,12 +65,25 @@ impl Order {
 
     /// Refusals 1, 18, 2 and 3, in order.
     pub fn check(&self) -> Result<(), Refusal> {
+        self.check_on(MAX_SIDE)
+    }
+
+    /// The bench cutter's: 1, 18, 19, 2 and 3, in order.
+    pub fn check_bench(&self) -> Result<(), Refusal> {
+        self.check_on(BENCH_MAX_SIDE)
+    }
+
+    /// The refusals on a bed that takes `largest` cells a side; 19 is a good side above that.
+    fn check_on(&self, largest: u32) -> Result<(), Refusal> {
         let sides = 1..=MAX_SIDE;
         if !sides.contains(&self.width) || !sides.contains(&self.height) {
             return Err(Refusal::Side);
         }
         if !PITCH_RANGE.contains(&self.pitch) {
             return Err(Refusal::Pitch);
+        }
+        if self.width > largest || self.height > largest {
+            return Err(Refusal::BenchSide);
         }
         if !self.holds(self.entry) {
             return Err(Refusal::EntryOff);

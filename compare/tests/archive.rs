@@ -2,13 +2,11 @@
 //! fault beside every pitch, every short list on a small panel, and more than a million random and hostile
 //! calls, fixed by their seeds.
 
+mod common;
+
+use common::{buffer_for, dirty, list_for, number, order_on, scratch_for, Met, PITCHES, USUAL};
 use compare::archive::{self, Answer, Judge};
 use compare::{bound, draw, every_pair, judge, judge_once, pairs, random::Random, Cell, Order, Refusal};
-
-const USUAL: u32 = 4_000;
-
-/// The ends of the pitch's range and of the type, the numbers just outside the range, and the usual pitch.
-const PITCHES: [u32; 7] = [0, 999, 1_000, USUAL, 10_000, 10_001, u32::MAX];
 
 fn packed<T>(answer: &Result<T, Refusal>, class_count: impl Fn(&T) -> (u32, u32)) -> Answer {
     match answer {
@@ -16,7 +14,7 @@ fn packed<T>(answer: &Result<T, Refusal>, class_count: impl Fn(&T) -> (u32, u32)
             let (class, count) = class_count(value);
             Answer { refusal: 0, class, count }
         }
-        Err(refusal) => Answer { refusal: *refusal as u32, class: 0, count: 0 },
+        Err(refusal) => Answer::refused(*refusal),
     }
 }
 
@@ -62,35 +60,6 @@ fn compare_judge(order: &Order, list: &[u8], scratch: &mut [u8]) -> Answer {
         assert!(marks == own, "{order:?} {list:?}: scratch, one pass in {name}");
     }
     answer
-}
-
-/// How often each refusal was met, 0 being none, and equal terminals that are not refused: a test that never
-/// meets one tests less than it says.
-struct Met {
-    refusals: [u32; 19],
-    spots: u32,
-}
-
-impl Met {
-    fn new() -> Met {
-        Met { refusals: [0; 19], spots: 0 }
-    }
-
-    fn note(&mut self, order: &Order, answer: Answer) {
-        self.refusals[answer.refusal as usize] += 1;
-        self.spots += u32::from(answer.refusal == 0 && order.entry == order.exit);
-    }
-
-    fn at_least(&self, times: u32, refusals: &[usize]) {
-        for &refusal in refusals {
-            let met = self.refusals[refusal];
-            assert!(met >= times, "refusal {refusal} is met {met} times");
-        }
-    }
-
-    fn spots_at_least(&self, times: u32) {
-        assert!(self.spots >= times, "equal terminals are accepted {} times", self.spots);
-    }
 }
 
 #[test]
@@ -251,40 +220,6 @@ fn a_pitch_in_the_range_changes_nothing() {
     }
 }
 
-/// A number that is good for a side or a coordinate, or one from the ends of the range.
-fn number(random: &mut Random, largest: u32) -> u32 {
-    const HOSTILE: [u32; 14] = [
-        0,
-        1,
-        127,
-        128,
-        129,
-        255,
-        256,
-        257,
-        65_535,
-        65_536,
-        0x7FFF_FFFF,
-        0x8000_0000,
-        u32::MAX - 1,
-        u32::MAX,
-    ];
-    match random.below(48) {
-        0 => HOSTILE[random.below(14) as usize],
-        1 => largest.wrapping_add(1),
-        _ => random.within(1, largest.clamp(1, 128)),
-    }
-}
-
-/// A pitch within the range, or, now and then, one of those above or any number.
-fn pitch(random: &mut Random) -> u32 {
-    match random.below(32) {
-        0 => PITCHES[random.below(7) as usize],
-        1 => random.next() as u32,
-        _ => random.within(1_000, 10_000),
-    }
-}
-
 /// An order on a panel that is small, middling, or, once in `rarely`, of any size.
 fn order(random: &mut Random, rarely: u32) -> Order {
     let largest = match random.below(rarely) {
@@ -293,26 +228,7 @@ fn order(random: &mut Random, rarely: u32) -> Order {
         _ => 6,
     };
     let (width, height) = (number(random, largest), number(random, largest));
-    let mut cell = || (number(random, width), number(random, height));
-    let (entry, exit) = (cell(), cell());
-    let exit = if random.below(64) == 0 { entry } else { exit };
-    Order::new(width, height, pitch(random), entry, exit)
-}
-
-fn dirty(random: &mut Random, length: usize) -> Vec<u8> {
-    (0..length).map(|_| random.byte()).collect()
-}
-
-/// A length at, around or far from the one that is enough.
-fn length(random: &mut Random, enough: usize) -> usize {
-    match random.below(8) {
-        0 => enough.saturating_sub(1),
-        1 => random.below(enough as u32 + 1) as usize,
-        2 => 0,
-        3 => enough + 1,
-        4 => enough + random.below(40) as usize,
-        _ => enough,
-    }
+    order_on(random, width, height)
 }
 
 #[test]
@@ -333,58 +249,10 @@ fn random_and_hostile_draws() {
     let mut met = Met::new();
     for _ in 0..250_000 {
         let order = order(&mut random, 400);
-        // As for the usual pitch, so that 18 meets every length too.
-        let enough = bound(&order.at(USUAL)).map_or(random.below(20), |b| 2 * b.count) as usize;
-        let length = length(&mut random, enough);
-        met.note(&order, compare_draw(&order, &mut dirty(&mut random, length)));
+        met.note(&order, compare_draw(&order, &mut buffer_for(&mut random, &order)));
     }
     met.at_least(100, &[0, 1, 18, 2, 3, 5]);
     met.spots_at_least(100);
-}
-
-/// A walk of neighbours, on the panel or off it, which may come back to its own cells.
-fn walk(random: &mut Random, order: &Order, cells: u32) -> Vec<u8> {
-    let (mut x, mut y) = order.entry;
-    let mut list = vec![x as u8, y as u8];
-    for _ in 1..cells {
-        let step: Cell = match random.below(4) {
-            0 => (x.wrapping_add(1), y),
-            1 => (x.wrapping_sub(1), y),
-            2 => (x, y.wrapping_add(1)),
-            _ => (x, y.wrapping_sub(1)),
-        };
-        if order.holds(step) || random.below(64) == 0 {
-            (x, y) = step;
-            list.extend([x as u8, y as u8]);
-        }
-    }
-    list
-}
-
-/// The list with one or several faults.
-fn damage(random: &mut Random, list: &mut Vec<u8>) {
-    for _ in 0..random.within(1, 3) {
-        let cells = (list.len() / 2) as u32;
-        if cells == 0 {
-            return;
-        }
-        let at = 2 * random.below(cells) as usize;
-        match random.below(9) {
-            0 => list[at] = random.byte(),
-            1 => list[at + 1] ^= 1 << random.below(8),
-            2 => drop(list.drain(at..at + 2)),
-            3 => list.extend_from_within(at..at + 2),
-            4 => list.truncate(at),
-            5 => drop(list.pop()),
-            6 => {
-                let other = 2 * random.below(cells) as usize;
-                list.swap(at, other);
-                list.swap(at + 1, other + 1);
-            }
-            7 => drop(list.drain(..at)),
-            _ => *list = list.chunks(2).rev().flatten().copied().collect(),
-        }
-    }
 }
 
 #[test]
@@ -393,30 +261,8 @@ fn random_and_hostile_judgements() {
     let mut met = Met::new();
     for _ in 0..400_000 {
         let order = order(&mut random, 400);
-        // List and scratch are made for the usual pitch, so that 18 meets every list too.
-        let usual = order.at(USUAL);
-        let mut list = match (bound(&usual), random.below(8)) {
-            (_, 0) => {
-                let length = random.below(24) as usize;
-                dirty(&mut random, length)
-            }
-            (Ok(_), 1 | 2) => {
-                let cells = random.within(1, 24);
-                walk(&mut random, &order, cells)
-            }
-            (Ok(found), _) => {
-                let mut track = vec![0; 2 * found.count as usize];
-                assert_eq!(archive::draw(&usual, &mut track).count, found.count);
-                track
-            }
-            (Err(_), _) => vec![1, 1, 2, 1],
-        };
-        if random.below(3) != 0 {
-            damage(&mut random, &mut list);
-        }
-        let enough = if usual.check().is_ok() { order.area() } else { 9 };
-        let length = length(&mut random, enough);
-        met.note(&order, compare_judge(&order, &list, &mut dirty(&mut random, length)));
+        let list = list_for(&mut random, &order);
+        met.note(&order, compare_judge(&order, &list, &mut scratch_for(&mut random, &order)));
     }
     // 10 is never met: more than mn cells of the panel have one twice, which is 9.
     met.at_least(100, &[0, 1, 18, 2, 3, 5, 6, 7, 8, 9, 11]);

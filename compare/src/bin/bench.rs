@@ -1,6 +1,7 @@
 //! Times of Bound, Draw and Judge beside the independent Rust implementation, plain loops in C that
 //! write the same cells, memcpy of the same bytes, and Judge in one pass in Rust and in C. All contenders
 //! of a line take turns in one run, and each one's shortest turn counts. Buffers are not cleared between.
+//! Also the bench cutter's calls beside the large ones.
 
 use compare::archive;
 use compare::random::Random;
@@ -226,6 +227,26 @@ fn head_of_judge() {
     println!("|{}", "---|".repeat(2 * names.len()));
 }
 
+/// The bench cutter's calls beside the large ones.
+fn bench_cutter(name: &str, jobs: &[Job]) {
+    let (room, area) = jobs.iter().fold((0, 0), |(r, a), j| (r.max(j.track.len()), a.max(j.order.area())));
+    let (mut a, mut b) = (vec![0u8; room], vec![0u8; room]);
+    let (mut c, mut d) = (vec![0u8; area], vec![0u8; area]);
+    let t = times(
+        jobs.len(),
+        &mut [
+            &mut || jobs.iter().for_each(|j| _ = black_box(archive::bound(black_box(&j.order)))),
+            &mut || jobs.iter().for_each(|j| _ = black_box(archive::bench_bound(black_box(&j.order)))),
+            &mut || jobs.iter().for_each(|j| _ = black_box(archive::draw(black_box(&j.order), black_box(&mut a)))),
+            &mut || jobs.iter().for_each(|j| _ = black_box(archive::bench_draw(black_box(&j.order), black_box(&mut b)))),
+            &mut || jobs.iter().for_each(|j| _ = black_box(archive::judge(&j.order, black_box(&j.track), black_box(&mut c)))),
+            &mut || jobs.iter().for_each(|j| _ = black_box(archive::bench_judge(&j.order, black_box(&j.track), black_box(&mut d)))),
+        ],
+    );
+    let all: Vec<String> = t.iter().map(|&t| time(t)).collect();
+    println!("| {name} | {} |", all.join(" | "));
+}
+
 /// Random orders on panels whose sides a function gives. Their terminals differ: one cell is no track to time.
 fn mix(seed: u64, jobs: usize, sides: impl Fn(&mut Random) -> (u32, u32)) -> Vec<Job> {
     let mut random = Random::new(seed);
@@ -266,5 +287,12 @@ fn main() {
     head_of_judge();
     for (name, jobs) in &sizes {
         bench_judge(name, jobs);
+    }
+    println!(
+        "\nThe bench cutter's calls beside the large ones\n\n| orders | Bound | on the bench | Draw | on the bench | \
+         Judge | on the bench |\n|---|---|---|---|---|---|---|"
+    );
+    for (name, jobs) in &sizes[..2] {
+        bench_cutter(name, jobs);
     }
 }

@@ -1,16 +1,43 @@
--- The count of a corner track: the lines that go first, and the track of what remains, have the count's cells together.
+-- The count of a corner track, computed for some and then by law: the lines that go first, and the track of what remains, have the count's cells together.
 -- Outside the degenerate cases w * h + dx + dy keeps its parity when a row is taken away, so the rest is linear with w * h as an unknown.
 use Prim.Native.Nat.{ℕ, _+_, _-_, _*_, _/_, _%_, _≤_, _<_}
 use mathlib.Core.Path.{_≡_, refl, sym, ap, _∙_}
-use mathlib.Core.Logic.{_≢_, _⊎_, inl, inr}
+use mathlib.Core.Logic.{_≢_}
+use mathlib.Core.List.{[], _∷_}
 use native.Mathlib.Omega.{arith}
 use native.Mathlib.Nat.{mul-comm, mul-one, mul-suc, mul-add, mul-pos}
 use native.Mathlib.Numerals.{add-one}
-use borrow.Author.Tests.{eq-eqb, ne-eqb}
-use Rattle.grid.proofs.Tests.{cond-yes, cond-no}
-use Rattle.corner.specs.Corner.{cornerCount}
-use Rattle.corner.specs.Peel.{Open, Turned, First}
-use Rattle.line.proofs.Between.{by-eq, by-le}
+use lib.Dec.{ltb, eqb}
+use lib.ListN.{length}
+use borrow.Author.Tests.{eq-eqb, ne-eqb, eqb-true, eqb-false, ltb-true, ltb-false}
+use Rattle.grid.specs.declared.Cell.{Cell}
+use Rattle.grid.specs.Panel.{cell, dist}
+use Rattle.grid.specs.Bytes.{bytes}
+use Rattle.grid.proofs.Tests.{cond-yes, cond-no, both-branches}
+use Rattle.line.specs.Rectangle.{ahead, turning}
+use Rattle.line.specs.Sweep.{sweep}
+use Rattle.line.proofs.Between.{by-eq}
+use Rattle.corner.specs.declared.Lines.{Lines}
+use Rattle.corner.specs.Corner.{cornerCount, trackCount}
+use Rattle.corner.specs.Cells.{chosen, peeled, cornerCells}
+use Rattle.corner.specs.Peel.{Open}
+use Rattle.corner.proofs.Chosen.{Turned, First, GoFirst}
+
+-- ---- some corner tracks, computed: a wrong choice of lines, or another one with as many cells, shows here by its numbers
+
+-- by how many cells the track from the corner (1, 1) of 4 by 3 cells to one of them misses the count
+abbrev off : Cell → ℕ
+off t = dist (length (cornerCells (cell 1 1) (cell 4 3) t)) (trackCount (cell 1 1) (cell 4 3) t)
+
+corners-counted : off (cell 2 1) + off (cell 1 2) + off (cell 3 2) + off (cell 4 2) + off (cell 2 3) + off (cell 4 3) ≡ 0
+unfolding dist ahead turning sweep chosen peeled cornerCells cornerCount trackCount
+corners-counted = refl
+
+-- 3 by 3 to the opposite corner, rows first; 2 by 3, upright, to the corner below
+corners-shown : (bytes (cornerCells (cell 1 1) (cell 3 3) (cell 3 3)) ≡ 1 ∷ 1 ∷ 2 ∷ 1 ∷ 3 ∷ 1 ∷ 3 ∷ 2 ∷ 2 ∷ 2 ∷ 1 ∷ 2 ∷ 1 ∷ 3 ∷ 2 ∷ 3 ∷ 3 ∷ 3 ∷ [])
+    × (bytes (cornerCells (cell 1 1) (cell 2 3) (cell 1 3)) ≡ 1 ∷ 1 ∷ 2 ∷ 1 ∷ 2 ∷ 2 ∷ 1 ∷ 2 ∷ 1 ∷ 3 ∷ [])
+unfolding dist ahead turning sweep chosen peeled cornerCells
+corners-shown = (refl, refl)
 
 -- ---- the count, case by case
 
@@ -139,39 +166,35 @@ rows-right k w h dx dy v some e y = record { some = some; far = omega arith; cou
 
 -- ---- the choice
 
--- the row or the column, in any rectangle whose target is not the corner
-pub line-right : (w h dx dy : ℕ) → dx < w → dy < h → 1 ≤ dx + dy → First 1 w h dx dy ⊎ First 1 h w dy dx
-line-right w h dx dy x y z =
-    by-eq dy 0
-    (λ a. column (omega arith) (λ u. omega arith) (λ u v. omega arith))
-    (λ a. by-le dy 1
-    (λ b. by-eq h 2
-    (λ c. by-le dx 1 (λ d. row (omega arith) (λ u. d) (λ u v. omega arith)) (λ d. column (omega arith) (λ u. omega arith) (λ u v. omega arith)))
-    (λ c. by-eq (dx + 1) w (λ d. far (omega arith) d) (λ d. row (omega arith) (λ u. omega arith) (λ u v. omega arith))))
-    (λ b. row (omega arith) (λ u. omega arith) (λ u v. omega arith)))
-  where
-    row : 1 ≤ dy → (h ≡ 2 → dx ≤ 1) → (h ≢ 2 → w ≢ 1 → w + dy ≢ dx + 2) → First 1 w h dx dy ⊎ First 1 h w dy dx
-    row l two many = inl (row-right w h dx dy x y l two many)
-
-    column : 1 ≤ dx → (w ≡ 2 → dy ≤ 1) → (w ≢ 2 → h ≢ 1 → h + dx ≢ dy + 2) → First 1 w h dx dy ⊎ First 1 h w dy dx
-    column l two many = inr (row-right h w dy dx y x l two many)
-
-    far : dy ≡ 1 → dx + 1 ≡ w → First 1 w h dx dy ⊎ First 1 h w dy dx
-    far b d =
-        by-eq dx 0
-        (λ e. row (omega arith) (λ u. omega arith) (λ u v. omega arith))
-        (λ e. column (omega arith) (λ u. omega arith) (λ u v. omega arith))
-
--- the choice as the code makes it
 module _ {w h dx dy : ℕ} (o : Open w h dx dy) where
-  pub chosen-level : dy ≡ 0 → First 1 h w dy dx
-  chosen-level a = row-right h w dy dx (o .down) (o .across) (let z = o .away in omega arith) (λ u. omega arith) (λ u v. omega arith)
+  level : dy ≡ 0 → First 1 h w dy dx
+  level a = row-right h w dy dx (o .down) (o .across) (let z = o .away in omega arith) (λ u. omega arith) (λ u v. omega arith)
 
-  pub chosen-two : dy ≡ 1 → dx ≤ 1 → h ≡ 2 → First 1 w h dx dy
-  chosen-two a b c = row-right w h dx dy (o .across) (o .down) (omega arith) (λ u. b) (λ u v. absurd (u c))
+  two : dy ≡ 1 → dx ≤ 1 → h ≡ 2 → First 1 w h dx dy
+  two a b c = row-right w h dx dy (o .across) (o .down) (omega arith) (λ u. b) (λ u v. absurd (u c))
 
-  pub chosen-far : dy ≡ 1 → dx + 1 ≡ w → h ≢ 2 → First 1 h w dy dx
-  chosen-far a b c = let z = o .wide in row-right h w dy dx (o .down) (o .across) (omega arith) (λ u. omega arith) (λ u v. omega arith)
+  far : dy ≡ 1 → dx ≡ w - 1 → h ≢ 2 → First 1 h w dy dx
+  far a b c = let z = o .wide in row-right h w dy dx (o .down) (o .across) (omega arith) (λ u. omega arith) (λ u v. omega arith)
 
-  pub chosen-else : dy ≡ 1 → dx + 1 ≢ w → h ≢ 2 → First 1 w h dx dy
-  chosen-else a b c = row-right w h dx dy (o .across) (o .down) (omega arith) (λ u. absurd (c u)) (λ u v. omega arith)
+  other : dy ≡ 1 → dx ≢ w - 1 → h ≢ 2 → First 1 w h dx dy
+  other a b c = let z = o .wide in row-right w h dx dy (o .across) (o .down) (omega arith) (λ u. absurd (c u)) (λ u v. omega arith)
+
+  -- the lines that are chosen
+  abbrev Fine : Lines → Type 0
+  Fine l = GoFirst (l .row) (l .count) w h dx dy
+
+  pub chosen-right : Fine (chosen w h dx dy)
+  unfolding chosen
+  chosen-right =
+      let z = o .wide in
+      both-branches Fine (ltb 1 dy) _ _
+      (λ a. let l = ltb-true 1 dy a in rows-right _ _ _ _ _ (o .wide) (omega arith) (omega arith) (o .down))
+      (λ a. let l = ltb-false 1 dy a in both-branches Fine (eqb dy 0) _ _
+      (λ b. level (eqb-true _ _ b))
+      (λ b. let e : dy ≡ 1 = omega (arith, eqb-false dy 0 b) in both-branches Fine (eqb h 2) _ _
+      (λ c. both-branches Fine (ltb 1 dx) _ _
+      (λ d. let k = ltb-true 1 dx d in rows-right _ _ _ _ _ (o .high) (omega arith) (omega arith) (o .across))
+      (λ d. two e (ltb-false 1 dx d) (eqb-true _ _ c)))
+      (λ c. both-branches Fine _ _ _
+      (λ d. far e (eqb-true _ _ d) (eqb-false _ _ c))
+      (λ d. other e (eqb-false _ _ d) (eqb-false _ _ c)))))

@@ -1,27 +1,32 @@
 -- The first lines of a corner track and the rectangle that remains: both lie in the whole, have no cell in common, and touch where the ones end
 -- and the other begins. Rows and columns are one law, over `Frame`.
-use Prim.Native.Nat.{ℕ, _+_, _-_, _*_, _%_, _≤_}
+use Prim.Native.Nat.{ℕ, _+_, _-_, _*_, _%_, _≤_, _<_}
 use mathlib.Core.Path.{_≡_, refl, sym, ap, _∙_, subst, subst₂}
 use mathlib.Core.Logic.{_≢_, _⊎_, inl, inr, ⊎-elim}
 use mathlib.Core.Bool.{Bool, true, false, not, _||_}
+use mathlib.Core.List.{reverse}
 use native.Mathlib.Omega.{arith}
 use native.Mathlib.Nat.{mul-le-mul}
-use lib.Dec.{eqb}
-use borrow.Author.Tests.{eqb-true, eqb-false, eq-eqb, ne-eqb}
+use lib.Dec.{leb, eqb}
+use borrow.Author.Tests.{eqb-true, eqb-false, eq-eqb, ne-eqb, le-leb, lt-leb}
 use Rattle.grid.specs.declared.Cell.{Cell}
-use Rattle.grid.specs.Panel.{cell, dist}
-use Rattle.grid.proofs.Tests.{both-branches}
+use Rattle.grid.specs.Panel.{dist}
+use Rattle.grid.proofs.Tests.{both-branches, cond-yes, cond-no}
 use Rattle.grid.proofs.Facts.{clash, or-cases, dist-sym, ne-cases, same-ne, same-eq}
 use Rattle.line.specs.Rectangle.{Inside, cellsBetween, ahead, turning, sweepEnd}
+use Rattle.line.specs.Sweep.{sweep}
 use Rattle.line.specs.Drawn.{InBytes}
 use Rattle.line.proofs.Between.{Between, between-sym, parts, dist-same, dist-ne, dist-less, dist-small, at-once, by-eq, Cut, cut}
 use Rattle.line.proofs.Frame.{Frame, in-rows, in-columns, inside-x, inside-y, in-bytes, turning-even, turning-odd, sweep-row, sweep-column}
-use Rattle.line.proofs.Sweep.{row-bytes, column-bytes}
+use Rattle.line.proofs.Sweep.{row-bytes, column-bytes, sweep-home, line-home}
 use Rattle.corner.specs.declared.Peeled.{Peeled}
 use Rattle.corner.specs.declared.Sizes.{Sizes}
+use Rattle.corner.specs.declared.Lines.{Lines}
 use Rattle.corner.specs.Corner.{cornerCount, trackCount}
-use Rattle.corner.specs.Peel.{oneLine, Measured, Open, Turned, First, Chosen, Sides, FirstSides, firstLines, Peel}
-use Rattle.corner.proofs.Count.{line-right, count-turned, count-thin, count-flat, count-here}
+use Rattle.corner.specs.Cells.{oneLine, chosen, linesBy, firstLines, peeled}
+use Rattle.corner.specs.Peel.{Measured, Open, Sides, FirstSides}
+use Rattle.corner.proofs.Chosen.{Turned, First, GoFirst, Peel}
+use Rattle.corner.proofs.Count.{chosen-right, count-turned, count-thin, count-flat, count-here}
 
 -- ---- there and back
 
@@ -35,15 +40,6 @@ ends k p p' =
     by-eq (k % 2) 0
     (λ e. Ends.even e (turning-even k p p' e) (turning-even k p' p e))
     (λ e. Ends.odd (omega arith) (turning-odd k p p' e) (turning-odd k p' p e))
-
-ends-here : {k p p' x o : ℕ} → Ends k p p' x o → x ≡ turning k p p'
-ends-here {k} {p} {p'} (Ends.even e f g) = f ∙ sym (turning-even k p p' e)
-ends-here {k} {p} {p'} (Ends.odd e f g) = f ∙ sym (turning-odd k p p' (omega arith))
-
--- the same number of lines from x end at p
-ends-back : {k p p' x o : ℕ} → Ends k p p' x o → p ≡ turning k x o
-ends-back {k} {x = x} {o = o} (Ends.even e f g) = sym f ∙ sym (turning-even k x o e)
-ends-back {k} {x = x} {o = o} (Ends.odd e f g) = sym g ∙ sym (turning-odd k x o (omega arith))
 
 ends-dist : {k p p' x o : ℕ} → Ends k p p' x o → dist x o ≡ dist p p'
 ends-dist (Ends.even e f g) = λ i. dist (f i) (g i)
@@ -77,21 +73,27 @@ counted-columns : Counted in-columns
 unfolding in-columns trackCount
 counted-columns = record { count = λ p q p' q' i. count-turned _ _ _ _ (dist-less (inside-x i)) (dist-less (inside-y i)) }
 
--- k lines, each from p to p', off the lines q to q': they end at x in line l; o is the other side, m the next line, and n the number of their cells
-pub record Numbers (p q p' q' k x o l m n : ℕ) : Type 0 where
-  pub end : x ≡ turning k p p'
-  pub other : o ≡ turning k p' p
-  pub last : l ≡ ahead q q' (k - 1)
-  pub next : m ≡ ahead q q' k
-  pub cells : n ≡ (dist p p' + 1) * k
+module _ {row : Bool} {E : ℕ → ℕ → Cell} {F : Frame row E} (C : Counted F) (p q p' q' : ℕ) (t : Cell) (i : Inside (E p q) (E p' q') t)
+    {k : ℕ} (r : First k (dist p p' + 1) (dist q q' + 1) (dist p (F .along t)) (dist q (F .over t))) where
+  -- where the lines end, the other side, the last line and the next one
+  abbrev x : ℕ
+  x = turning k p p'
 
--- the lines by these numbers
-abbrev pub off : Bool → (ℕ → ℕ → Cell) → (q p' q' x o l m n : ℕ) → Peeled
-off row E q p' q' x o l m n =
-    record { row = row; far = E p' l; end = E x l; home = E o q; cells = record { 0 = n }; corner = E x m; opposite = E o q' }
+  abbrev o : ℕ
+  o = turning k p' p
 
-module _ {row : Bool} {E : ℕ → ℕ → Cell} {F : Frame row E} (C : Counted F) {p q p' q' k x o l m : ℕ} {t : Cell} (e : Ends k p p' x o) (u : Cut q q' k l m)
-    (i : Inside (E p q) (E p' q') t) (r : First k (dist p p' + 1) (dist q q' + 1) (dist p (F .along t)) (dist q (F .over t))) where
+  abbrev l : ℕ
+  l = ahead q q' (k - 1)
+
+  abbrev m : ℕ
+  m = ahead q q' k
+
+  e : Ends k p p' x o
+  e = ends k p p'
+
+  u : Cut q q' k l m
+  u = cut q q' k (r .some) (omega (arith, parts (F .inside-over i), r .far))
+
   rest-target : Inside (E x m) (E o q') t
   rest-target = F .inside (ends-to e (F .inside-along i)) (u .rest _ (F .inside-over i) (r .far) .0)
 
@@ -104,67 +106,35 @@ module _ {row : Bool} {E : ℕ → ℕ → Cell} {F : Frame row E} (C : Counted 
       ∙ ap (λ (n : ℕ). (dist p p' + 1) * k + cornerCount (n + 1) (dist m q' + 1) ex ey) (sym (ends-dist e))
       ∙ ap (λ (n : ℕ). (dist p p' + 1) * k + n) (sym (C .count x m o q' rest-target))
 
-  peeled : {n : ℕ} → n ≡ (dist p p' + 1) * k → Peel (E p q) (E p' q') t (off row E q p' q' x o l m n)
-  peeled {n} g = record {
-    size = g ∙ ap (λ (j : ℕ). (dist p p' + 1) * j) (sym (u .size)) ∙ sym (F .size p q p' l);
-    end = ap (λ (j : ℕ). E j l) (ends-here e) ∙ ap (λ (j : ℕ). E (turning j p p') l) (sym (u .size)) ∙ sym (F .end p q p' l);
-    size-back = g ∙ (λ j. (sym (ends-dist e) j + 1) * sym back j) ∙ sym (F .size x l o q);
-    end-back = ap (λ (j : ℕ). E j q) (ends-back e) ∙ ap (λ (j : ℕ). E (turning j x o) q) (sym back) ∙ sym (F .end x l o q);
+  taken-off : Peel (E p q) (E p' q') t (linesBy row E p q p' q' k)
+  taken-off = record {
+    size = ap (λ (j : ℕ). (dist p p' + 1) * j) (sym (u .size)) ∙ sym (F .size p q p' l);
+    end = ap (λ (j : ℕ). E (turning j p p') l) (sym (u .size)) ∙ sym (F .end p q p' l);
+    back = sweep-home F p q p' l (ap (λ (j : ℕ). turning j p p') (sym (u .size))) (ap (λ (j : ℕ). turning j p' p) (sym (u .size)));
     lines = λ d j. F .inside (F .inside-along j) (u .before _ (F .inside-over j));
     same = λ d j. F .inside (ends-from e (F .inside-along j)) (between-sym (F .inside-over j));
     rest = λ d j. F .inside (ends-from e (F .inside-along j)) (u .behind _ (F .inside-over j));
     apart = λ d j z. u .apart _ (F .inside-over j) (F .inside-over z);
     beside = F .beside x l m (u .beside);
     target = rest-target;
-    counts = rest-counts ∙ ap (λ (j : ℕ). j + trackCount (E x m) (E o q') t) (sym g);
+    counts = rest-counts;
     less = let y = u .left in let z = ends-dist e in let w = r .some in omega (arith, F .sides x m o q', F .sides p q p' q');
   }
-    where
-      back : dist l q + 1 ≡ k
-      back = ap (λ (j : ℕ). j + 1) (dist-sym l q) ∙ u .size
-
-taken-off : {row : Bool} {E : ℕ → ℕ → Cell} {F : Frame row E} → Counted F → (p q p' q' : ℕ) (t : Cell) → Inside (E p q) (E p' q') t
-    → {k x o l m n : ℕ} → First k (dist p p' + 1) (dist q q' + 1) (dist p (F .along t)) (dist q (F .over t)) → Numbers p q p' q' k x o l m n
-    → Peel (E p q) (E p' q') t (off row E q p' q' x o l m n)
-taken-off {F = F} C p q p' q' t i {k} r n =
-    let far : k ≤ dist q q' = omega (arith, parts (F .inside-over i), r .far) in
-    peeled C
-    (subst₂ (λ (x o : ℕ). Ends k p p' x o) (sym (n .end)) (sym (n .other)) (ends k p p'))
-    (subst₂ (λ (l m : ℕ). Cut q q' k l m) (sym (n .last)) (sym (n .next)) (cut q q' k (r .some) far))
-    i r (n .cells)
 
 -- the first k rows, or else columns, of the rectangle of a and b may go first
 pub record MayGo (row : Bool) (k : ℕ) (a b t : Cell) : Type 0 where
-  pub chosen : Chosen row k (dist (a .x) (b .x) + 1) (dist (a .y) (b .y) + 1) (dist (a .x) (t .x)) (dist (a .y) (t .y))
-
-exact : (p q p' q' k : ℕ) → Numbers p q p' q' k (turning k p p') (turning k p' p) (ahead q q' (k - 1)) (ahead q q' k) ((dist p p' + 1) * k)
-exact p q p' q' k = record { end = refl; other = refl; last = refl; next = refl; cells = refl }
+  pub lines : GoFirst row k (dist (a .x) (b .x) + 1) (dist (a .y) (b .y) + 1) (dist (a .x) (t .x)) (dist (a .y) (t .y))
 
 module _ (a b t : Cell) (i : Inside a b t) where
-  pub rows-taken : {k x o l m n : ℕ} → MayGo true k a b t → Numbers (a .x) (a .y) (b .x) (b .y) k x o l m n
-      → Peel a b t (off true (λ p q. cell p q) (a .y) (b .x) (b .y) x o l m n)
-  unfolding in-rows
-  rows-taken r = taken-off counted-rows (a .x) (a .y) (b .x) (b .y) t i (r .chosen)
+  lines-peeled : (row : Bool) (k : ℕ) → MayGo row k a b t → Peel a b t (firstLines row a b k)
+  unfolding in-rows in-columns
+  lines-peeled true k r = taken-off counted-rows (a .x) (a .y) (b .x) (b .y) t i (r .lines)
+  lines-peeled false k r = taken-off counted-columns (a .y) (a .x) (b .y) (b .x) t i (r .lines)
 
-  pub columns-taken : {k x o l m n : ℕ} → MayGo false k a b t → Numbers (a .y) (a .x) (b .y) (b .x) k x o l m n
-      → Peel a b t (off false (λ p q. cell q p) (a .x) (b .y) (b .x) x o l m n)
-  unfolding in-columns
-  columns-taken r = taken-off counted-columns (a .y) (a .x) (b .y) (b .x) t i (r .chosen)
-
-  -- the line that may go first
-  pub first-line : 1 ≤ dist (a .x) (t .x) + dist (a .y) (t .y) → MayGo true 1 a b t ⊎ MayGo false 1 a b t
-  first-line h =
-      ⊎-elim (λ r. inl (record { chosen = r })) (λ r. inr (record { chosen = r }))
-      (line-right _ _ _ _ (dist-less (inside-x i)) (dist-less (inside-y i)) h)
-
-  -- the lines that the code computes, and what it asks
-  pub lines-peeled : (row : Bool) {k : ℕ} → MayGo row k a b t → Peel a b t (firstLines row a b k)
-  lines-peeled true r = rows-taken r (exact _ _ _ _ _)
-  lines-peeled false r = columns-taken r (exact _ _ _ _ _)
-
+  -- what the code asks that computes them
   pub lines-sides : (row : Bool) {k : ℕ} → InBytes a → InBytes b → MayGo row k a b t → FirstSides row a b k
-  lines-sides true s u g = let r = g .chosen in record { bytes = row-bytes s u; some = r .some; most = omega (arith, r .far, parts (inside-y i)) }
-  lines-sides false s u g = let r = g .chosen in record { bytes = column-bytes s u; some = r .some; most = omega (arith, r .far, parts (inside-x i)) }
+  lines-sides true s u g = let r = g .lines in record { bytes = row-bytes s u; some = r .some; most = omega (arith, r .far, parts (inside-y i)) }
+  lines-sides false s u g = let r = g .lines in record { bytes = column-bytes s u; some = r .some; most = omega (arith, r .far, parts (inside-x i)) }
 
 -- their number of cells
 pub lines-small : {p q p' q' k d : ℕ} → Sides p q p' q' k → d ≡ dist p p' → (d + 1) * k ≤ 65536
@@ -179,6 +149,9 @@ or-none : (p q : Bool) → (p || q) ≡ false → (p ≡ false) × (q ≡ false)
 or-none true q e = clash (cc)
 or-none false q e = (refl, e)
 
+pub open-turned : {w h dx dy : ℕ} → Open w h dx dy → Open h w dy dx
+open-turned o = record { wide = o .high; high = o .wide; across = o .down; down = o .across; away = let z = o .away in omega arith }
+
 pub record Bounds (s : Sizes) : Type 0 where
   pub wide : s .w ≤ 256
   pub high : s .h ≤ 256
@@ -192,11 +165,11 @@ module _ {a b t : Cell} {s : Sizes} (m : Measured a b t s) where
   unfolding trackCount
   measured-count = λ i. cornerCount (m .width i) (m .height i) (m .across i) (m .down i)
 
-  pub measured : (row : Bool) (k : ℕ) → Chosen row k (s .w) (s .h) (s .dx) (s .dy) → MayGo row k a b t
-  measured row k r = record { chosen = subst (λ (T : Type 0). T) (λ i. Chosen row k (m .width i) (m .height i) (m .across i) (m .down i)) r }
+  measured : (row : Bool) (k : ℕ) → GoFirst row k (s .w) (s .h) (s .dx) (s .dy) → MayGo row k a b t
+  measured row k r = record { lines = subst (λ (T : Type 0). T) (λ i. GoFirst row k (m .width i) (m .height i) (m .across i) (m .down i)) r }
 
   -- rows of the turned rectangle are columns
-  pub measured-turned : (row : Bool) (k : ℕ) → Chosen row k (s .h) (s .w) (s .dy) (s .dx) → MayGo (not row) k a b t
+  measured-turned : (row : Bool) (k : ℕ) → GoFirst row k (s .h) (s .w) (s .dy) (s .dx) → MayGo (not row) k a b t
   measured-turned true k r = measured false k r
   measured-turned false k r = measured true k r
 
@@ -238,16 +211,52 @@ module _ {a b t : Cell} {s : Sizes} (m : Measured a b t s) where
       far (inl n) = omega (arith, dist-ne (a .x) (t .x) n)
       far (inr n) = omega (arith, dist-ne (a .y) (t .y) n)
 
-pub open-turned : {w h dx dy : ℕ} → Open w h dx dy → Open h w dy dx
-open-turned o = record { wide = o .high; high = o .wide; across = o .down; down = o .across; away = let z = o .away in omega arith }
+  -- the lines that the code chooses by them
+  module _ {l : Lines} where
+    pub peeled-wide : s .h ≤ s .w → l ≡ chosen (s .w) (s .h) (s .dx) (s .dy) → firstLines (l .row) a b (l .count) ≡ peeled a b t
+    unfolding peeled
+    peeled-wide h e =
+        let c = e ∙ (λ i. chosen (m .width i) (m .height i) (m .across i) (m .down i)) in
+        cond-yes _ _ (le-leb (dist (a .y) (b .y) + 1) (dist (a .x) (b .x) + 1) (omega (arith, m .width, m .height)))
+        (λ i. firstLines (c i .row) a b (c i .count))
+
+    pub peeled-tall : s .w < s .h → l ≡ chosen (s .h) (s .w) (s .dy) (s .dx) → firstLines (not (l .row)) a b (l .count) ≡ peeled a b t
+    unfolding peeled
+    peeled-tall h e =
+        let c = e ∙ (λ i. chosen (m .height i) (m .width i) (m .down i) (m .across i)) in
+        cond-no _ _ (lt-leb (dist (a .y) (b .y) + 1) (dist (a .x) (b .x) + 1) (omega (arith, m .width, m .height)))
+        (λ i. firstLines (not (c i .row)) a b (c i .count))
+
+  -- the lines chosen along the width, and along the height, may go first
+  module _ (i : Inside a b t) (n : oneLine a b t ≡ false) where
+    pub wide-go : {l : Lines} → l ≡ chosen (s .w) (s .h) (s .dx) (s .dy) → MayGo (l .row) (l .count) a b t
+    wide-go e =
+        let c = chosen (s .w) (s .h) (s .dx) (s .dy) in
+        subst (λ (l : Lines). MayGo (l .row) (l .count) a b t) (sym e) (measured (c .row) (c .count) (chosen-right (open-measured i n)))
+
+    pub tall-go : {l : Lines} → l ≡ chosen (s .h) (s .w) (s .dy) (s .dx) → MayGo (not (l .row)) (l .count) a b t
+    tall-go e =
+        let c = chosen (s .h) (s .w) (s .dy) (s .dx) in
+        subst (λ (l : Lines). MayGo (not (l .row)) (l .count) a b t) (sym e)
+        (measured-turned (c .row) (c .count) (chosen-right (open-turned (open-measured i n))))
+
+-- the lines that go first
+pub peel-right : (a b t : Cell) → Inside a b t → oneLine a b t ≡ false → Peel a b t (peeled a b t)
+unfolding peeled
+peel-right a b t i n =
+    let s : Sizes = record { w = dist (a .x) (b .x) + 1; h = dist (a .y) (b .y) + 1; dx = dist (a .x) (t .x); dy = dist (a .y) (t .y) } in
+    let m : Measured a b t s = record { width = refl; height = refl; across = refl; down = refl } in
+    both-branches (Peel a b t) (leb (s .h) (s .w)) _ _
+    (λ e. lines-peeled a b t i _ _ (wide-go m i n refl))
+    (λ e. lines-peeled a b t i _ _ (tall-go m i n refl))
 
 -- ---- one line
 
--- the line from the corner to the target, whether it is a row by the code's test, ends in the target, and from the target in the corner
+-- the line from the corner to the target, whether it is a row by the code's test, ends in the target, and from there has the same cells, the last one first
 pub record Only (a b t : Cell) (row : Bool) : Type 0 where
   pub counts : trackCount a b t ≡ cellsBetween a t
   pub end : sweepEnd row a t ≡ t
-  pub end-back : sweepEnd row t a ≡ a
+  pub back : sweep row t a ≡ reverse (sweep row a t)
 
 module _ (a b t : Cell) (i : Inside a b t) where
   -- the target lies in the corner's column or row
@@ -262,15 +271,17 @@ module _ (a b t : Cell) (i : Inside a b t) where
   in-line : oneLine a b t ≡ true → (a .x ≡ t .x) ⊎ (a .y ≡ t .y)
   in-line e = one-of e (λ u. inl (level u (inside-x i))) (λ u. inr (level u (inside-y i))) (λ u. inl (ap (λ (c : Cell). c .x) u))
 
-  ended : {row : Bool} → row ≡ eqb (a .y) (t .y) → (a .x ≡ t .x) ⊎ (a .y ≡ t .y) → (sweepEnd row a t ≡ t) × (sweepEnd row t a ≡ a)
+  abbrev Ended : Bool → Type 0
+  Ended row = (sweepEnd row a t ≡ t) × (sweep row t a ≡ reverse (sweep row a t))
+
+  ended : {row : Bool} → row ≡ eqb (a .y) (t .y) → (a .x ≡ t .x) ⊎ (a .y ≡ t .y) → Ended row
   ended {row} f l =
       by-eq (a .y) (t .y)
-      (λ u. by-row (eq-eqb _ _ u) (sweep-row a t u, sweep-row t a (sym u)))
-      (λ u. let c = upright u l in by-row (ne-eqb _ _ u) (sweep-column a t c, sweep-column t a (sym c)))
+      (λ u. by-row (eq-eqb _ _ u) (sweep-row a t u, line-home in-rows (a .x) (a .y) (t .x) (t .y) u))
+      (λ u. let c = upright u l in by-row (ne-eqb _ _ u) (sweep-column a t c, line-home in-columns (a .y) (a .x) (t .y) (t .x) c))
     where
-      by-row : {r : Bool} → eqb (a .y) (t .y) ≡ r → (sweepEnd r a t ≡ t) × (sweepEnd r t a ≡ a)
-          → (sweepEnd row a t ≡ t) × (sweepEnd row t a ≡ a)
-      by-row g = subst (λ (r : Bool). (sweepEnd r a t ≡ t) × (sweepEnd r t a ≡ a)) (sym (f ∙ g))
+      by-row : {r : Bool} → eqb (a .y) (t .y) ≡ r → Ended r → Ended row
+      by-row g = subst Ended (sym (f ∙ g))
 
       upright : a .y ≢ t .y → (a .x ≡ t .x) ⊎ (a .y ≡ t .y) → a .x ≡ t .x
       upright n (inl c) = c
@@ -299,7 +310,7 @@ module _ (a b t : Cell) (i : Inside a b t) where
           count-here _ _ _ _ (omega arith) ∙ sym (λ j. (u j + 1) * (v j + 1))
 
   pub only : {row : Bool} → row ≡ eqb (a .y) (t .y) → oneLine a b t ≡ true → Only a b t row
-  only f e = let d = ended f (in-line e) in record { counts = counted e; end = d .0; end-back = d .1 }
+  only f e = let d = ended f (in-line e) in record { counts = counted e; end = d .0; back = d .1 }
 
 -- a corner track has at most 256 by 256 cells
 pub track-most : {a b t : Cell} → InBytes a → InBytes b → Inside a b t → trackCount a b t ≤ 65536

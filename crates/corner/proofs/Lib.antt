@@ -1,3 +1,4 @@
+pub mod Chosen
 pub mod Count
 pub mod First
 pub mod Track

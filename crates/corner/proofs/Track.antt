@@ -1,69 +1,77 @@
--- For every rectangle, corner and target there is a track with the count's cells: the first line, then the track of what remains.
-use Prim.Native.Nat.{ℕ, zero, suc, _+_, _<_}
+-- For every rectangle, corner and target the cells of the corner track are a track with the count's cells: one line, or the lines that go first and then
+-- the track of what remains.
+use Prim.Native.Nat.{ℕ, zero, suc, _+_, _-_, _≤_, _<_}
 use mathlib.Core.Path.{_≡_, refl, sym, _∙_, subst}
-use mathlib.Core.Logic.{⊎-elim}
-use mathlib.Core.List.{List, [], _∷_, _++_}
+use mathlib.Core.List.{List, _++_}
+use mathlib.Core.Bool.{true, false}
 use native.Mathlib.Omega.{arith}
-use native.Mathlib.Nat.{mul-one}
+use lib.Dec.{eqb}
 use lib.ListN.{length, length-append}
 use Rattle.grid.specs.declared.Cell.{Cell}
-use Rattle.grid.specs.Panel.{dist}
+use Rattle.grid.specs.Panel.{dist, Neighbours}
 use Rattle.grid.specs.Track.{TrackIn}
-use Rattle.grid.proofs.Facts.{cell-eq}
-use Rattle.grid.proofs.Track.{join, single}
-use Rattle.line.specs.Rectangle.{Inside, ahead}
-use Rattle.line.proofs.Between.{by-eq, dist-eq}
-use Rattle.line.proofs.Frame.{first-inside, turning-once}
-use Rattle.line.proofs.Line.{Axis, in-row, in-column, line-track, ahead-start, length-line}
+use Rattle.grid.proofs.Tests.{both-branches, cond-yes, cond-no}
+use Rattle.grid.proofs.Track.{join, widen}
+use Rattle.line.specs.Rectangle.{Inside}
+use Rattle.line.specs.Sweep.{sweep}
+use Rattle.line.proofs.Frame.{first-inside, inside-part}
+use Rattle.line.proofs.Sweep.{sweep-track, length-sweep}
 use Rattle.corner.specs.declared.Peeled.{Peeled}
 use Rattle.corner.specs.Corner.{trackCount}
-use Rattle.corner.specs.Peel.{Peel}
-use Rattle.corner.proofs.Count.{count-here}
-use Rattle.corner.proofs.First.{Numbers, rows-taken, columns-taken, first-line}
+use Rattle.corner.specs.Cells.{oneLine, peeled, cornerFrom, cornerCells}
+use Rattle.corner.proofs.Chosen.{Peel}
+use Rattle.corner.proofs.First.{only, peel-right}
 
--- a track with a given number of cells
-abbrev pub Sized : (Cell → Type 0) → Cell → Cell → ℕ → Type 0
-Sized R s t n = (l : List Cell) × (TrackIn R s t l × (length l ≡ n))
+-- a track of the rectangle with the count's cells
+abbrev Full : Cell → Cell → Cell → List Cell → Type 0
+Full a b t l = TrackIn (Inside a b) a t l × (length l ≡ trackCount a b t)
 
-straight : {e : ℕ → Cell} → Axis e → (p q : ℕ) → Sized (Inside (e p) (e q)) (e p) (e q) (dist p q + 1)
-straight A p q = (_, (line-track A p q, length-line _ _))
+-- one line
+line-full : (a b t : Cell) → Inside a b t → oneLine a b t ≡ true → Full a b t (sweep (eqb (a .y) (t .y)) a t)
+line-full a b t i e =
+    let row = eqb (a .y) (t .y) in
+    let o = only a b t i refl e in (
+      subst (λ (z : Cell). TrackIn (Inside a b) a z (sweep row a t)) (o .end) (widen (λ c k. inside-part (first-inside a b) i k) (sweep-track row a t)),
+      length-sweep row a t ∙ sym (o .counts),
+    )
 
--- the target is the corner
-here : (a b t : Cell) → dist (a .x) (t .x) + dist (a .y) (t .y) ≡ 0 → Sized (Inside a b) a t (trackCount a b t)
-unfolding trackCount
-here a b t e =
-    let p : a ≡ t = cell-eq (dist-eq _ _ (omega arith)) (dist-eq _ _ (omega arith)) in
-    (a ∷ [], (subst (λ (c : Cell). TrackIn (Inside a b) a c (a ∷ [])) p (single (first-inside a b)), sym (count-here _ _ _ _ e)))
-
--- the line, then what remains
-joined : {a b t : Cell} {r : Peeled} → Peel a b t r → Sized (Inside a (r .far)) a (r .end) (r .cells .0)
-    → Sized (Inside (r .corner) (r .opposite)) (r .corner) t (trackCount (r .corner) (r .opposite) t) → Sized (Inside a b) a t (trackCount a b t)
-joined p l r = (
-  l .0 ++ r .0,
-  (
-    join (p .lines) (p .rest) (p .apart) (l .1 .0) (p .beside) (r .1 .0),
-    length-append (l .0) (r .0) ∙ (λ i. l .1 .1 i + r .1 .1 i) ∙ sym (p .counts),
-  ),
+-- the lines that go first, then what remains
+joined : {a b t : Cell} {r : Peeled} {l : List Cell} → Peel a b t r → Full (r .corner) (r .opposite) t l → Full a b t (sweep (r .row) a (r .far) ++ l)
+joined {a} {b} {t} {r} {l} p (w, s) = (
+  join (p .lines) (p .rest) (p .apart) (sweep-track (r .row) a (r .far)) (subst (λ (z : Cell). Neighbours z (r .corner)) (p .end) (p .beside)) w,
+  length-append (sweep (r .row) a (r .far)) l ∙ (λ i. (length-sweep (r .row) a (r .far) ∙ sym (p .size)) i + s i) ∙ sym (p .counts),
 )
 
-one : (p q p' q' : ℕ) → Numbers p q p' q' 1 p' p q (ahead q q' 1) (dist p p' + 1)
-one p q p' q' = record {
-  end = sym (turning-once p p');
-  other = sym (turning-once p' p);
-  last = sym (ahead-start q q');
-  next = refl;
-  cells = sym (mul-one _);
-}
-
 -- by the sum of the sides
-go : (k : ℕ) (a b t : Cell) → Inside a b t → dist (a .x) (b .x) + dist (a .y) (b .y) < k → Sized (Inside a b) a t (trackCount a b t)
+go : (k : ℕ) (a b t : Cell) → Inside a b t → dist (a .x) (b .x) + dist (a .y) (b .y) < k → Full a b t (cornerFrom k a b t)
 go zero a b t i h = absurd (omega arith)
-go (suc k) a b t i h = by-eq (dist (a .x) (t .x) + dist (a .y) (t .y)) 0 (here a b t) (λ n. ⊎-elim
-    (λ r. let p = rows-taken a b t i r (one (a .x) (a .y) (b .x) (b .y)) in
-    joined p (straight (in-row (a .y)) (a .x) (b .x)) (go k _ _ t (p .target) (omega (arith, p .less))))
-    (λ r. let p = columns-taken a b t i r (one (a .y) (a .x) (b .y) (b .x)) in
-    joined p (straight (in-column (a .x)) (a .y) (b .y)) (go k _ _ t (p .target) (omega (arith, p .less))))
-    (first-line a b t i (omega arith)))
+go (suc k) a b t i h =
+    both-branches (Full a b t) (oneLine a b t) _ _ (line-full a b t i)
+    (λ n. let p = peel-right a b t i n in joined p (go k _ _ t (p .target) (omega (arith, p .less))))
 
-pub corner-track : (a b t : Cell) → Inside a b t → (l : List Cell) × (TrackIn (Inside a b) a t l × (length l ≡ trackCount a b t))
-corner-track a b t i = go (suc (dist (a .x) (b .x) + dist (a .y) (b .y))) a b t i (omega arith)
+module _ (a b t : Cell) (i : Inside a b t) where
+  full : Full a b t (cornerCells a b t)
+  unfolding cornerCells
+  full = go (suc (dist (a .x) (b .x) + dist (a .y) (b .y))) a b t i (omega arith)
+
+  pub corner-track : TrackIn (Inside a b) a t (cornerCells a b t)
+  corner-track = full .0
+
+  pub length-corner : length (cornerCells a b t) ≡ trackCount a b t
+  length-corner = full .1
+
+-- ---- a turn of the loop that draws them: one line is left, or the lines that the code takes off
+
+pub one-left : (k : ℕ) (a b t : Cell) → 1 ≤ k → oneLine a b t ≡ true → cornerFrom k a b t ≡ sweep (eqb (a .y) (t .y)) a t
+one-left zero a b t h e = absurd (omega arith)
+one-left (suc k) a b t h e = sym (cond-yes _ _ e refl)
+
+module _ (a b t : Cell) {r : Peeled} (n : oneLine a b t ≡ false) (e : r ≡ peeled a b t) where
+  pub peel-here : Inside a b t → Peel a b t r
+  peel-here i = subst (Peel a b t) (sym e) (peel-right a b t i n)
+
+  pub more-left : (k : ℕ) → 1 ≤ k → cornerFrom k a b t ≡ sweep (r .row) a (r .far) ++ cornerFrom (k - 1) (r .corner) (r .opposite) t
+  more-left zero h = absurd (omega arith)
+  more-left (suc k) h =
+      let less : k ≡ suc k - 1 = omega arith in
+      sym (cond-no _ _ n refl) ∙ (λ i. sweep (sym e i .row) a (sym e i .far) ++ cornerFrom (less i) (sym e i .corner) (sym e i .opposite) t)

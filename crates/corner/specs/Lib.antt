@@ -1,3 +1,4 @@
 pub mod Corner
+pub mod Cells
 pub mod Peel
 pub mod Drawn

@@ -10,9 +10,11 @@ ghost use mathlib.Core.Bool.{false};
 ghost use Prim.Native.Nat.{_≤_};
 ghost use Rattle.grid.specs.Panel.{dist};
 ghost use Rattle.line.specs.Rectangle.{ahead, turning};
+ghost use mathlib.Core.List.{reverse};
 ghost use Rattle.corner.specs.Corner.{Inside, trackCount};
-ghost use Rattle.corner.specs.Peel.{oneLine, Measured, Open, Chosen, place, Sides, linesOff, FirstSides, firstLines, Peel};
-ghost use Rattle.corner.specs.Drawn.{InBytes, Ready, Drawn};
+ghost use Rattle.corner.specs.Cells.{oneLine, chosen, place, linesOff, firstLines, peeled, cornerCells};
+ghost use Rattle.corner.specs.Peel.{Measured, Open, Sides, FirstSides};
+ghost use Rattle.corner.specs.Drawn.{InBytes, Ready, written};
 
 // k steps from p towards q.
 fn move_ahead(p: u32, q: u32, k: u32) -> u32
@@ -156,7 +158,7 @@ const ONE_COLUMN: Lines = Lines {
 // target's; else one line.
 fn choose(w: u32, h: u32, dx: u32, dy: u32) -> Lines
     requires { ⌜ Open w h dx dy ⌝ }
-    ensures { λ r. ⌜ Chosen (r .row) (r .count) w h dx dy ⌝ }
+    ensures { λ r. ⌜ r ≡ chosen w h dx dy ⌝ }
 {
     if 1 < dy {
         return Lines {
@@ -185,7 +187,7 @@ fn choose(w: u32, h: u32, dx: u32, dy: u32) -> Lines
 // The choice is made along the longer side, since few long lines are faster than many short ones.
 fn peel(a: Cell, b: Cell, t: Cell) -> Peeled
     requires { ⌜ InBytes a ⌝ ∗ ⌜ InBytes b ⌝ ∗ ⌜ Inside a b t ⌝ ∗ ⌜ oneLine a b t ≡ false ⌝ }
-    ensures { λ r. ⌜ Peel a b t r ⌝ }
+    ensures { λ r. ⌜ r ≡ peeled a b t ⌝ }
 {
     let s = measure(a, b, t);
     if s.h <= s.w {
@@ -200,7 +202,7 @@ fn peel(a: Cell, b: Cell, t: Cell) -> Peeled
 // next lines go into the part of the buffer behind the lines before them.
 pub fn corner_track(a: Cell, b: Cell, t: Cell, buf: &mut [u8]) -> Cells
     requires { ⌜ Ready a b t (now buf) ⌝ }
-    ensures { λ r. ⌜ (r .0 ≡ trackCount a b t) × Drawn (Inside a b) a t (trackCount a b t) (now (buf .entry)) (now (buf .exit)) ⌝ }
+    ensures { λ r. ⌜ (r .0 ≡ trackCount a b t) × (now (buf .exit) ≡ written (cornerCells a b t) (trackCount a b t) (now (buf .entry))) ⌝ }
 {
     let count = corner_count(a, b, t);
     let mut corner = a;
@@ -221,7 +223,7 @@ pub fn corner_track(a: Cell, b: Cell, t: Cell, buf: &mut [u8]) -> Cells
 // before the lines drawn so far.
 pub fn corner_track_back(a: Cell, b: Cell, t: Cell, buf: &mut [u8]) -> Cells
     requires { ⌜ Ready a b t (now buf) ⌝ }
-    ensures { λ r. ⌜ (r .0 ≡ trackCount a b t) × Drawn (Inside a b) t a (trackCount a b t) (now (buf .entry)) (now (buf .exit)) ⌝ }
+    ensures { λ r. ⌜ (r .0 ≡ trackCount a b t) × (now (buf .exit) ≡ written (reverse (cornerCells a b t)) (trackCount a b t) (now (buf .entry))) ⌝ }
 {
     let count = corner_count(a, b, t);
     let mut corner = a;

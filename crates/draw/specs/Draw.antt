@@ -13,10 +13,12 @@ use Rattle.grid.specs.declared.CellsAnswer.{CellsAnswer}
 use Rattle.grid.specs.declared.CellsAnswer.the-variants.{Refused, Given}
 use Rattle.grid.specs.Track.{Track}
 use Rattle.grid.specs.Bytes.{front}
-use Rattle.grid.specs.Check.{checkOrder, after, expect}
+use Rattle.grid.specs.Check.{checkOrder, after, expect, answer}
 use Rattle.grid.specs.Answer.{GivesCells}
 use Rattle.count.specs.Order.{orderCount}
 use Rattle.count.specs.Longest.{NoLonger}
+use Rattle.list.specs.List.{withCells}
+use Rattle.draw.specs.Track.{drawnTrack}
 
 -- refused as Bound, then 5: the buffer is shorter than 2 bytes for each cell of the count
 abbrev pub drawCheck : Panel → Cell → Cell → ℕ → Check
@@ -35,8 +37,12 @@ abbrev pub Leaves : Panel → Cell → Cell → List ℕ → List ℕ → CellsA
 Leaves p s t old new (Refused r) = new ≡ old
 Leaves p s t old new (Given k) = LongestAtFront p s t (k .0) old new
 
--- Draw's promise: the count, or what the check refuses; and the buffer begins with a longest track and is otherwise as it was.
--- A pitch in its range changes neither promise nor answer (proofs/Sides.antt), nor the track: what chooses and draws is given the sides alone
+-- Draw's promise: the count, or what the check refuses; and the buffer begins with a longest track and is otherwise as it was
 pub record Draws (p : Panel) (s t : Cell) (old new : List ℕ) (r : CellsAnswer) : Type 0 where
   pub gives : GivesCells (drawCheck p s t (length old)) (orderCount p s t) r
   pub leaves : Leaves p s t old new r
+
+-- which longest track it is: the buffer after the call, as it was where the check refuses, else with that track at its front.
+-- A pitch in its range changes nothing of it (proofs/Sides.antt)
+abbrev pub drawBuffer : Panel → Cell → Cell → List ℕ → List ℕ
+drawBuffer p s t old = answer (drawCheck p s t (length old)) (λ r. old) (withCells (drawnTrack (p .width) (p .height) s t) old)

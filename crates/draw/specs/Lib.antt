@@ -1,1 +1,2 @@
+pub mod Track
 pub mod Draw

@@ -10,12 +10,15 @@ use legs::draw_leg;
 use legs::draw_legs;
 use list::put_cell;
 use plan::Plan;
+ghost use mathlib.Core.Path.{_≡_};
 ghost use Prim.Native.Nat.{ℕ};
 ghost use Rattle.grid.specs.Panel.{panel};
+ghost use Rattle.list.specs.List.{withCells};
 ghost use Rattle.plan.specs.Leg.{legs};
 ghost use Rattle.plan.specs.Drawing.{Room, Written};
-ghost use Rattle.table.specs.Order.{ReadyOrder, OrderDrawn};
-ghost use Rattle.draw.specs.Draw.{Draws};
+ghost use Rattle.table.specs.Order.{ReadyOrder};
+ghost use Rattle.draw.specs.Track.{isThree, trackBetween};
+ghost use Rattle.draw.specs.Draw.{Draws, drawBuffer};
 
 // Gives the number of cells written.
 fn draw_plan(p: Plan, buf: &mut [u8]) -> Cells
@@ -30,17 +33,22 @@ fn draw_plan(p: Plan, buf: &mut [u8]) -> Cells
     }
 }
 
+// Whether the panel is 3 by 3, whose tracks stand in the table.
+fn is_three(width: u32, height: u32) -> bool
+    ensures { λ r. ⌜ r ≡ isThree width height ⌝ }
+{
+    if width == 3 { height == 3 } else { false }
+}
+
 // Draws a longest track between two different cells, where there is room for it. Like all that
 // chooses and draws, it is given the sides and no pitch: one track serves every panel of these sides.
 fn draw_longest(width: u32, height: u32, s: Cell, t: Cell, buf: &mut [u8])
     requires { ⌜ ((pitch : ℕ) → ReadyOrder (panel width height pitch) s t (now buf)) ⌝ }
-    ensures { λ _. ⌜ ((pitch : ℕ) → OrderDrawn (panel width height pitch) s t (now (buf .entry)) (now (buf .exit))) ⌝ }
+    ensures { λ _. ⌜ now (buf .exit) ≡ withCells (trackBetween width height s t) (now (buf .entry)) ⌝ }
 {
-    if width == 3 {
-        if height == 3 {
-            table::draw_small(s, t, buf);
-            return;
-        }
+    if is_three(width, height) {
+        table::draw_small(s, t, buf);
+        return;
     }
     let chosen = choice::plan_of(width, height, s, t);
     draw_plan(chosen, buf);
@@ -49,6 +57,7 @@ fn draw_longest(width: u32, height: u32, s: Cell, t: Cell, buf: &mut [u8])
 // The call.
 pub fn draw(p: Panel, entry: Cell, exit: Cell, buf: &mut [u8]) -> CellsAnswer
     ensures { λ r. ⌜ Draws p entry exit (now (buf .entry)) (now (buf .exit)) r ⌝ }
+    ensures cells { λ _. ⌜ now (buf .exit) ≡ drawBuffer p entry exit (now (buf .entry)) ⌝ }
 {
     let c = grid::check_order(p, entry, exit);
     if let Check::Refused(r) = c {

@@ -10,7 +10,7 @@ use Rattle.grid.specs.declared.Check.the-variants.{Good, Refused}
 use Rattle.grid.specs.declared.CellsAnswer.{CellsAnswer}
 use Rattle.grid.specs.declared.CellsAnswer.the-variants as cells
 use Rattle.grid.specs.declared.BytesAnswer.{BytesAnswer}
-use Rattle.grid.specs.Check.{answer}
+use Rattle.grid.specs.Check.{after, answer}
 use Rattle.grid.specs.Answer.{cellsAnswer, cellsValues, GivesCells, bytesAnswer, bytesValues, GivesBytes}
 use Rattle.grid.proofs.Facts.{clash}
 
@@ -18,6 +18,11 @@ pub through {ℓ κ} : {A : Type ℓ} {B : Type κ} (f : A → B) (c : Check) (g
     → f (answer c g a) ≡ answer c (λ r. f (g r)) (f a)
 through f Good g a = refl
 through f (Refused r) g a = refl
+
+-- an answer behind two checks, one after the other, is the one behind what they are together
+pub answer-after {ℓ} : {A : Type ℓ} (c d : Check) {k : Check} (f : Refusal → A) (a : A) → after c d ≡ k → answer c f (answer d f a) ≡ answer k f a
+answer-after Good d f a e = ap (λ (k : Check). answer k f a) e
+answer-after (Refused r) d f a e = ap (λ (k : Check). answer k f a) e
 
 pub gives-cells : (c : Check) (k : ℕ) {r : CellsAnswer} → r ≡ cellsAnswer c k → GivesCells c k r
 gives-cells c k e = record {

@@ -49,6 +49,11 @@ after-good k {z} e f = subst⁻¹ (λ (c : Check). z ≡ after c k) e f
 pub after-refused : {c : Check} {r : Refusal} (k : Check) → c ≡ Refused r → Refused r ≡ after c k
 after-refused {r = r} k e = subst⁻¹ (λ (c : Check). Refused r ≡ after c k) e refl
 
+-- three lists of tests, one behind another: it does not matter which two are taken together
+pub after-after : (c d k : Check) → after (after c d) k ≡ after c (after d k)
+after-after Good d k = refl
+after-after (Refused r) d k = refl
+
 -- one turn of a loop that tests each place: where the tests from a place on amount to a, a failed one says that a is false, and a passed
 -- one is taken away
 pub turn-failed : {w a : Bool} (t k : Bool) → w ≡ (t && k) → w ≡ a → t ≡ false → false ≡ a

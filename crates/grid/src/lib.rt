@@ -54,6 +54,7 @@ pub enum Refusal {
     UnknownByte,
     CutShort,
     Pitch,
+    BenchSide,
 }
 
 // What a test of the input finds.
@@ -124,6 +125,7 @@ pub fn number_of(r: Refusal) -> u32
         Refusal::UnknownByte => 16,
         Refusal::CutShort => 17,
         Refusal::Pitch => 18,
+        Refusal::BenchSide => 19,
     }
 }
 

@@ -1,3 +1,5 @@
 pub mod Packing
 pub mod Answers
 pub mod Accepted
+pub mod Bench
+pub mod Same

@@ -1,27 +1,26 @@
 -- Legs drawn one after the other: a prefix is written, then the rest of the buffer is lent to the next drawing. One law serves every number of legs.
 use Prim.Native.Nat.{ℕ, _+_, _-_, _*_, _≤_, _<_}
-use mathlib.Core.Path.{_≡_, sym, ap, _∙_, subst}
+use mathlib.Core.Path.{_≡_, refl, sym, ap, _∙_, subst}
 use mathlib.Core.Bool.{Bool, cond}
-use mathlib.Core.List.{List, [], _∷_, _++_, append-nil, append-assoc}
+use mathlib.Core.List.{List, [], _∷_, _++_, append-nil, append-assoc, reverse}
 use native.Mathlib.Omega.{arith}
 use native.Mathlib.Numerals.{add-one}
-use lib.ListN.{length, take, drop, getD, length-append, length-drop, take-append-drop}
+use lib.ListN.{length, take, drop, getD, length-append, take-append-drop}
 use lib.Seq.{take-suc, take-take}
 use borrow.Rule.Slice.PartMut.{putMid}
 use Rattle.grid.specs.declared.Cell.{Cell}
 use Rattle.grid.specs.declared.Cells.{Cells}
-use Rattle.grid.specs.Track.{TrackIn}
 use Rattle.grid.specs.Bytes.{bytes}
-use Rattle.grid.proofs.Bytes.{length-bytes}
 use Rattle.line.specs.Rectangle.{Inside}
+use Rattle.line.specs.Drawn.{written}
+use Rattle.line.proofs.Drawn.{part-behind, part-long, written-long}
+use Rattle.corner.specs.Cells.{cornerCells}
 use Rattle.corner.specs.Drawn.{Ready}
-use Rattle.line.specs.Drawn.{Drawn}
 use Rattle.corner.proofs.First.{track-most}
-use Rattle.line.proofs.Drawn.{part-behind, part-long}
 use Rattle.plan.specs.declared.Leg.{Leg}
-use Rattle.plan.specs.Leg.{legCount, total}
-use Rattle.plan.specs.Drawing.{Each, LegTracks, Drawable, Room, Written}
-use Rattle.plan.proofs.Chain.{total-append}
+use Rattle.plan.specs.Leg.{legCount, total, legCells, legsCells}
+use Rattle.plan.specs.Drawing.{Each, Drawable, Room, Written}
+use Rattle.plan.proofs.Chain.{total-append, length-legs}
 
 -- ---- one leg
 
@@ -37,20 +36,14 @@ ready {g} r = elim (r .each) [
 
 -- walked back where b is set, else forth
 pub leg-written : (g : Leg) (b : Bool) {r : Cells} {old new : List ℕ} → g .back ≡ b → r .0 ≡ legCount g
-    → Drawn (Inside (g .a) (g .b)) (cond b (g .t) (g .a)) (cond b (g .a) (g .t)) (legCount g) old new → Written (g ∷ []) r old new
-leg-written g b {r} {old} e q d = record {
-  count = let z : legCount g ≡ legCount g + 0 = omega arith in q ∙ z;
-  cells = d .cells ++ [];
-  drawn = LegTracks.more (subst (λ (k : Bool). TrackIn (Inside (g .a) (g .b)) (first k) (last k) (d .cells)) (sym e) (d .track)) LegTracks.none;
-  size = ap length (append-nil (d .cells)) ∙ d .size ∙ sym q;
-  content = d .written ∙ (λ i. bytes (sym (append-nil (d .cells)) i) ++ drop (2 * sym q i) old);
-}
-  where
-    first : Bool → Cell
-    first k = cond k (g .t) (g .a)
-
-    last : Bool → Cell
-    last k = cond k (g .a) (g .t)
+    → new ≡ written (cond b (reverse (cornerCells (g .a) (g .b) (g .t))) (cornerCells (g .a) (g .b) (g .t))) (legCount g) old → Written (g ∷ []) r old new
+leg-written g b {r} {old} e q w =
+    let l = cornerCells (g .a) (g .b) (g .t) in
+    let z : legCount g ≡ legCount g + 0 = omega arith in
+    record {
+      count = q ∙ z;
+      content = w ∙ (λ i. written (cond (sym e i) (reverse l) l) (z i) old) ∙ ap (λ (k : List Cell). written k (legCount g + 0) old) (sym (append-nil (legCells g)));
+    }
 
 -- a leg's corners are bytes, so that its cells are at most 256 by 256
 legs-most : {l : List Leg} → Each Drawable l → total l ≤ 65536 * length l
@@ -67,20 +60,21 @@ each-rest : {P : Leg → Type 0} (l k : List Leg) → Each P (l ++ k) → Each P
 each-rest [] k e = e
 each-rest (g ∷ l) k (Each.more p e) = each-rest l k e
 
-drawn-append : {l k : List Leg} {c d : List Cell} → LegTracks l c → LegTracks k d → LegTracks (l ++ k) (c ++ d)
-drawn-append LegTracks.none e = e
-drawn-append {k = k} {d = d} (LegTracks.more {g = g} {l = l} {c = a} {d = b} t r) e =
-    subst (λ (x : List Cell). LegTracks (g ∷ (l ++ k)) x) (sym (append-assoc a b d)) (LegTracks.more t (drawn-append r e))
+cells-append : (l k : List Leg) → legsCells (l ++ k) ≡ legsCells l ++ legsCells k
+cells-append [] k = refl
+cells-append (g ∷ l) k = ap (λ (c : List Cell). legCells g ++ c) (cells-append l k) ∙ sym (append-assoc (legCells g) (legsCells l) (legsCells k))
+
+each-inside : {l : List Leg} → Each Drawable l → Each (λ g. Inside (g .a) (g .b) (g .t)) l
+each-inside Each.none = Each.none
+each-inside (Each.more d e) = Each.more (d .inside) (each-inside e)
 
 -- the legs l are drawn
 module _ {l : List Leg} {r : Cells} {old mid : List ℕ} (room : Room l old) (w : Written l r old mid) where
-  bytes-size : length (bytes (w .cells)) ≡ 2 * r .0
-  bytes-size = length-bytes (w .cells) ∙ ap (λ (n : ℕ). 2 * n) (w .size)
+  size : length (legsCells l) ≡ total l
+  size = length-legs l (each-inside (room .each))
 
   pub long : length mid ≡ length old
-  long =
-      ap length (w .content) ∙ length-append (bytes (w .cells)) (drop (2 * r .0) old)
-      ∙ omega (arith, bytes-size, length-drop (2 * r .0) old, room .room, w .count)
+  long = written-long (legsCells l) old size (room .room) (w .content)
 
 -- the legs l are drawn, then the legs k behind them
 module _ (l k : List Leg) {old : List ℕ} (room : Room (l ++ k) old) where
@@ -105,19 +99,19 @@ module _ (l k : List Leg) {old : List ℕ} (room : Room (l ++ k) old) where
         → n .0 ≡ r .0 + q .0 → Written (l ++ k) n old (putMid (2 * r .0) (length mid - 2 * r .0) mid part)
     written-rest {q} {n} {part} v e = record {
       count = e ∙ (λ i. w .count i + v .count i) ∙ sym (total-append l k);
-      cells = w .cells ++ v .cells;
-      drawn = drawn-append (w .drawn) (v .drawn);
-      size = length-append (w .cells) (v .cells) ∙ (λ i. w .size i + v .size i) ∙ sym e;
       content =
-          part-behind (w .cells) (v .cells) old mid part (2 * r .0) (q .0) (w .content) twice start-fits (v .content)
-          ∙ ap (λ (k : ℕ). bytes (w .cells ++ v .cells) ++ drop k old) sum;
+          part-behind (legsCells l) (legsCells k) old mid part (2 * r .0) (total k) first twice start-fits (v .content)
+          ∙ (λ i. bytes (sym (cells-append l k) i) ++ drop (sum i) old);
     }
       where
-        twice : 2 * length (w .cells) ≡ 2 * r .0
-        twice = ap (λ (k : ℕ). 2 * k) (w .size)
+        first : mid ≡ bytes (legsCells l) ++ drop (2 * r .0) old
+        first = w .content ∙ ap (λ (i : ℕ). bytes (legsCells l) ++ drop (2 * i) old) (sym (w .count))
 
-        sum : 2 * r .0 + 2 * q .0 ≡ 2 * n .0
-        sum = omega (arith, e)
+        twice : 2 * length (legsCells l) ≡ 2 * r .0
+        twice = omega (arith, size room-first w, w .count)
+
+        sum : 2 * r .0 + 2 * total k ≡ 2 * total (l ++ k)
+        sum = omega (arith, w .count, total-append l k)
 
 -- the first i legs of an array are drawn, then the next one, d standing for a leg that is not there
 module _ (l : List Leg) {i : ℕ} (d : Leg) (there : i < length l) where

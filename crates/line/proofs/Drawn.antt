@@ -7,9 +7,9 @@ use lib.ListN.{length, take, drop, length-append, length-take, length-drop, drop
 use lib.Seq.{take-all, take-at, drop-at, drop-drop}
 use borrow.Rule.Slice.PartMut.{putMid}
 use Rattle.grid.specs.declared.Cell.{Cell}
-use Rattle.grid.specs.Bytes.{bytes}
-use Rattle.grid.proofs.Bytes.{bytes-append, length-bytes}
-use Rattle.line.specs.Drawn.{written, Drawn}
+use Rattle.grid.specs.Bytes.{bytes, front}
+use Rattle.grid.proofs.Bytes.{bytes-append, length-bytes, front-bytes}
+use Rattle.line.specs.Drawn.{written}
 
 -- a part from `at` to the end, lent to a drawing function and back again: what lies before it stays, and the cells stand at its front
 pub part-written : (b part : List ℕ) (at k : ℕ) (l : List Cell) → at ≤ length b → part ≡ written l k (take (length b - at) (drop at b))
@@ -58,6 +58,10 @@ pub written-long : (l : List Cell) (old : List ℕ) {k : ℕ} {new : List ℕ} �
 written-long l old {k} e h w =
     ap length w ∙ length-append (bytes l) (drop (2 * k) old) ∙ omega (arith, length-bytes l, length-drop (2 * k) old)
 
-pub drawn-long : {R : Cell → Type 0} {s t : Cell} {k : ℕ} {old new : List ℕ} → Drawn R s t k old new → 2 * k ≤ length old
-    → length new ≡ length old
-drawn-long {old = old} d h = written-long (d .cells) old (d .size) h (d .written)
+-- the cells written are read from its front, and behind them it is the old one
+module _ (l : List Cell) (old : List ℕ) {k : ℕ} {new : List ℕ} (e : length l ≡ k) (w : new ≡ written l k old) where
+  pub written-front : front k new ≡ l
+  written-front = (λ i. front (sym e i) (w i)) ∙ front-bytes l (drop (2 * k) old)
+
+  pub written-behind : drop (2 * k) new ≡ drop (2 * k) old
+  written-behind = ap (drop (2 * k)) w ∙ drop-at (bytes l) (drop (2 * k) old) (2 * k) (length-bytes l ∙ ap (λ (n : ℕ). 2 * n) e)

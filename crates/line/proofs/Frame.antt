@@ -9,7 +9,8 @@ use borrow.Author.Tests.{eq-eqb, ne-eqb}
 use Rattle.grid.specs.declared.Cell.{Cell}
 use Rattle.grid.specs.Panel.{cell, dist, apart, Neighbours}
 use Rattle.grid.proofs.Facts.{cell-eq}
-use Rattle.line.specs.Rectangle.{Inside, cellsBetween, turning, sweepEnd}
+use Rattle.line.specs.Rectangle.{Inside, cellsBetween, ahead, turning, sweepEnd}
+use Rattle.line.specs.Sweep.{lines, sweep}
 use Rattle.line.specs.Drawn.{InBytes}
 use Rattle.line.proofs.Between.{by-eq, dist-zero, dist-same, Between, between, least, most, between-sym, start-between, between-part, below}
 
@@ -51,9 +52,10 @@ pub record Frame (row : Bool) (E : ℕ → ℕ → Cell) : Type 0 where
   pub sides : (p q p' q' : ℕ) → dist (E p q .x) (E p' q' .x) + dist (E p q .y) (E p' q' .y) ≡ dist p p' + dist q q'
   pub size : (p q p' q' : ℕ) → cellsBetween (E p q) (E p' q') ≡ (dist p p' + 1) * (dist q q' + 1)
   pub end : (p q p' q' : ℕ) → sweepEnd row (E p q) (E p' q') ≡ E (turning (dist q q' + 1) p p') q'
+  pub sweeps : (p q p' q' : ℕ) → sweep row (E p q) (E p' q') ≡ lines E p p' (ahead q q') (suc (dist q q'))
 
 unfoldable pub in-rows : Frame true (λ p q. cell p q)
-unfolding apart cellsBetween sweepEnd
+unfolding apart cellsBetween sweepEnd sweep
 in-rows = record {
   along = λ c. c .x;
   over = λ c. c .y;
@@ -64,10 +66,11 @@ in-rows = record {
   sides = λ p q p' q'. refl;
   size = λ p q p' q'. refl;
   end = λ p q p' q'. refl;
+  sweeps = λ p q p' q'. refl;
 }
 
 unfoldable pub in-columns : Frame false (λ p q. cell q p)
-unfolding apart cellsBetween sweepEnd
+unfolding apart cellsBetween sweepEnd sweep
 in-columns = record {
   along = λ c. c .y;
   over = λ c. c .x;
@@ -78,6 +81,7 @@ in-columns = record {
   sides = λ p q p' q'. add-comm (dist q q') (dist p p');
   size = λ p q p' q'. mul-comm (dist q q' + 1) (dist p p' + 1);
   end = λ p q p' q'. refl;
+  sweeps = λ p q p' q'. refl;
 }
 
 -- ---- there and back

@@ -4,7 +4,7 @@ use Prim.Native.Nat.{ℕ, zero, suc, _+_, _-_, _*_, _%_, _≤_, _<_, suc-le-suc,
 use mathlib.Core.Path.{_≡_, refl, sym, ap, _∙_, subst, subst₂}
 use mathlib.Core.Logic.{_≢_}
 use mathlib.Core.Bool.{Bool, cond}
-use mathlib.Core.List.{List, [], _∷_, _++_}
+use mathlib.Core.List.{List, [], _∷_, _++_, reverse, reverse-append}
 use native.Mathlib.Omega.{arith}
 use native.Mathlib.Nat.{add-mul}
 use native.Mathlib.Numerals.{add-one}
@@ -48,9 +48,22 @@ once-line f (suc n) h =
     (once-line (λ i. f (suc i)) n (λ i j k l. h (suc i) (suc j) (suc-le-suc k) (suc-le-suc l)))
 
 -- equal cell by cell
-line-same : (f g : ℕ → Cell) (n : ℕ) → ((i : ℕ) → i < n → f i ≡ g i) → line f n ≡ line g n
+pub line-same : (f g : ℕ → Cell) (n : ℕ) → ((i : ℕ) → i < n → f i ≡ g i) → line f n ≡ line g n
 line-same f g zero h = refl
 line-same f g (suc n) h = λ j. h 0 (suc-le-suc zero-le) j ∷ line-same (λ i. f (suc i)) (λ i. g (suc i)) n (λ i l. h (suc i) (suc-le-suc l)) j
+
+-- the last cell first
+pub line-back : (f : ℕ → Cell) (n : ℕ) → reverse (line f n) ≡ line (λ i. f (n - (i + 1))) n
+line-back f zero = refl
+line-back f (suc n) =
+    ap reverse (line-more f n) ∙ reverse-append (line f n) (f n ∷ []) ∙ ap (λ (l : List Cell). f n ∷ l) (line-back f n)
+    ∙ (λ i. f (head i) ∷ line (λ j. f (tail j i)) n)
+  where
+    head : n ≡ suc n - (0 + 1)
+    head = omega arith
+
+    tail : (j : ℕ) → n - (j + 1) ≡ suc n - (suc j + 1)
+    tail j = omega arith
 
 -- ---- ways and axes
 
@@ -92,6 +105,50 @@ ahead-start p q = along-start (along p q 0 (omega arith))
 
 pub ahead-stop : (p q : ℕ) → ahead p q (dist p q) ≡ q
 ahead-stop p q = along-stop (along p q (dist p q) (omega arith))
+
+-- on a way down
+ahead-below : {p q : ℕ} (i : ℕ) → q ≤ p → i ≤ dist p q → ahead p q i + i ≡ p
+ahead-below {p} {q} i h l = go (along p q i l)
+  where
+    go : {r : ℕ} → Along p q i r → r + i ≡ p
+    go (Along.up e f k) = omega arith
+    go (Along.down e f k) = f
+
+-- one step on, the way leads where it led
+pub ahead-next : (p q i : ℕ) → i < dist p q → ahead p q (suc i) ≡ ahead (ahead p q 1) q i
+ahead-next p q i h =
+    by-le p q
+    (λ e.
+    let d = dist-up e in
+    let a = ahead-up {p = p} {q = q} (suc i) e in
+    let b = ahead-up {p = p} {q = q} 1 e in
+    let g : ahead p q 1 ≤ q = omega arith in
+    let c = ahead-up {p = ahead p q 1} {q = q} i g in
+    omega arith)
+    (λ e.
+    let d = dist-down (lt-le e) in
+    let a = ahead-below {p = p} {q = q} (suc i) (lt-le e) (omega arith) in
+    let b = ahead-below {p = p} {q = q} 1 (lt-le e) (omega arith) in
+    let g : q ≤ ahead p q 1 = omega arith in
+    let w = dist-down g in
+    let c = ahead-below {p = ahead p q 1} {q = q} i g (omega arith) in
+    omega arith)
+
+-- m steps from one end are i steps from the other
+pub ahead-back : (p q m i : ℕ) → m + i ≡ dist p q → ahead p q m ≡ ahead q p i
+ahead-back p q m i h =
+    by-le p q
+    (λ e.
+    let d = dist-up e in
+    let w = dist-down e in
+    let a = ahead-up {p = p} {q = q} m e in
+    let b = ahead-below {p = q} {q = p} i e (omega arith) in
+    omega arith)
+    (λ e.
+    let d = dist-down (lt-le e) in
+    let a = ahead-below {p = p} {q = q} m (lt-le e) (omega arith) in
+    let b = ahead-up {p = q} {q = p} i (lt-le e) in
+    omega arith)
 
 -- e takes the numbers to the cells of a row, or of a column
 pub record Axis (e : ℕ → Cell) : Type 0 where

@@ -1,11 +1,9 @@
 -- What a function that draws asks for, and what it leaves in the buffer.
 use Prim.Native.Nat.{ℕ, _+_, _*_, _≤_}
-use mathlib.Core.Path.{_≡_}
 use mathlib.Core.List.{List, _++_}
 use lib.ListN.{length, drop}
 use Rattle.grid.specs.declared.Cell.{Cell}
 use Rattle.grid.specs.Panel.{dist}
-use Rattle.grid.specs.Track.{TrackIn}
 use Rattle.grid.specs.Bytes.{bytes}
 pub use Rattle.grid.specs.Bytes.{InBytes}
 
@@ -39,10 +37,3 @@ pub record ReadyLines (first u v p q p' q' : ℕ) (buf : List ℕ) : Type 0 wher
 -- the buffer begins with k cells, and is the old one behind them
 abbrev pub written : List Cell → ℕ → List ℕ → List ℕ
 written l k old = bytes l ++ drop (2 * k) old
-
--- the buffer begins with a track from s to t of k cells in a region, and is the old one behind it
-pub record Drawn (R : Cell → Type 0) (s t : Cell) (k : ℕ) (old new : List ℕ) : Type 0 where
-  pub cells : List Cell
-  pub size : length cells ≡ k
-  pub track : TrackIn R s t cells
-  pub written : new ≡ written cells k old

@@ -1,3 +1,4 @@
 pub mod Rectangle
 pub mod Line
+pub mod Sweep
 pub mod Drawn

@@ -7,9 +7,10 @@ ghost use mathlib.Core.Path.{_≡_};
 ghost use Prim.Native.Nat.{_+_, _-_, _*_, _%_, _≤_};
 ghost use lib.ListN.{length};
 ghost use Rattle.grid.specs.Panel.{dist};
-ghost use Rattle.line.specs.Rectangle.{Inside, cellsBetween, sweepEnd};
+ghost use Rattle.line.specs.Rectangle.{cellsBetween};
 ghost use Rattle.line.specs.Line.{line, cellNumber, numbered, stepTo, snake, allLines};
-ghost use Rattle.line.specs.Drawn.{InBytes, ReadySnake, ReadyLines, written, Drawn};
+ghost use Rattle.line.specs.Sweep.{sweep};
+ghost use Rattle.line.specs.Drawn.{InBytes, ReadySnake, ReadyLines, written};
 
 // n cells from the number `first` on, each `step` further: one loop for the four directions, since
 // taking away is adding modulo 65536. The compiler stores eight cells at a time.
@@ -95,7 +96,7 @@ fn draw_lines(first: u32, unit: u32, over: u32, p: u32, q: u32, p2: u32, q2: u32
 // All rows or all columns of the rectangle of a and b, there and back from the corner a.
 pub fn draw_sweep(row: bool, a: Cell, b: Cell, buf: &mut [u8])
     requires { ⌜ InBytes a ⌝ ∗ ⌜ InBytes b ⌝ ∗ ⌜ 2 * cellsBetween a b ≤ length (now buf) ⌝ }
-    ensures { λ _. ⌜ Drawn (Inside a b) a (sweepEnd row a b) (cellsBetween a b) (now (buf .entry)) (now (buf .exit)) ⌝ }
+    ensures { λ _. ⌜ now (buf .exit) ≡ written (sweep row a b) (cellsBetween a b) (now (buf .entry)) ⌝ }
 {
     let first = cell_number(a);
     if row {

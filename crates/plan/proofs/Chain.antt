@@ -1,23 +1,26 @@
--- A chain of legs: each on the panel, in rectangles that are apart, each starting beside the end of the one before. Its corner tracks, one after
--- the other, are a track from its start to its end, and their cells add up. So a plan that is good shows that a track of its size exists.
+-- A chain of legs: each on the panel, in rectangles that are apart, each starting beside the end of the one before. Its legs' cells, one after
+-- the other, are a track from its start to its end, and they add up. So a plan that is good shows that a track of its size exists.
 use Prim.Native.Nat.{ℕ, _+_, _≤_, _<_, min, max}
 use mathlib.Core.Path.{_≡_, refl, sym, ap, _∙_, subst, subst₂}
 use mathlib.Core.Bool.{Bool, true, false, cond, not}
-use mathlib.Core.List.{List, [], _∷_, _++_, append-nil}
+use mathlib.Core.List.{List, [], _∷_, _++_, append-nil, reverse}
 use native.Mathlib.Omega.{arith}
 use native.Mathlib.Nat.{add-assoc}
+use lib.ListN.{length, length-append, length-reverse}
 use Rattle.grid.specs.declared.Panel.{Panel}
 use Rattle.grid.specs.declared.Cell.{Cell}
 use Rattle.grid.specs.Panel.{OnPanel, Neighbours}
 use Rattle.grid.specs.Track.{TrackIn, Track}
 use Rattle.grid.proofs.Facts.{beside-sym}
-use Rattle.grid.proofs.Track.{join, widen}
+use Rattle.grid.proofs.Track.{join, widen, backwards}
 use Rattle.line.specs.Rectangle.{Inside}
+use Rattle.corner.specs.Cells.{cornerCells}
+use Rattle.corner.proofs.Track.{corner-track, length-corner}
 use Rattle.plan.specs.declared.Leg.{Leg}
 use Rattle.plan.specs.declared.Plan.{Plan}
 use Rattle.plan.specs.declared.Plan.the-variants.{One, Two, Three, Five}
-use Rattle.plan.specs.Leg.{start, stop, legs, legCount, total, forth, back, reversedLeg, reversedPlan}
-pub use Rattle.plan.specs.Drawing.{Each, LegTracks}
+use Rattle.plan.specs.Leg.{start, stop, legs, legCount, total, legCells, legsCells, forth, back, reversedLeg, reversedPlan}
+pub use Rattle.plan.specs.Drawing.{Each}
 
 -- ---- a leg from s to t on the panel
 
@@ -107,26 +110,54 @@ among-on (Chain.one f) (Among.later m) = elim m [ ]
 among-on (Chain.more f n e r) (Among.here i) = inside-on (f .corner) (f .opposite) i
 among-on (Chain.more f n e r) (Among.later m) = among-on r m
 
--- a leg's track with its ends named
-renamed : {p : Panel} {g : Leg} {s t : Cell} {c : List Cell}
-    → LegFrom p g s t → TrackIn (Inside (g .a) (g .b)) (start g) (stop g) c → TrackIn (Inside (g .a) (g .b)) s t c
-renamed {g = g} {c = c} f r = subst₂ (λ (u v : Cell). TrackIn (Inside (g .a) (g .b)) u v c) (f .from) (f .to) r
+-- a leg's cells are a track, walked as the leg says
+leg-track : {p : Panel} {g : Leg} {s t : Cell} → LegFrom p g s t → TrackIn (Inside (g .a) (g .b)) s t (legCells g)
+leg-track {g = g} f =
+    subst₂ (λ (u v : Cell). TrackIn (Inside (g .a) (g .b)) u v (legCells g)) (f .from) (f .to) (go (g .back) (corner-track (g .a) (g .b) (g .t) (f .target)))
+  where
+    go : {l : List Cell} (b : Bool) → TrackIn (Inside (g .a) (g .b)) (g .a) (g .t) l
+        → TrackIn (Inside (g .a) (g .b)) (cond b (g .t) (g .a)) (cond b (g .a) (g .t)) (cond b (reverse l) l)
+    go true w = backwards w
+    go false w = w
 
-among-track : {p : Panel} {s t : Cell} {l : List Leg} {c : List Cell} → Chain p s t l → LegTracks l c → TrackIn (Among l) s t c
-among-track {s = s} {t = t} (Chain.one {g = g} f) (LegTracks.more {c = c} r LegTracks.none) =
-    subst (λ (k : List Cell). TrackIn (Among (g ∷ [])) s t k) (sym (append-nil c)) (widen (λ d i. Among.here i) (renamed f r))
-among-track (Chain.more f n e h) (LegTracks.more r d) =
-    join (λ c i. Among.here i) (λ c m. Among.later m) (λ c i m. sep-among e i m) (renamed f r) n (among-track h d)
+among-track : {p : Panel} {s t : Cell} {l : List Leg} → Chain p s t l → TrackIn (Among l) s t (legsCells l)
+among-track {s = s} {t = t} (Chain.one {g = g} f) =
+    subst (λ (k : List Cell). TrackIn (Among (g ∷ [])) s t k) (sym (append-nil (legCells g))) (widen (λ d i. Among.here i) (leg-track f))
+among-track (Chain.more f n e h) =
+    join (λ c i. Among.here i) (λ c m. Among.later m) (λ c i m. sep-among e i m) (leg-track f) n (among-track h)
 
--- the tracks of a chain's legs make one track on the panel
-pub chain-track : {p : Panel} {s t : Cell} {l : List Leg} {c : List Cell} → Chain p s t l → LegTracks l c → Track p s t c
-chain-track h d = widen (λ c m. among-on h m) (among-track h d)
+-- the cells of a chain's legs are a track on the panel
+pub chain-track : {p : Panel} {s t : Cell} {l : List Leg} → Chain p s t l → Track p s t (legsCells l)
+chain-track h = widen (λ c m. among-on h m) (among-track h)
+
+-- how many they are
+pub length-leg : (g : Leg) → Inside (g .a) (g .b) (g .t) → length (legCells g) ≡ legCount g
+length-leg g i = either (g .back) (cornerCells (g .a) (g .b) (g .t)) ∙ length-corner (g .a) (g .b) (g .t) i
+  where
+    either : (b : Bool) (l : List Cell) → length (cond b (reverse l) l) ≡ length l
+    either true l = length-reverse l
+    either false l = refl
+
+pub length-legs : (l : List Leg) → Each (λ g. Inside (g .a) (g .b) (g .t)) l → length (legsCells l) ≡ total l
+length-legs [] Each.none = refl
+length-legs (g ∷ l) (Each.more i e) = length-append (legCells g) (legsCells l) ∙ (λ j. length-leg g i j + length-legs l e j)
+
+chain-targets : {p : Panel} {s t : Cell} {l : List Leg} → Chain p s t l → Each (λ g. Inside (g .a) (g .b) (g .t)) l
+chain-targets (Chain.one f) = Each.more (f .target) Each.none
+chain-targets (Chain.more f n e h) = Each.more (f .target) (chain-targets h)
 
 -- ---- a plan of k cells from s to t
 
 pub record Plans (p : Panel) (s t : Cell) (k : ℕ) (q : Plan) : Type 0 where
   pub chain : Chain p s t (legs q)
   pub size : total (legs q) ≡ k
+
+-- its cells
+pub plan-track : {p : Panel} {s t : Cell} {k : ℕ} {q : Plan} → Plans p s t k q → Track p s t (legsCells (legs q))
+plan-track h = chain-track (h .chain)
+
+pub length-plan : {p : Panel} {s t : Cell} {k : ℕ} {q : Plan} → Plans p s t k q → length (legsCells (legs q)) ≡ k
+length-plan {q = q} h = length-legs (legs q) (chain-targets (h .chain)) ∙ h .size
 
 -- plans of one, two, three and five legs
 module _ {p : Panel} {s t : Cell} {k : ℕ} where

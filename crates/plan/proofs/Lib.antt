@@ -16,6 +16,5 @@ pub mod Wrap
 pub mod Bridge
 pub mod FourRows
 pub mod Wide
-pub mod Exists
 pub mod Theorem
 pub mod Whole

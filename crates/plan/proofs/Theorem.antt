@@ -12,10 +12,10 @@ use Rattle.count.specs.Count.{count}
 use Rattle.count.specs.Longest.{NoLonger}
 use Rattle.count.proofs.AtMost.{no-longer}
 use Rattle.plan.proofs.Wide.{plan-good}
-use Rattle.plan.proofs.Exists.{plan-track}
+use Rattle.plan.proofs.Chain.{plan-track, length-plan}
 
 pub reached : (p : Panel) (s t : Cell) → OnPanel p s → OnPanel p t → s ≢ t → (l : List Cell) × (Track p s t l × (length l ≡ count p s t))
-reached p s t os ot d = plan-track (plan-good p s t os ot d)
+reached p s t os ot d = let h = plan-good p s t os ot d in (_, (plan-track h, length-plan h))
 
 -- the longest tracks from s to t have count p s t cells
 pub record Longest (p : Panel) (s t : Cell) : Type 0 where

@@ -1,26 +1,18 @@
 -- Legs drawn one after the other at the front of a buffer: what the drawing functions ask for and what they leave. No promise of Draw rests on this file.
 use Prim.Native.Nat.{ℕ, _*_, _≤_}
 use mathlib.Core.Path.{_≡_}
-use mathlib.Core.List.{List, [], _∷_, _++_}
-use lib.ListN.{length, drop}
-use Rattle.grid.specs.declared.Cell.{Cell}
+use mathlib.Core.List.{List, [], _∷_}
+use lib.ListN.{length}
 use Rattle.grid.specs.declared.Cells.{Cells}
-use Rattle.grid.specs.Track.{TrackIn}
-use Rattle.grid.specs.Bytes.{bytes}
 use Rattle.line.specs.Rectangle.{Inside}
-use Rattle.line.specs.Drawn.{InBytes}
+use Rattle.line.specs.Drawn.{InBytes, written}
 use Rattle.plan.specs.declared.Leg.{Leg}
-use Rattle.plan.specs.Leg.{start, stop, total}
+use Rattle.plan.specs.Leg.{total, legsCells}
 
 -- every leg of the list has the property
 pub data Each (P : Leg → Type 0) : List Leg → Type 0 where
   none : Each P []
   more : {g : Leg} {l : List Leg} → P g → Each P l → Each P (g ∷ l)
-
--- the legs' tracks, one after the other
-pub data LegTracks : List Leg → List Cell → Type 0 where
-  none : LegTracks [] []
-  more : {g : Leg} {l : List Leg} {c d : List Cell} → TrackIn (Inside (g .a) (g .b)) (start g) (stop g) c → LegTracks l d → LegTracks (g ∷ l) (c ++ d)
 
 -- a leg whose coordinates are bytes, with its target in its rectangle
 pub record Drawable (g : Leg) : Type 0 where
@@ -33,10 +25,7 @@ pub record Room (l : List Leg) (buf : List ℕ) : Type 0 where
   pub each : Each Drawable l
   pub room : 2 * total l ≤ length buf
 
--- r is the number of the cells of the legs' tracks, which stand at the front of the buffer; behind them it is the old one
+-- r is the number of the legs' cells, which stand at the front of the buffer; behind them it is the old one
 pub record Written (l : List Leg) (r : Cells) (old new : List ℕ) : Type 0 where
   pub count : r .0 ≡ total l
-  pub cells : List Cell
-  pub drawn : LegTracks l cells
-  pub size : length cells ≡ r .0
-  pub content : new ≡ bytes cells ++ drop (2 * r .0) old
+  pub content : new ≡ written (legsCells l) (total l) old

@@ -1,10 +1,12 @@
--- Legs and plans of legs: what the choosing functions of the code are said to give. No promise of Draw rests on this file.
+-- Legs and plans of legs: what the choosing functions of the code are said to give, and which cells they have. Draw's promise that it draws a longest
+-- track does not rest on this file; which of them it draws does.
 use Prim.Native.Nat.{ℕ, _+_, _-_}
 use mathlib.Core.Bool.{Bool, cond, not}
-use mathlib.Core.List.{List, [], _∷_}
+use mathlib.Core.List.{List, [], _∷_, _++_, reverse}
 use Rattle.grid.specs.declared.Cell.{Cell}
 pub use Rattle.grid.specs.Panel.{cell}
 use Rattle.corner.specs.Corner.{trackCount}
+use Rattle.corner.specs.Cells.{cornerCells}
 use Rattle.plan.specs.declared.Leg.{Leg}
 use Rattle.plan.specs.declared.Plan.{Plan}
 use Rattle.plan.specs.declared.Plan.the-variants.{One, Two, Three, Five}
@@ -32,6 +34,15 @@ legCount g = trackCount (g .a) (g .b) (g .t)
 abbrev pub total : List Leg → ℕ
 total [] = 0
 total (g ∷ l) = legCount g + total l
+
+-- a leg's cells; walked back they are reversed
+abbrev pub legCells : Leg → List Cell
+legCells g = let l = cornerCells (g .a) (g .b) (g .t) in cond (g .back) (reverse l) l
+
+-- the cells of some legs, one leg behind another
+abbrev pub legsCells : List Leg → List Cell
+legsCells [] = []
+legsCells (g ∷ l) = legCells g ++ legsCells l
 
 -- the leg from the corner a to the cell t, b being the opposite corner
 abbrev pub forth : Cell → Cell → Cell → Leg

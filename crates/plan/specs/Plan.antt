@@ -1,4 +1,5 @@
--- Which plan is drawn, for m columns and n rows: the pure namesakes of the code's choosing functions. No promise of Draw rests on this file.
+-- Which plan is drawn, for m columns and n rows: the pure namesakes of the code's choosing functions. Draw's promise that it draws a longest track does
+-- not rest on this file; which of them it draws does.
 use Prim.Native.Nat.{ℕ, _+_, _-_, _%_}
 use mathlib.Core.Bool.{Bool, true, cond, not, _&&_}
 use lib.Dec.{leb, ltb, eqb}

@@ -3,11 +3,10 @@
 use Prim.Native.Nat.{ℕ, _+_, _-_, _*_, _/_, _%_, _≤_}
 use mathlib.Core.Path.{_≡_, sym, ap, _∙_, subst}
 use mathlib.Core.Bool.{cond}
-use mathlib.Core.List.{List, _++_}
+use mathlib.Core.List.{List}
 use native.Mathlib.Omega.{arith}
 use native.Mathlib.Nat.{mul-le-mul}
 use lib.ListN.{length, drop}
-use lib.Seq.{drop-at}
 use borrow.Author.Tests.{eq-eqb, ne-eqb}
 use Rattle.grid.specs.declared.Panel.{Panel}
 use Rattle.grid.specs.declared.Cell.{Cell}
@@ -16,18 +15,20 @@ use Rattle.grid.specs.declared.Refusal.{Refusal}
 use Rattle.grid.specs.declared.Check.the-variants as check
 use Rattle.grid.specs.declared.CellsAnswer.the-variants.{Refused, Given}
 use Rattle.grid.specs.Panel.{cell, area, OnPanel, dist, apart, Neighbours}
-use Rattle.grid.specs.Bytes.{bytes, front}
+use Rattle.grid.specs.Bytes.{front}
 use Rattle.grid.proofs.Facts.{beside-sym}
 use Rattle.grid.proofs.Track.{widen}
 use Rattle.grid.proofs.Answers.{gives-cells}
 use Rattle.grid.proofs.Tests.{cond-yes, cond-no, answer-good, answer-refused}
-use Rattle.grid.proofs.Bytes.{front-bytes, length-bytes}
 use Rattle.line.specs.Rectangle.{Inside}
 use Rattle.corner.specs.Corner.{trackCount, cornerCount}
+use Rattle.corner.specs.Cells.{cornerCells}
 use Rattle.corner.specs.Drawn.{Ready}
-use Rattle.line.specs.Drawn.{Drawn}
+use Rattle.line.specs.Drawn.{written}
+use Rattle.line.proofs.Drawn.{written-front, written-behind}
 use Rattle.line.proofs.Between.{Between, dist-up, by-eq}
 use Rattle.corner.proofs.Count.{count-full}
+use Rattle.corner.proofs.Track.{corner-track, length-corner}
 use Rattle.line.proofs.Frame.{inside, inside-x, inside-y}
 use Rattle.count.specs.Count.{odd}
 use Rattle.count.proofs.Colour.{closed-no-longer}
@@ -104,28 +105,26 @@ module _ (p : Panel) (old : List ℕ) (fine : ringCheck p (length old) ≡ check
       up (Between.down l h) k = (omega arith, omega arith)
 
   -- the cells written, read from the front of the buffer
-  longest : {k : ℕ} {new : List ℕ} → k ≡ ringCount p → Drawn (Inside first (far p)) first t (trackCount first (far p) t) old new
+  longest : {k : ℕ} {new : List ℕ} → k ≡ ringCount p → new ≡ written (cornerCells first (far p) t) (trackCount first (far p) t) old
       → LongestClosed p k (front k new) × (drop (2 * k) new ≡ drop (2 * k) old)
-  longest {k} {new} q d =
+  longest {k} {new} q w =
+      let l = cornerCells first (far p) t in
       let e : k ≡ trackCount first (far p) t = q ∙ sym count-is in
-      let s : length (d .cells) ≡ k = d .size ∙ sym e in
-      let w : new ≡ bytes (d .cells) ++ drop (2 * k) old = d .written ∙ ap (λ (i : ℕ). bytes (d .cells) ++ drop (2 * i) old) (sym e) in (
-        subst (LongestClosed p k) (sym (read s w)) (record {
+      let s : length l ≡ k = length-corner first (far p) t (ready .inside) ∙ sym e in
+      let v : new ≡ written l k old = w ∙ ap (λ (i : ℕ). written l i old) (sym e) in (
+        subst (LongestClosed p k) (sym (written-front l old s v)) (record {
           closed = record {
             last = t;
-            track = widen on-panel (d .track);
+            track = widen on-panel (corner-track first (far p) t (ready .inside));
             closes = n;
-            four = omega (arith, d .size, count-is, four);
+            four = omega (arith, s, q, four);
           };
           size = s;
           longest = λ c m z. omega (arith, closed-no-longer p z, most (area p) (omega (arith, all)), e, count-is);
         }),
-        ap (drop (2 * k)) w ∙ drop-at (bytes (d .cells)) (drop (2 * k) old) (2 * k) (length-bytes (d .cells) ∙ ap (λ (i : ℕ). 2 * i) s),
+        written-behind l old s v,
       )
-    where
-      read : length (d .cells) ≡ k → new ≡ bytes (d .cells) ++ drop (2 * k) old → front k new ≡ d .cells
-      read s w = (λ i. front (sym s i) (w i)) ∙ front-bytes (d .cells) (drop (2 * k) old)
 
-  pub drawn : {k : Cells} {new : List ℕ} → k .0 ≡ ringCount p → Drawn (Inside first (far p)) first t (trackCount first (far p) t) old new
-      → Rings p old new (Given k)
-  drawn q d = record { gives = gives-cells _ _ (answer-good _ _ fine (λ i. Given (record { 0 = q i }))); leaves = longest q d }
+  pub drawn : {k : Cells} {new : List ℕ} → k .0 ≡ ringCount p
+      → new ≡ written (cornerCells first (far p) t) (trackCount first (far p) t) old → Rings p old new (Given k)
+  drawn q w = record { gives = gives-cells _ _ (answer-good _ _ fine (λ i. Given (record { 0 = q i }))); leaves = longest q w }

@@ -1,4 +1,3 @@
 pub mod Below
-pub mod Sides
 pub mod Rows
 pub mod Placed

@@ -2,7 +2,8 @@
 use Prim.Native.Nat.{ℕ, zero, suc, _+_, _-_, _*_, _≤_, _<_}
 use mathlib.Core.Path.{_≡_, refl, sym, ap, _∙_, subst, subst₂}
 use mathlib.Core.Bool.{Bool, true, false}
-use mathlib.Core.List.{List, [], _∷_, _++_, map, reverse, reverse-append}
+use mathlib.Core.Logic.{_≢_}
+use mathlib.Core.List.{List, _∷_, _++_, map, reverse}
 use native.Mathlib.Omega.{arith}
 use lib.ListN.{length, drop}
 use Rattle.grid.specs.declared.Cell.{Cell}
@@ -13,13 +14,13 @@ use Rattle.grid.proofs.Facts.{cell-eq}
 use Rattle.grid.proofs.Track.{backwards}
 use Rattle.grid.proofs.Moves.{Move, moved, turning}
 use Rattle.line.specs.Line.{line}
-use Rattle.line.proofs.Line.{line-more, length-line}
+use Rattle.line.proofs.Line.{length-line, line-back}
 use Rattle.count.specs.Count.{count}
 use Rattle.table.specs.declared.Placing.{Placing}
-use Rattle.table.specs.Order.{ReadyOrder, OrderDrawn}
-use Rattle.table.specs.Table.{rowSize, rowCell, turnIf, mirror, mirrorCell, place, position, placedCell, placing, UpToFour}
-use Rattle.table.proofs.Sides.{three, drawn-same}
-use Rattle.table.proofs.Rows.{row-track, row-some, row-most, row-x, row-y, Found, found}
+use Rattle.list.specs.List.{withCells}
+use Rattle.table.specs.Order.{ReadyOrder}
+use Rattle.table.specs.Table.{rowSize, rowCell, turnIf, mirror, mirrorCell, place, position, placedCell, placing, UpToFour, tabled}
+use Rattle.table.proofs.Rows.{three, row-track, row-some, row-most, row-x, row-y, Found, found}
 
 abbrev On : Cell → Type 0
 On = OnPanel three
@@ -82,18 +83,6 @@ map-line : (h : Cell → Cell) (f : ℕ → Cell) (n : ℕ) → map h (line f n)
 map-line h f zero = refl
 map-line h f (suc n) = ap (λ (l : List Cell). h (f 0) ∷ l) (map-line h (λ i. f (suc i)) n)
 
-line-back : (f : ℕ → Cell) (n : ℕ) → reverse (line f n) ≡ line (λ i. f (n - (i + 1))) n
-line-back f zero = refl
-line-back f (suc n) =
-    ap reverse (line-more f n) ∙ reverse-append (line f n) (f n ∷ []) ∙ ap (λ (l : List Cell). f n ∷ l) (line-back f n)
-    ∙ (λ i. f (head i) ∷ line (λ j. f (tail j i)) n)
-  where
-    head : n ≡ suc n - (0 + 1)
-    head = omega arith
-
-    tail : (j : ℕ) → n - (j + 1) ≡ suc n - (suc j + 1)
-    tail j = omega arith
-
 -- the row's cells in the order in which they are written
 abbrev ordered : ℕ → Bool → ℕ → Cell
 ordered k b i = rowCell k (position b (rowSize k) i)
@@ -124,34 +113,37 @@ module _ {s t : Cell} {p : Placing} (f : Found s t p) where
       (subst (λ (l : List Cell). Track three (placedCell p 0) (placedCell p (n - 1)) l) (map-line (place p) (ordered k (p .back)) n)
       (moved (moving p) (ordered-track k (f .row) (p .back))))
 
-  module _ {n : ℕ} (e : n ≡ rowSize (p .row)) where
-    pub placed-drawn : {old new : List ℕ} → new ≡ bytes (line (placedCell p) n) ++ drop (2 * n) old
-        → OrderDrawn three s t old new
-    placed-drawn {old} w =
-        let q : n ≡ count three s t = e ∙ f .size in
-        record {
-          cells = line (placedCell p) n;
-          size = length-line (placedCell p) n ∙ q;
-          track = subst (λ (k : ℕ). Track three s t (line (placedCell p) k)) (sym e) placed-track;
-          written = w ∙ ap (λ (k : ℕ). bytes (line (placedCell p) n) ++ drop (2 * k) old) q;
-        }
+-- the row that is found for two different cells
+module _ (s t : Cell) (os : OnPanel three s) (ot : OnPanel three t) (d : s ≢ t) where
+  pub tabled-track : Track three s t (tabled s t)
+  unfolding tabled
+  tabled-track = placed-track (found s t os ot d)
+
+  pub length-tabled : length (tabled s t) ≡ count three s t
+  unfolding tabled
+  length-tabled = length-line (placedCell (placing s t)) (rowSize (placing s t .row)) ∙ found s t os ot d .size
 
 -- ---- as the code has it
 
-module _ {s t : Cell} {buf : List ℕ} (o : (q : ℕ) → ReadyOrder (panel 3 3 q) s t buf) where
-  module _ {q : Placing} (e : q ≡ placing s t) where
-    pub found-here : Found s t q
-    found-here = subst (λ (q : Placing). Found s t q) (sym e) (found s t (o 4000 .entry) (o 4000 .exit) (o 4000 .differ))
+module _ {s t : Cell} {buf : List ℕ} (o : (q : ℕ) → ReadyOrder (panel 3 3 q) s t buf) {q : Placing} (e : q ≡ placing s t) where
+  pub found-here : Found s t q
+  found-here = subst (λ (q : Placing). Found s t q) (sym e) (found s t (o 4000 .entry) (o 4000 .exit) (o 4000 .differ))
 
-    module _ {n : ℕ} (g : n ≡ rowSize (q .row)) where
-      pub row-fits : (n ≤ 9) × (2 * n ≤ length buf)
-      row-fits =
-          let f = found-here in
-          (omega (arith, row-most (q .row) (f .row)), omega (arith, f .size, o 4000 .room))
+  module _ {n : ℕ} (g : n ≡ rowSize (q .row)) where
+    pub row-fits : (n ≤ 9) × (2 * n ≤ length buf)
+    row-fits =
+        let f = found-here in
+        (omega (arith, row-most (q .row) (f .row)), omega (arith, f .size, o 4000 .room))
 
-      pub drawn-here : {new : List ℕ} → new ≡ bytes (line (placedCell q) n) ++ drop (2 * n) buf
-          → (pitch : ℕ) → OrderDrawn (panel 3 3 pitch) s t buf new
-      drawn-here w pitch = drawn-same 3 3 4000 pitch (placed-drawn found-here g w)
+    pub drawn-here : {new : List ℕ} → new ≡ bytes (line (placedCell q) n) ++ drop (2 * n) buf → new ≡ withCells (tabled s t) buf
+    unfolding tabled
+    drawn-here w =
+        let l = line (placedCell q) n in
+        w ∙ ap (λ (k : ℕ). bytes l ++ drop (2 * k) buf) (sym (length-line (placedCell q) n))
+        ∙ (λ i. withCells (line (placedCell (e i)) (row i)) buf)
+      where
+        row : n ≡ rowSize (placing s t .row)
+        row = g ∙ ap (λ (q : Placing). rowSize (q .row)) e
 
 -- mirrored and turned cells stay small
 mirror-small : (on : Bool) (a : ℕ) → a ≤ 4 → mirror on a ≤ 4

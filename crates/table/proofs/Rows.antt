@@ -7,8 +7,9 @@ use mathlib.Core.Logic.{_≢_}
 use native.Mathlib.Omega.{arith}
 use lib.Dec.{eqb, leb, ltb}
 use borrow.Author.Tests.{eqb-true, ltb-true, leb-true}
+use Rattle.grid.specs.declared.Panel.{Panel}
 use Rattle.grid.specs.declared.Cell.{Cell}
-use Rattle.grid.specs.Panel.{cell, OnPanel, onPanel, sameCell, dist, apart}
+use Rattle.grid.specs.Panel.{panel, cell, OnPanel, onPanel, sameCell, dist, apart}
 use Rattle.grid.specs.Track.{Track}
 use Rattle.grid.proofs.Facts.{and-left, and-right, and-both, same-eq, ne-same, is-on}
 use Rattle.list.proofs.Tracks.{isTrack, track-sound}
@@ -17,7 +18,10 @@ use Rattle.count.specs.Count.{count, classCount, named, decided, f1, f2, f3, c2
 use Rattle.table.specs.declared.Placing.{Placing}
 use Rattle.table.specs.Table.{rowSize, rowCell, placedCell, placing, placingFrom}
 use Rattle.table.proofs.Below.{eachBelow, below-each}
-use Rattle.table.proofs.Sides.{three}
+
+-- the panel over which is computed, of the usual pitch; count and cells go by the sides alone
+abbrev pub three : Panel
+three = panel 3 3 4000
 
 -- ---- the rows, each tested once
 

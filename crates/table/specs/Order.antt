@@ -1,4 +1,4 @@
--- What the functions that draw an order ask for, and what they leave. No promise of Draw rests on this file.
+-- What the functions that draw an order ask for. No promise of Draw rests on this file.
 use Prim.Native.Nat.{ℕ, _*_, _≤_}
 use mathlib.Core.Logic.{_≢_}
 use mathlib.Core.List.{List}
@@ -6,7 +6,6 @@ use lib.ListN.{length}
 use Rattle.grid.specs.declared.Panel.{Panel}
 use Rattle.grid.specs.declared.Cell.{Cell}
 use Rattle.grid.specs.Panel.{OnPanel, GoodSides}
-use Rattle.line.specs.Drawn.{Drawn}
 use Rattle.count.specs.Count.{count}
 
 -- two different cells of a panel with good sides, and room for the count's cells
@@ -16,7 +15,3 @@ pub record ReadyOrder (p : Panel) (s t : Cell) (buf : List ℕ) : Type 0 where
   pub exit : OnPanel p t
   pub differ : s ≢ t
   pub room : 2 * count p s t ≤ length buf
-
--- the buffer begins with a track from s to t of the count's cells, and is the old one behind it
-abbrev pub OrderDrawn : Panel → Cell → Cell → List ℕ → List ℕ → Type 0
-OrderDrawn p s t old new = Drawn (OnPanel p) s t (count p s t) old new

@@ -1,5 +1,5 @@
 -- The 3 by 3 panel: its longest tracks, one row for each pair of terminals up to turning, mirroring and exchanging, and how a row is placed on the
--- panel for two terminals. No promise of Draw rests on this file.
+-- panel for two terminals. Draw's promise that it draws a longest track does not rest on this file; which of them it draws does.
 use Prim.Native.Nat.{ℕ, _+_, _-_, _*_, _≤_}
 use mathlib.Core.Bool.{Bool, true, false, cond}
 use mathlib.Core.List.{List, [], _∷_}
@@ -7,6 +7,7 @@ use lib.Dec.{ltb, eqb}
 use lib.ListN.{getD}
 use Rattle.grid.specs.declared.Cell.{Cell}
 use Rattle.grid.specs.Panel.{cell, turnedCell}
+use Rattle.line.specs.Line.{line}
 use Rattle.table.specs.declared.Placing.{Placing}
 
 -- a row: the number of cells, then x and y of each
@@ -99,3 +100,7 @@ placingFrom a b back =
 -- how a row is placed for the terminals s and t: from the one that has fewer coordinates 2
 unfoldable pub placing : Cell → Cell → Placing
 placing s t = cond (ltb (twos t) (twos s)) (placingFrom t s true) (placingFrom s t false)
+
+-- the cells of the row for s and t, as it is placed
+unfoldable pub tabled : Cell → Cell → List Cell
+tabled s t = let p = placing s t in line (placedCell p) (rowSize (p .row))

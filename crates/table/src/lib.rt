@@ -9,9 +9,10 @@ ghost use lib.ListN.{length, drop};
 ghost use Rattle.grid.specs.Panel.{panel};
 ghost use Rattle.grid.specs.Bytes.{bytes};
 ghost use Rattle.line.specs.Line.{line};
-ghost use Rattle.table.specs.Order.{ReadyOrder, OrderDrawn};
+ghost use Rattle.list.specs.List.{withCells};
+ghost use Rattle.table.specs.Order.{ReadyOrder};
 ghost use Rattle.table.specs.Table.{entryAt, rowSize, rowCell, turnIf, mirror, mirrorCell, place, position, placedCell};
-ghost use Rattle.table.specs.Table.{UpToFour, twos, toMirror, toTurn, rowOf, placingFrom, placing};
+ghost use Rattle.table.specs.Table.{UpToFour, twos, toMirror, toTurn, rowOf, placingFrom, placing, tabled};
 
 // A row for each pair of terminals up to turning, mirroring and exchanging: the number of cells,
 // then x and y of each.
@@ -198,10 +199,10 @@ fn write_row(p: Placing, n: usize, buf: &mut [u8])
     }
 }
 
-// Draws a longest track of 3 by 3 cells, which serves every pitch.
+// Draws the table's track of 3 by 3 cells, which serves every pitch.
 pub fn draw_small(s: Cell, t: Cell, buf: &mut [u8])
     requires { ⌜ ((pitch : ℕ) → ReadyOrder (panel 3 3 pitch) s t (now buf)) ⌝ }
-    ensures { λ _. ⌜ ((pitch : ℕ) → OrderDrawn (panel 3 3 pitch) s t (now (buf .entry)) (now (buf .exit))) ⌝ }
+    ensures { λ _. ⌜ now (buf .exit) ≡ withCells (tabled s t) (now (buf .entry)) ⌝ }
 {
     let placed = placing_of(s, t);
     let row = placed.row;

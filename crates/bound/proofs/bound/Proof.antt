@@ -5,7 +5,7 @@ use Rattle.grid.specs.Check.{checkOrder}
 use Rattle.grid.proofs.Tests.{answer-good, answer-refused}
 use Rattle.grid.proofs.Passed.{good-order}
 use Rattle.bound.specs.declared.BoundAnswer.the-variants.{Given}
-use Rattle.bound.proofs.Answers.{bounds-order}
+use Rattle.bound.proofs.Answers.{gives-bound}
 use borrow.Author.Needs.{needs}
 use Rattle.bound.proofs.bound.Statement.{statement}
 use Rattle.bound.proofs.bound.Tie as tie
@@ -17,7 +17,7 @@ enum-known-c : tie.Need-enum-known-c
 enum-known-c c = search needs
 
 returns : tie.Need-returns
-returns c = bounds-order _ _ _ (answer-refused _ _ (sym (c .before .before .before .check-order .ensures) ∙ c .before .c .given .1))
+returns c = gives-bound _ _ _ _ (answer-refused _ _ (sym (c .before .before .before .check-order .ensures) ∙ c .before .c .given .1))
 
 enum-told : tie.Need-enum-told
 enum-told c = search needs
@@ -29,7 +29,7 @@ order-class-count-requires : tie.Need-order-class-count-requires
 order-class-count-requires c κs = let g = good-order _ _ _ (passed c) in (g .panel .sides, (g .entry, g .exit))
 
 returns-2 : tie.Need-returns-2
-returns-2 c = bounds-order _ _ _ (answer-good _ _ (passed (c .before)) (ap Given (c .order-class-count .ensures)))
+returns-2 c = gives-bound _ _ _ _ (answer-good _ _ (passed (c .before)) (ap Given (c .order-class-count .ensures)))
 
 pub bound-spec : {M : Type 1} → statement M
 bound-spec =

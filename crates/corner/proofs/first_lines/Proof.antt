@@ -1,7 +1,8 @@
 -- Rows, or else columns.
 use mathlib.Core.Path.{_≡_, subst, subst⁻¹}
 use mathlib.Core.Bool.{Bool}
-use Rattle.corner.specs.Peel.{FirstSides, firstLines}
+use Rattle.corner.specs.Cells.{firstLines}
+use Rattle.corner.specs.Peel.{FirstSides}
 use Rattle.corner.proofs.first_lines.Statement.{statement}
 use Rattle.corner.proofs.first_lines.Tie as tie
 

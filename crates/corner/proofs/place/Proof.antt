@@ -1,7 +1,7 @@
 -- A row, or else a column.
 use mathlib.Core.Path.{sym, ap}
 use mathlib.Core.Bool.{Bool}
-use Rattle.corner.specs.Peel.{place}
+use Rattle.corner.specs.Cells.{place}
 use Rattle.corner.proofs.place.Statement.{statement}
 use Rattle.corner.proofs.place.Tie as tie
 

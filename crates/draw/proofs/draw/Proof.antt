@@ -1,5 +1,5 @@
--- A refusal is that of the check, and nothing is written. A good order with room is drawn, the one cell or a track between two, and what is
--- drawn is a longest track.
+-- A refusal is that of the check, and nothing is written. A good order with room is drawn, the one cell or the track between two, and that is a longest
+-- track.
 use mathlib.Core.Path.{_≡_, refl, sym, ap, _∙_}
 use mathlib.Core.Logic.{_≢_}
 use Prim.Native.Nat.{ℕ, _*_, _≤_}
@@ -9,17 +9,17 @@ use lib.ListN.{length}
 use borrow.Author.Needs.{needs}
 use Rattle.grid.specs.declared.Check.the-variants.{Good}
 use Rattle.grid.specs.declared.CellsAnswer.the-variants.{Given}
-use Rattle.grid.specs.Panel.{OnPanel}
 use Rattle.grid.specs.Check.{checkOrder}
 use Rattle.grid.proofs.Facts.{same-eq, same-ne}
 use Rattle.grid.proofs.Passed.{GoodOrder, good-order}
-use Rattle.line.specs.Drawn.{Drawn}
 use Rattle.count.specs.declared.ClassCount.{ClassCount}
 use Rattle.count.specs.Order.{orderCount}
 use Rattle.count.proofs.Terminals.{spot-count, differing-count}
-use Rattle.draw.specs.Draw.{Draws}
+use Rattle.list.specs.List.{withCells}
+use Rattle.draw.specs.Track.{drawnTrack}
+use Rattle.draw.specs.Draw.{Draws, drawBuffer}
 use Rattle.draw.proofs.Drawing.{ready-same}
-use Rattle.draw.proofs.Answer.{refused, short, drawn, spot-drawn, track-drawn, at-front}
+use Rattle.draw.proofs.Answer.{too-short, enough, spot-drawn, two-drawn, refuses, refuses-order, draws}
 use Rattle.draw.proofs.draw.Statement.{statement}
 use Rattle.draw.proofs.draw.Tie as tie
 
@@ -42,7 +42,7 @@ enum-known-c : tie.Need-enum-known-c
 enum-known-c c = search needs
 
 returns : tie.Need-returns
-returns c = record { gives = refused _ _ _ _ (cc); leaves = refl }
+returns c = refuses-order (cc) refl
 
 enum-told : tie.Need-enum-told
 enum-told c = search needs
@@ -61,10 +61,7 @@ returns-2 c =
     let found = c .before .before .before in
     let args = found .before .before .before .before .before .args in
     let h = c .if1 .taken in
-    record {
-      gives = short (args .p) (args .entry) (args .exit) (length (args .buf .now)) (passed (found .before)) (counted found) (omega arith);
-      leaves = refl;
-    }
+    refuses (too-short (args .p) (args .entry) (args .exit) (length (args .buf .now)) (passed (found .before)) (counted found) (omega arith)) refl
 
 same-cell-requires : tie.Need-same-cell-requires
 same-cell-requires c κs = search needs
@@ -93,16 +90,15 @@ cell-room c =
 
 -- what was drawn is what the call promises
 given : (c : tie.Else1) {new : List ℕ} → let args = start c .args in
-    Drawn (OnPanel (args .p)) (args .entry) (args .exit) (orderCount (args .p) (args .entry) (args .exit)) (args .buf .now) new
+    new ≡ withCells (drawnTrack (args .p .width) (args .p .height) (args .entry) (args .exit)) (args .buf .now)
     → Draws (args .p) (args .entry) (args .exit) (args .buf .now) new (Given (found-at c .order-class-count .result .count))
-given c d =
+    × (new ≡ drawBuffer (args .p) (args .entry) (args .exit) (args .buf .now))
+given c w =
     let args = start c .args in
     let e = counted (found-at c) in
+    let g = good (found-at c .before) in
     let fits = room c in
-    record {
-      gives = drawn (args .p) (args .entry) (args .exit) (length (args .buf .now)) (passed (found-at c .before)) e (omega arith);
-      leaves = at-front e d;
-    }
+    draws (enough (args .p) (args .entry) (args .exit) (length (args .buf .now)) (passed (found-at c .before)) e (omega arith)) e (g .entry) (g .exit) w
 
 put-cell-requires : tie.Need-put-cell-requires
 put-cell-requires c κs =
@@ -119,7 +115,7 @@ returns-3 c =
     let put = c .before .before in
     let equals = put .before .before in
     let at = equals .before .before in
-    given at (spot-drawn (equal equals) (good (found-at at .before) .entry) (cell-room equals) (put .put-cell .ensures))
+    given at (spot-drawn _ _ _ _ _ (equal equals) (cell-room equals) (put .put-cell .ensures))
 
 draw-longest-requires : tie.Need-draw-longest-requires
 draw-longest-requires c κs =
@@ -138,7 +134,7 @@ returns-4 : tie.Need-returns-4
 returns-4 c =
     let call = c .before .before in
     let differs = call .before .before in
-    given (differs .before .before) (track-drawn (differ differs) (call .draw-longest .ensures _))
+    given (differs .before .before) (two-drawn _ _ _ _ _ (differ differs) (call .draw-longest .ensures))
 
 pub draw-spec : {M : Type 1} → statement M
 draw-spec =

@@ -56,6 +56,9 @@ enum-told-16 c = search needs
 enum-told-17 : tie.Need-enum-told-17
 enum-told-17 c = search needs
 
+enum-told-18 : tie.Need-enum-told-18
+enum-told-18 c = search needs
+
 returns : tie.Need-returns
 returns c = sym (ap number (c .enum-told .given .1))
 
@@ -107,6 +110,9 @@ returns-16 c = sym (ap number (c .enum-told16 .given .1))
 returns-17 : tie.Need-returns-17
 returns-17 c = sym (ap number (c .enum-told17 .given .1))
 
+returns-18 : tie.Need-returns-18
+returns-18 c = sym (ap number (c .enum-told18 .given .1))
+
 pub number-of-spec : {M : Type 1} → statement M
 number-of-spec =
     tie.close
@@ -128,6 +134,7 @@ number-of-spec =
     enum-told-15
     enum-told-16
     enum-told-17
+    enum-told-18
     returns
     returns-2
     returns-3
@@ -144,4 +151,5 @@ number-of-spec =
     returns-14
     returns-15
     returns-16
-    returns-17)
+    returns-17
+    returns-18)

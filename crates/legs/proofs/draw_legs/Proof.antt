@@ -8,7 +8,7 @@ use borrow.Author.Needs.{needs}
 use Rattle.grid.specs.Panel.{cell}
 use Rattle.plan.specs.declared.Leg.{Leg}
 use Rattle.plan.specs.Leg.{forth}
-use Rattle.plan.specs.Drawing.{LegTracks, Room, Written}
+use Rattle.plan.specs.Drawing.{Room, Written}
 use Rattle.legs.proofs.Drawing.{long, room-first, room-next, first-next, start-fits, room-rest, sum-most, written-rest}
 use Rattle.legs.proofs.draw_legs.Statement.{statement}
 use Rattle.legs.proofs.draw_legs.Tie as tie
@@ -24,7 +24,7 @@ five : (s : tie.Start Inv-loop μ-loop) → length (s .args .t1) ≡ 5
 five s = search needs
 
 loop-holds : tie.Need-loop-holds Inv-loop μ-loop
-loop-holds c = (omega arith, record { count = refl; cells = []; drawn = LegTracks.none; size = refl; content = refl })
+loop-holds c = (omega arith, record { count = refl; content = refl })
 
 -- what the array gives where it has no leg
 abbrev none : Leg

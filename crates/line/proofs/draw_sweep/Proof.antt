@@ -1,6 +1,6 @@
 -- Rows, or columns: one law, by the numbers that the code computes.
 use borrow.Author.Needs.{needs}
-use Rattle.line.proofs.Sweep.{row-bytes, column-bytes, numbered-rows, numbered-columns, ask-lines, sweep-drawn}
+use Rattle.line.proofs.Sweep.{row-bytes, column-bytes, numbered-rows, numbered-columns, ask-lines, sweep-written}
 use Rattle.line.proofs.draw_sweep.Statement.{statement}
 use Rattle.line.proofs.draw_sweep.Tie as tie
 
@@ -26,7 +26,7 @@ returns : tie.Need-returns
 returns c =
     let t = c .before .before .before .before in
     let s = t .before .before .before in
-    sweep-drawn numbered-rows (t .if1 .taken) (row-bytes (s .pre .0) (s .pre .1 .0))
+    sweep-written numbered-rows _ (t .if1 .taken) (row-bytes (s .pre .0) (s .pre .1 .0))
     (t .before .cell-number .ensures) (c .before .before .draw-lines .ensures)
 
 same-length-2 : tie.Need-same-length-2
@@ -36,7 +36,7 @@ returns-2 : tie.Need-returns-2
 returns-2 c =
     let t = c .before .before .before .before in
     let s = t .before .before .before in
-    sweep-drawn numbered-columns (t .if1 .left) (column-bytes (s .pre .0) (s .pre .1 .0))
+    sweep-written numbered-columns _ (t .if1 .left) (column-bytes (s .pre .0) (s .pre .1 .0))
     (t .before .cell-number .ensures) (c .before .before .draw-lines2 .ensures)
 
 pub draw-sweep-spec : {M : Type 1} → statement M

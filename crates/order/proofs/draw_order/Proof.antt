@@ -33,7 +33,7 @@ returns-2 c =
     let a = b .before .args in
     let g = d .b2 .given in
     let size : length (a .cells .now) ≡ 32768 = search needs in
-    draws-given (a .p) (a .s) (a .t) (g .0 .0) (sym (b .bound .ensures .answers) ∙ g .1) size (c .draw .ensures)
+    draws-given (a .p) (a .s) (a .t) (g .0 .0) (sym (b .bound .ensures .answers) ∙ g .1) size (c .draw .ensures .0)
 
 pub draw-order-spec : {M : Type 1} → statement M
 draw-order-spec =

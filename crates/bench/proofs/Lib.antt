@@ -1,0 +1,4 @@
+pub mod Examples
+pub mod Checks
+pub mod Drawing
+pub mod Same
