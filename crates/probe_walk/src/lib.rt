@@ -1,0 +1,144 @@
+// Probes: cells of a foil that inspection touches. Where each stands on a track is found in one walk of it,
+// by marks in scratch; for one that is not on it the nearest cell is searched.
+use grid::Cell;
+use grid::Cells;
+use grid::Panel;
+use list::cell_at;
+use list::squared_distance;
+use scratch::clear;
+use scratch::place_of;
+ghost use mathlib.Core.Path.{_≡_};
+ghost use mathlib.Core.Bool.{true};
+ghost use mathlib.Core.List.{[]};
+ghost use Prim.Native.Nat.{_*_, _≤_};
+ghost use lib.ListN.{length, drop, replicate};
+ghost use Rattle.grid.specs.Panel.{goodSides, area};
+ghost use Rattle.grid.specs.Bytes.{InBytes, cellsIn};
+ghost use Rattle.list.specs.List.{allOn, noneTwice};
+ghost use Rattle.scratch.specs.Scratch.{Clean};
+ghost use Rattle.probe_walk.specs.Probes.{places, positions, nearest, nearestCells, cellsRead, foundOn, unfound, Marked, Noted};
+
+// How many probes a sheet has places for.
+pub const PLACES: usize = 64;
+
+// The positions of the probes, 0 for one that is not on the track and at unused places, and how many
+// cells of the track were read for them.
+pub struct Found {
+    pub positions: [u32; 64],
+    pub read: Cells,
+}
+
+// Marks each probed cell of clean scratch with the number of its first probe. Gives how many different
+// cells there are.
+fn mark_probes(p: Panel, probes: &[u8], scratch: &mut [u8]) -> usize
+    requires good { ⌜ goodSides p ≡ true ⌝ }
+    requires on { ⌜ allOn p (cellsIn (now probes)) ≡ true ⌝ }
+    requires few { ⌜ length (now probes) ≤ 2 * places ⌝ }
+    requires clean { ⌜ Clean p (now scratch) ⌝ }
+    ensures marks { λ _. ⌜ Marked p (cellsIn (now (probes .entry))) (now (scratch .exit)) ⌝ }
+    ensures rest { λ _. ⌜ drop (area p) (now (scratch .exit)) ≡ drop (area p) (now (scratch .entry)) ⌝ }
+    ensures told { λ r. ⌜ r ≡ unfound (cellsIn (now (probes .entry))) [] ⌝ }
+{
+    let mut different = 0;
+    let mut i = 0;
+    while i < probes.len() / 2 {
+        let place = place_of(p, cell_at(probes, 2 * i));
+        i += 1;
+        if scratch[place] == 0 {
+            scratch[place] = i as u8;
+            different += 1;
+        }
+    }
+    different
+}
+
+// The one walk: marks the probes, reads the list until every probed cell is found, and notes each one's
+// position at its mark. Gives how many cells it read.
+fn walk(p: Panel, list: &[u8], probes: &[u8], scratch: &mut [u8], found: &mut [u32]) -> usize
+    requires good { ⌜ goodSides p ≡ true ⌝ }
+    requires inside { ⌜ allOn p (cellsIn (now list)) ≡ true ⌝ }
+    requires once { ⌜ noneTwice (cellsIn (now list)) ≡ true ⌝ }
+    requires short { ⌜ length (now list) ≤ 32768 ⌝ }
+    requires on { ⌜ allOn p (cellsIn (now probes)) ≡ true ⌝ }
+    requires few { ⌜ length (now probes) ≤ 2 * places ⌝ }
+    requires clean { ⌜ Clean p (now scratch) ⌝ }
+    requires empty { ⌜ now found ≡ replicate places 0 ⌝ }
+    ensures marks { λ _. ⌜ Marked p (cellsIn (now (probes .entry))) (now (scratch .exit)) ⌝ }
+    ensures rest { λ _. ⌜ drop (area p) (now (scratch .exit)) ≡ drop (area p) (now (scratch .entry)) ⌝ }
+    ensures notes { λ _. ⌜ Noted (cellsIn (now (probes .entry))) (cellsIn (now (list .entry))) (now (found .exit)) ⌝ }
+    ensures told { λ r. ⌜ r ≡ cellsRead (cellsIn (now (probes .entry))) (cellsIn (now (list .entry))) ⌝ }
+{
+    let mut left = mark_probes(p, probes, scratch);
+    let mut read = 0;
+    while read < list.len() / 2 {
+        if left == 0 {
+            return read;
+        }
+        let mark = scratch[place_of(p, cell_at(list, 2 * read))] as usize;
+        read += 1;
+        if mark != 0 {
+            found[mark - 1] = read as u32;
+            left -= 1;
+        }
+    }
+    read
+}
+
+// The position of every probe: what is noted at its cell's mark.
+fn positions_of(p: Panel, probes: &[u8], scratch: &[u8], found: &[u32]) -> [u32; 64]
+{
+    let mut positions = [0u32; PLACES];
+    let mut i = 0;
+    while i < probes.len() / 2 {
+        let mark = scratch[place_of(p, cell_at(probes, 2 * i))] as usize;
+        positions[i] = found[mark - 1];
+        i += 1;
+    }
+    positions
+}
+
+// Finds the probes on the list in clean scratch, which is left clean.
+pub fn find_probes(p: Panel, list: &[u8], probes: &[u8], scratch: &mut [u8]) -> Found
+{
+    let mut found = [0u32; PLACES];
+    let read = walk(p, list, probes, scratch, &mut found) as u32;
+    let positions = positions_of(p, probes, scratch, &found);
+    clear(p, scratch);
+    Found {
+        positions,
+        read: Cells(read),
+    }
+}
+
+// The nearest cell of a list that is not empty.
+fn nearest_to(list: &[u8], c: Cell) -> Cell
+{
+    let mut nearest = cell_at(list, 0);
+    let mut least = squared_distance(c, nearest);
+    let mut i = 1;
+    while i < list.len() / 2 {
+        let next = cell_at(list, 2 * i);
+        let away = squared_distance(c, next);
+        if away < least {
+            nearest = next;
+            least = away;
+        }
+        i += 1;
+    }
+    nearest
+}
+
+// The nearest cell for each probe without a position.
+pub fn nearest_cells(list: &[u8], probes: &[u8], positions: [u32; 64]) -> [Cell; 64]
+{
+    let none = Cell { x: 0, y: 0 };
+    let mut cells = [none; PLACES];
+    let mut i = 0;
+    while i < probes.len() / 2 {
+        if positions[i] == 0 {
+            cells[i] = nearest_to(list, cell_at(probes, 2 * i));
+        }
+        i += 1;
+    }
+    cells
+}
