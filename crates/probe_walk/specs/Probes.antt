@@ -1,6 +1,6 @@
 -- Document 02, R-8: where a probe (a cell that inspection touches) stands on a list of cells, the nearest cell of the list to it, how many cells
 -- of the list one walk for all probes reads; and what a sheet has at its 64 places.
-use Prim.Native.Nat.{ℕ, suc, _-_, _≤_, max}
+use Prim.Native.Nat.{ℕ, suc, _+_, _-_, _≤_, max}
 use mathlib.Core.Path.{_≡_}
 use mathlib.Core.Bool.{Bool, true, cond, _&&_}
 use mathlib.Core.List.{List, [], _∷_, _++_, map}

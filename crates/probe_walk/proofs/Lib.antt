@@ -1,0 +1,5 @@
+pub mod Positions
+pub mod Unfound
+pub mod Nearest
+pub mod Marks
+pub mod Walks
