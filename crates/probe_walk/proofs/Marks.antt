@@ -1,7 +1,7 @@
 -- What is known while the probes are marked: the marks stand for those that were taken. A mark is found by its cell alone.
 use Prim.Native.Nat.{ℕ, suc, _+_, _≤_, _<_}
 use native.Mathlib.Omega.{arith}
-use mathlib.Core.Path.{_≡_, refl, sym, ap, _∙_}
+use mathlib.Core.Path.{_≡_, refl, sym, ap, subst⁻¹, _∙_}
 use mathlib.Core.Bool.{Bool, true, false, cond}
 use mathlib.Core.Logic.{_≢_}
 use mathlib.Core.List.{List, [], _∷_, _++_}
@@ -12,8 +12,7 @@ use Rattle.grid.specs.declared.Panel.{Panel}
 use Rattle.grid.specs.declared.Cell.{Cell}
 use Rattle.grid.specs.Panel.{cell, area, OnPanel, sameCell}
 use Rattle.grid.proofs.Facts.{same-eq, same-ne}
-use Rattle.list.specs.List.{among}
-use Rattle.list.proofs.Indexed.{cellOf}
+use Rattle.list.specs.List.{nth, among}
 use Rattle.scratch.specs.Scratch.{place, Clean}
 use Rattle.scratch.proofs.Marks.{unmarked-clean}
 use Rattle.scratch.proofs.Places.{place-below, place-once}
@@ -22,10 +21,15 @@ use Rattle.probe_walk.proofs.Positions.{is-not-on, is-on-list, position
 use Rattle.probe_walk.proofs.Unfound.{unfound-marked}
 
 -- one cell more of a list
-pub take-next : (l : List Cell) (i : ℕ) → i < length l → take (i + 1) l ≡ take i l ++ cellOf l i ∷ []
+pub take-next : (l : List Cell) (i : ℕ) → i < length l → take (i + 1) l ≡ take i l ++ nth l i ∷ []
 take-next l i h =
     let e : i + 1 ≡ suc i = omega arith in
     ap (λ (k : ℕ). take k l) e ∙ take-suc l i (cell 0 0) h
+
+-- the place k of a cell is a place of scratch
+pub in-scratch : {p : Panel} {q : List Cell} {scratch : List ℕ} {c : Cell} {k : ℕ} → Marked p q scratch → OnPanel p c → k ≡ place p c
+    → k < length scratch
+in-scratch m o e = omega (arith, m .room, place-below o)
 
 -- the first i probes of q are marked, in scratch that was old
 pub record Marking (p : Panel) (q : List Cell) (old new : List ℕ) (different i : ℕ) : Type 0 where
@@ -48,9 +52,9 @@ none-marked q {old} c = record {
 
 -- the next probe
 module _ {p : Panel} {q : List Cell} {old new : List ℕ} {different i : ℕ} (m : Marking p q old new different i) (h : i < length q)
-    (o : OnPanel p (cellOf q i)) where
+    (o : OnPanel p (nth q i)) where
   abbrev c : Cell
-  c = cellOf q i
+  c = nth q i
 
   abbrev t : List Cell
   t = take i q
@@ -58,10 +62,10 @@ module _ {p : Panel} {q : List Cell} {old new : List ℕ} {different i : ℕ} (m
   next : take (i + 1) q ≡ t ++ c ∷ []
   next = take-next q i h
 
-  -- its cell is marked already
-  pub marked-before : getD new (place p c) 0 ≢ 0 → Marking p q old new different (i + 1)
-  marked-before n =
-      let was : among c t ≡ true = is-on-list c t (λ e. n (m .marked .marks c o ∙ e)) in
+  -- its cell, whose place is k, is marked already
+  pub marked-before : {k : ℕ} → k ≡ place p c → getD new k 0 ≢ 0 → Marking p q old new different (i + 1)
+  marked-before at n =
+      let was : among c t ≡ true = is-on-list c t (λ e. n (ap (λ (k : ℕ). getD new k 0) at ∙ m .marked .marks c o ∙ e)) in
       let none : _≡_ {A = ℕ} (cond (among c t) 0 1) 0 = ap (λ (b : Bool). cond b 0 1) was in
       let same : unfound (take (i + 1) q) [] ≡ unfound (t ++ c ∷ []) [] = ap (λ (k : List Cell). unfound k []) next in
       record {
@@ -76,9 +80,8 @@ module _ {p : Panel} {q : List Cell} {old new : List ℕ} {different i : ℕ} (m
         rest = m .rest;
       }
 
-  -- it is marked now
-  pub marked-now : getD new (place p c) 0 ≡ 0 → Marking p q old (set new (place p c) (i + 1)) (different + 1) (i + 1)
-  marked-now z =
+  marked-there : getD new (place p c) 0 ≡ 0 → Marking p q old (set new (place p c) (i + 1)) (different + 1) (i + 1)
+  marked-there z =
       let one : _≡_ {A = ℕ} (cond (among c t) 0 1) 1 = ap (λ (b : Bool). cond b 0 1) fresh in
       let same : unfound (take (i + 1) q) [] ≡ unfound (t ++ c ∷ []) [] = ap (λ (k : List Cell). unfound k []) next in
       record {
@@ -109,6 +112,12 @@ module _ {p : Panel} {q : List Cell} {old new : List ℕ} {different i : ℕ} (m
           getD-set-other new (place p c) (place p d) (i + 1) 0 (λ f. same-ne d c e (place-once on o f))
           ∙ m .marked .marks d on
           ∙ sym (position-other d t c e)
+
+  -- it is marked now
+  pub marked-now : {k : ℕ} → k ≡ place p c → getD new k 0 ≡ 0 → Marking p q old (set new k (i + 1)) (different + 1) (i + 1)
+  marked-now at z =
+      subst⁻¹ (λ (k : ℕ). Marking p q old (set new k (i + 1)) (different + 1) (i + 1)) at
+      (marked-there (sym (ap (λ (k : ℕ). getD new k 0) at) ∙ z))
 
 -- all are marked
 module _ {p : Panel} {q : List Cell} {old new : List ℕ} {different i : ℕ} (m : Marking p q old new different i) (h : length q ≤ i) where

@@ -13,8 +13,8 @@ use Rattle.grid.specs.declared.Cell.{Cell}
 use Rattle.grid.specs.Panel.{cell, sameCell}
 use Rattle.grid.proofs.Facts.{same-eq, eq-same}
 use Rattle.grid.proofs.Tests.{both-branches}
-use Rattle.list.specs.List.{among, noneTwice}
-use Rattle.list.proofs.Indexed.{cellOf, new-index}
+use Rattle.list.specs.List.{nth, among, noneTwice}
+use Rattle.list.proofs.Indexed.{new-index}
 use Rattle.probe_walk.specs.Probes.{positionFrom, position}
 
 -- 0 exactly if the cell is not on the list
@@ -103,24 +103,24 @@ position-late k c (d ∷ l) = go (sameCell c d) (position-late (suc k) c l)
     go false (inl e) = inl e
     go false (inr h) = inr (omega arith)
 
-found-at : (k : ℕ) (c : Cell) (l : List Cell) (i : ℕ) → positionFrom (suc k) c l ≡ suc k + i → (i < length l) × (cellOf l i ≡ c)
+found-at : (k : ℕ) (c : Cell) (l : List Cell) (i : ℕ) → positionFrom (suc k) c l ≡ suc k + i → (i < length l) × (nth l i ≡ c)
 found-at k c [] i e = absurd (omega arith)
 found-at k c (d ∷ l) i e = go (sameCell c d) refl i e (found-at (suc k) c l)
   where
     go : (b : Bool) → sameCell c d ≡ b → (i : ℕ) → cond b (suc k) (positionFrom (suc (suc k)) c l) ≡ suc k + i
-        → ((j : ℕ) → positionFrom (suc (suc k)) c l ≡ suc (suc k) + j → (j < length l) × (cellOf l j ≡ c))
-        → (i < suc (length l)) × (cellOf (d ∷ l) i ≡ c)
+        → ((j : ℕ) → positionFrom (suc (suc k)) c l ≡ suc (suc k) + j → (j < length l) × (nth l j ≡ c))
+        → (i < suc (length l)) × (nth (d ∷ l) i ≡ c)
     go true f zero e rest = (omega arith, sym (same-eq c d f))
     go true f (suc i) e rest = absurd (omega arith)
     go false f zero e rest = ⊎-elim (λ n. absurd (omega arith)) (λ h. absurd (omega arith)) (position-late (suc (suc k)) c l)
     go false f (suc i) e rest = let (h, g) = rest i (omega arith) in (omega arith, g)
 
 -- a position that is given is a place of its cell
-pub place-given : (c : Cell) (l : List Cell) (i : ℕ) → position c l ≡ suc i → (i < length l) × (cellOf l i ≡ c)
+pub place-given : (c : Cell) (l : List Cell) (i : ℕ) → position c l ≡ suc i → (i < length l) × (nth l i ≡ c)
 place-given c l i e = found-at 0 c l i (omega arith)
 
 -- and where no cell stands twice, each place of a cell is its position: there is no other place
-pub place-only : (c : Cell) (l : List Cell) (i : ℕ) → noneTwice l ≡ true → i < length l → cellOf l i ≡ c → position c l ≡ suc i
+pub place-only : (c : Cell) (l : List Cell) (i : ℕ) → noneTwice l ≡ true → i < length l → nth l i ≡ c → position c l ≡ suc i
 place-only c l i once h e =
     let front = take i l in
     let parts = split-at l i (cell 0 0) h ∙ ap (λ (d : Cell). front ++ d ∷ drop (suc i) l) e in

@@ -7,14 +7,13 @@ use mathlib.Core.Bool.{Bool, true, false, true≢false}
 use mathlib.Core.Logic.{_≢_}
 use mathlib.Core.List.{List, [], _∷_, _++_}
 use lib.Dec.{eqb}
-use lib.ListN.{length, take, drop, getD, set, replicate, take-append-drop, getD-replicate}
+use lib.ListN.{length, take, drop, getD, set, replicate, take-append-drop, getD-replicate, length-replicate, length-set}
 use lib.Seq.{length-take-le, take-length, getD-set-same, getD-set-other}
 use borrow.Author.Tests.{eq-eqb, eqb-true}
 use Rattle.grid.specs.declared.Cell.{Cell}
 use Rattle.grid.specs.Panel.{sameCell}
 use Rattle.grid.proofs.Facts.{same-eq, same-ne, ne-same}
-use Rattle.list.specs.List.{among}
-use Rattle.list.proofs.Indexed.{cellOf}
+use Rattle.list.specs.List.{nth, among}
 use Rattle.probe_walk.specs.Probes.{places, position, allAmong, furthest, cellsRead, unfound, Noted}
 use Rattle.probe_walk.proofs.Marks.{take-next}
 use Rattle.probe_walk.proofs.Positions.{is-on-list, position-front, position-new, position-other, place-given, position-once}
@@ -25,6 +24,7 @@ pub record Walking (q l : List Cell) (found : List ℕ) (left read : ℕ) : Type
   pub counted : left ≡ unfound q (take read l)
   pub last : left ≡ 0 → furthest q (take read l) ≡ read
   pub noted : Noted q (take read l) found
+  pub size : length found ≡ places
 
 pub none-read : (q l : List Cell) {found : List ℕ} {left : ℕ} → length q ≤ places → found ≡ replicate places 0 → left ≡ unfound q []
     → Walking q l found left 0
@@ -35,6 +35,7 @@ none-read q l few e f = record {
   noted = record {
     notes = λ c i h. ap (λ (k : List ℕ). getD k i 0) e ∙ getD-replicate places i 0 0 (omega (arith, place-given c q i h .0, few));
   };
+  size = ap length e ∙ length-replicate {A = ℕ} places 0;
 }
 
 -- a position noted
@@ -44,7 +45,7 @@ probed q c i e = is-on-list c q (λ f. omega arith)
 -- the next cell
 module _ {q l : List Cell} {found : List ℕ} {left read : ℕ} (w : Walking q l found left read) (h : read < length l) where
   abbrev c : Cell
-  c = cellOf l read
+  c = nth l read
 
   abbrev t : List Cell
   t = take read l
@@ -61,6 +62,7 @@ module _ {q l : List Cell} {found : List ℕ} {left read : ℕ} (w : Walking q l
     noted = record {
       notes = λ d i e. w .noted .notes d i e ∙ sym (position-other d t c (other d i e)) ∙ ap (position d) (sym next);
     };
+    size = w .size;
   }
     where
       other : (d : Cell) (i : ℕ) → position d q ≡ suc i → sameCell d c ≡ false
@@ -74,6 +76,7 @@ module _ {q l : List Cell} {found : List ℕ} {left read : ℕ} (w : Walking q l
     counted = omega (arith, w .counted, unfound-one q t c (probed q c j at) new, ap (unfound q) next);
     last = λ _. furthest-last q (take (read + 1) l) c (probed q c j at) (here ∙ long) ∙ sym long;
     noted = record { notes = λ d i e. by-same d i e (sameCell d c) refl };
+    size = length-set found j (read + 1) ∙ w .size;
   }
     where
       long : read + 1 ≡ length (take (read + 1) l)

@@ -10,12 +10,12 @@ use scratch::place_of;
 ghost use mathlib.Core.Path.{_≡_};
 ghost use mathlib.Core.Bool.{true};
 ghost use mathlib.Core.List.{[]};
-ghost use Prim.Native.Nat.{_*_, _≤_};
+ghost use Prim.Native.Nat.{_*_, _<_, _≤_};
 ghost use lib.ListN.{length, drop, replicate};
 ghost use Rattle.grid.specs.Panel.{goodSides, area};
 ghost use Rattle.grid.specs.Bytes.{InBytes, cellsIn};
-ghost use Rattle.list.specs.List.{allOn, noneTwice};
-ghost use Rattle.scratch.specs.Scratch.{Clean};
+ghost use Rattle.list.specs.List.{nth, allOn, noneTwice};
+ghost use Rattle.scratch.specs.Scratch.{place, Clean};
 ghost use Rattle.probe_walk.specs.Probes.{places, positions, nearest, nearestCells, cellsRead, foundOn, unfound, Marked, Noted};
 
 // How many probes a sheet has places for.
@@ -26,6 +26,16 @@ pub const PLACES: usize = 64;
 pub struct Found {
     pub positions: [u32; 64],
     pub read: Cells,
+}
+
+// The place in scratch of the cell with the number i, from 0, of a list.
+fn place_at(p: Panel, cells: &[u8], i: usize) -> usize
+    requires good { ⌜ goodSides p ≡ true ⌝ }
+    requires on { ⌜ allOn p (cellsIn (now cells)) ≡ true ⌝ }
+    requires below { ⌜ i < length (cellsIn (now cells)) ⌝ }
+    ensures { λ r. ⌜ r ≡ place p (nth (cellsIn (now (cells .entry))) i) ⌝ }
+{
+    place_of(p, cell_at(cells, 2 * i))
 }
 
 // Marks each probed cell of clean scratch with the number of its first probe. Gives how many different
@@ -42,7 +52,7 @@ fn mark_probes(p: Panel, probes: &[u8], scratch: &mut [u8]) -> usize
     let mut different = 0;
     let mut i = 0;
     while i < probes.len() / 2 {
-        let place = place_of(p, cell_at(probes, 2 * i));
+        let place = place_at(p, probes, i);
         i += 1;
         if scratch[place] == 0 {
             scratch[place] = i as u8;
@@ -74,7 +84,7 @@ fn walk(p: Panel, list: &[u8], probes: &[u8], scratch: &mut [u8], found: &mut [u
         if left == 0 {
             return read;
         }
-        let mark = scratch[place_of(p, cell_at(list, 2 * read))] as usize;
+        let mark = scratch[place_at(p, list, read)] as usize;
         read += 1;
         if mark != 0 {
             found[mark - 1] = read as u32;
@@ -90,7 +100,7 @@ fn positions_of(p: Panel, probes: &[u8], scratch: &[u8], found: &[u32]) -> [u32;
     let mut positions = [0u32; PLACES];
     let mut i = 0;
     while i < probes.len() / 2 {
-        let mark = scratch[place_of(p, cell_at(probes, 2 * i))] as usize;
+        let mark = scratch[place_at(p, probes, i)] as usize;
         positions[i] = found[mark - 1];
         i += 1;
     }
