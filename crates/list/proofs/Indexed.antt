@@ -2,15 +2,16 @@
 use Prim.Native.Nat.{ℕ, zero, suc, _+_, _*_, _<_}
 use native.Mathlib.Omega.{arith}
 use mathlib.Core.Path.{_≡_, refl, sym, ap, _∙_}
-use mathlib.Core.Bool.{true, false}
+use mathlib.Core.Bool.{Bool, true, false, _||_, or-true}
 use mathlib.Core.Logic.{_≢_}
 use mathlib.Core.List.{List, [], _∷_}
 use lib.ListN.{length, take, getD}
 use Rattle.grid.specs.declared.Panel.{Panel}
 use Rattle.grid.specs.declared.Cell.{Cell}
-use Rattle.grid.specs.Panel.{cell, OnPanel}
+use Rattle.grid.specs.Panel.{cell, OnPanel, sameCell}
 use Rattle.grid.specs.Track.{All, Once}
 use Rattle.grid.specs.Bytes.{cellsIn}
+use Rattle.grid.proofs.Facts.{eq-same}
 use Rattle.list.specs.List.{cellAt, nth, allOn, among, noneTwice}
 use Rattle.list.proofs.Cells.{length-cells}
 use Rattle.list.proofs.Tracks.{all-on, once, is-not-among}
@@ -49,3 +50,10 @@ once-index (Once.more a r) (suc i) h = All.more (λ e. all-index a i (omega arit
 -- where no cell stands twice, the one at an index stands nowhere before it
 pub new-index : (l : List Cell) (i : ℕ) → noneTwice l ≡ true → i < length l → among (nth l i) (take i l) ≡ false
 new-index l i e h = is-not-among (once-index (once l e) i h)
+
+-- it stands in the list
+pub among-index : (l : List Cell) (i : ℕ) → i < length l → among (nth l i) l ≡ true
+among-index [] i h = absurd (omega arith)
+among-index (c ∷ l) zero h = ap (λ (b : Bool). b || among c l) (eq-same {a = c} refl)
+among-index (c ∷ l) (suc i) h =
+    ap (λ (b : Bool). sameCell (nth l i) c || b) (among-index l i (omega arith)) ∙ or-true (sameCell (nth l i) c)

@@ -3,3 +3,4 @@ pub mod Unfound
 pub mod Nearest
 pub mod Marks
 pub mod Walks
+pub mod Sheets

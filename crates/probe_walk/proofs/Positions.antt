@@ -36,6 +36,9 @@ is-not-on c l e = go (among c l) refl
     go true f = absurd (true≢false (sym (eq-eqb _ _ e) ∙ position-none 0 c l ∙ ap not f))
     go false f = refl
 
+pub some-position : (c : Cell) (l : List Cell) → among c l ≡ true → 1 ≤ position c l
+some-position c l e = let some : position c l ≢ 0 = λ z. true≢false (sym e ∙ is-not-on c l z) in omega arith
+
 pub is-on-list : (c : Cell) (l : List Cell) → position c l ≢ 0 → among c l ≡ true
 is-on-list c l n = go (among c l) refl
   where

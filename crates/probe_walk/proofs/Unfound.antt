@@ -11,7 +11,7 @@ use borrow.Author.Tests.{eqb-true, eqb-false, eq-eqb, ne-eqb}
 use Rattle.grid.specs.declared.Cell.{Cell}
 use Rattle.grid.specs.Panel.{sameCell}
 use Rattle.grid.proofs.Facts.{and-parts, and-both, same-eq, eq-same}
-use Rattle.grid.proofs.Tests.{cond-yes, cond-no}
+use Rattle.grid.proofs.Tests.{both-branches, cond-yes, cond-no}
 use Rattle.list.specs.List.{among}
 use Rattle.list.proofs.Behind.{among-behind}
 use Rattle.probe_walk.specs.Probes.{position, allAmong, furthest, cellsRead, unfound}
@@ -156,3 +156,6 @@ read-stopped q l m e f = let (a, g) = all-front q l m e in cond-yes _ _ a (sym f
 
 pub read-all : (q l : List Cell) → allAmong q l ≡ false → length l ≡ cellsRead q l
 read-all q l e = cond-no _ _ e refl
+
+pub read-small : (q l : List Cell) → cellsRead q l ≤ length l
+read-small q l = both-branches (λ (k : ℕ). k ≤ length l) (allAmong q l) (furthest q l) (length l) (λ _. furthest-small q l) (λ _. omega arith)

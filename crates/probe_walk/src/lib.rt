@@ -14,9 +14,10 @@ ghost use Prim.Native.Nat.{_*_, _<_, _≤_};
 ghost use lib.ListN.{length, drop, replicate};
 ghost use Rattle.grid.specs.Panel.{goodSides, area};
 ghost use Rattle.grid.specs.Bytes.{InBytes, cellsIn};
-ghost use Rattle.list.specs.List.{nth, allOn, noneTwice};
+ghost use Rattle.list.specs.List.{nth, allOn};
 ghost use Rattle.scratch.specs.Scratch.{place, Clean};
-ghost use Rattle.probe_walk.specs.Probes.{places, positions, nearest, nearestCells, cellsRead, foundOn, unfound, Marked, Noted};
+ghost use Rattle.probe_walk.specs.Probes.{position, nearest, cellsRead, places, positions, nearestMissed, nearestCells};
+ghost use Rattle.probe_walk.specs.Probes.{foundOn, Probed, Searched, unfound, Marked, Noted, noted};
 
 // How many probes a sheet has places for.
 pub const PLACES: usize = 64;
@@ -41,9 +42,7 @@ fn place_at(p: Panel, cells: &[u8], i: usize) -> usize
 // Marks each probed cell of clean scratch with the number of its first probe. Gives how many different
 // cells there are.
 fn mark_probes(p: Panel, probes: &[u8], scratch: &mut [u8]) -> usize
-    requires good { ⌜ goodSides p ≡ true ⌝ }
-    requires on { ⌜ allOn p (cellsIn (now probes)) ≡ true ⌝ }
-    requires few { ⌜ length (now probes) ≤ 2 * places ⌝ }
+    requires probed { ⌜ Probed p (now probes) ⌝ }
     requires clean { ⌜ Clean p (now scratch) ⌝ }
     ensures marks { λ _. ⌜ Marked p (cellsIn (now (probes .entry))) (now (scratch .exit)) ⌝ }
     ensures rest { λ _. ⌜ drop (area p) (now (scratch .exit)) ≡ drop (area p) (now (scratch .entry)) ⌝ }
@@ -65,12 +64,7 @@ fn mark_probes(p: Panel, probes: &[u8], scratch: &mut [u8]) -> usize
 // The one walk: marks the probes, reads the list until every probed cell is found, and notes each one's
 // position at its mark. Gives how many cells it read.
 fn walk(p: Panel, list: &[u8], probes: &[u8], scratch: &mut [u8], found: &mut [u32]) -> usize
-    requires good { ⌜ goodSides p ≡ true ⌝ }
-    requires inside { ⌜ allOn p (cellsIn (now list)) ≡ true ⌝ }
-    requires once { ⌜ noneTwice (cellsIn (now list)) ≡ true ⌝ }
-    requires short { ⌜ length (now list) ≤ 32768 ⌝ }
-    requires on { ⌜ allOn p (cellsIn (now probes)) ≡ true ⌝ }
-    requires few { ⌜ length (now probes) ≤ 2 * places ⌝ }
+    requires searched { ⌜ Searched p (now list) (now probes) ⌝ }
     requires clean { ⌜ Clean p (now scratch) ⌝ }
     requires empty { ⌜ now found ≡ replicate places 0 ⌝ }
     ensures marks { λ _. ⌜ Marked p (cellsIn (now (probes .entry))) (now (scratch .exit)) ⌝ }
@@ -94,8 +88,12 @@ fn walk(p: Panel, list: &[u8], probes: &[u8], scratch: &mut [u8], found: &mut [u
     read
 }
 
-// The position of every probe: what is noted at its cell's mark.
-fn positions_of(p: Panel, probes: &[u8], scratch: &[u8], found: &[u32]) -> [u32; 64]
+// What is noted for every probe, at its cell's mark.
+fn noted_for(p: Panel, probes: &[u8], scratch: &[u8], found: &[u32]) -> [u32; 64]
+    requires probed { ⌜ Probed p (now probes) ⌝ }
+    requires marks { ⌜ Marked p (cellsIn (now probes)) (now scratch) ⌝ }
+    requires room { ⌜ places ≤ length (now found) ⌝ }
+    ensures { λ r. ⌜ r ≡ noted (cellsIn (now (probes .entry))) (now (found .entry)) ⌝ }
 {
     let mut positions = [0u32; PLACES];
     let mut i = 0;
@@ -109,19 +107,26 @@ fn positions_of(p: Panel, probes: &[u8], scratch: &[u8], found: &[u32]) -> [u32;
 
 // Finds the probes on the list in clean scratch, which is left clean.
 pub fn find_probes(p: Panel, list: &[u8], probes: &[u8], scratch: &mut [u8]) -> Found
+    requires searched { ⌜ Searched p (now list) (now probes) ⌝ }
+    requires clean { ⌜ Clean p (now scratch) ⌝ }
+    ensures found { λ r. ⌜ r ≡ foundOn (cellsIn (now (probes .entry))) (cellsIn (now (list .entry))) ⌝ }
+    ensures left { λ _. ⌜ now (scratch .exit) ≡ now (scratch .entry) ⌝ }
 {
     let mut found = [0u32; PLACES];
-    let read = walk(p, list, probes, scratch, &mut found) as u32;
-    let positions = positions_of(p, probes, scratch, &found);
+    let read = walk(p, list, probes, scratch, &mut found);
+    let positions = noted_for(p, probes, scratch, &found);
     clear(p, scratch);
     Found {
         positions,
-        read: Cells(read),
+        read: Cells(read as u32),
     }
 }
 
 // The nearest cell of a list that is not empty.
 fn nearest_to(list: &[u8], c: Cell) -> Cell
+    requires some { ⌜ 2 ≤ length (now list) ⌝ }
+    requires fits { ⌜ InBytes c ⌝ }
+    ensures { λ r. ⌜ r ≡ nearest c (cellsIn (now (list .entry))) ⌝ }
 {
     let mut nearest = cell_at(list, 0);
     let mut least = squared_distance(c, nearest);
@@ -138,16 +143,31 @@ fn nearest_to(list: &[u8], c: Cell) -> Cell
     nearest
 }
 
-// The nearest cell for each probe without a position.
-pub fn nearest_cells(list: &[u8], probes: &[u8], positions: [u32; 64]) -> [Cell; 64]
+// The nearest cell for a probe whose position is 0, (0, 0) for a found one.
+fn nearest_if_missed(list: &[u8], c: Cell, at: u32) -> Cell
+    requires some { ⌜ 2 ≤ length (now list) ⌝ }
+    requires fits { ⌜ InBytes c ⌝ }
+    requires found { ⌜ at ≡ position c (cellsIn (now list)) ⌝ }
+    ensures { λ r. ⌜ r ≡ nearestMissed (cellsIn (now (list .entry))) c ⌝ }
+{
+    if at != 0 {
+        return Cell { x: 0, y: 0 };
+    }
+    nearest_to(list, c)
+}
+
+// The same for every probe.
+pub fn nearest_cells(list: &[u8], probes: &[u8], found: [u32; 64]) -> [Cell; 64]
+    requires some { ⌜ 2 ≤ length (now list) ⌝ }
+    requires few { ⌜ length (now probes) ≤ 2 * places ⌝ }
+    requires found { ⌜ found ≡ positions (cellsIn (now probes)) (cellsIn (now list)) ⌝ }
+    ensures { λ r. ⌜ r ≡ nearestCells (cellsIn (now (probes .entry))) (cellsIn (now (list .entry))) ⌝ }
 {
     let none = Cell { x: 0, y: 0 };
     let mut cells = [none; PLACES];
     let mut i = 0;
     while i < probes.len() / 2 {
-        if positions[i] == 0 {
-            cells[i] = nearest_to(list, cell_at(probes, 2 * i));
-        }
+        cells[i] = nearest_if_missed(list, cell_at(probes, 2 * i), found[i]);
         i += 1;
     }
     cells

@@ -20,7 +20,7 @@ abbrev μ-loop : tie.MeasureT-loop
 μ-loop p probes scratch₀ different₀ i₀ scratch different i = length probes - i
 
 loop-holds : tie.Need-loop-holds Inv-loop μ-loop
-loop-holds c = none-marked _ (c .before .before .pre .1 .1 .1)
+loop-holds c = none-marked _ (c .before .before .pre .1)
 
 -- the turn of a probe
 module _ (c : tie.In-loop Inv-loop μ-loop) where
@@ -34,13 +34,13 @@ module _ (c : tie.In-loop Inv-loop μ-loop) where
   below = omega (arith, c .loop-test .taken, length-cells (start .args .probes .now))
 
   few : c .before .loop .i < 64
-  few = omega (arith, c .loop-test .taken, start .pre .1 .1 .0)
+  few = omega (arith, c .loop-test .taken, start .pre .0 .few)
 
   inside : OnPanel (start .args .p) (nth q (c .before .loop .i))
-  inside = on-index (start .args .p) q (c .before .loop .i) (start .pre .1 .0) below
+  inside = on-index (start .args .p) q (c .before .loop .i) (start .pre .0 .on) below
 
 place-at-requires : tie.Need-place-at-requires Inv-loop μ-loop
-place-at-requires c κs = (start c .pre .0, (start c .pre .1 .0, below c))
+place-at-requires c κs = (start c .pre .0 .good, (start c .pre .0 .on, below c))
 
 placed : (c : tie.After-place-at Inv-loop μ-loop) → c .place-at .result < length (c .before .before .loop .scratch)
 placed c = in-scratch (c .before .before .loop .inv .marked) (inside (c .before)) (c .place-at .ensures)

@@ -29,14 +29,12 @@ abbrev μ-loop : tie.MeasureT-loop
 mark-probes-requires : tie.Need-mark-probes-requires Inv-loop μ-loop
 mark-probes-requires c κs =
     let asked = c .before .before .before .before .before .pre in
-    let of-probes = asked .1 .1 .1 .1 in
-    (asked .0, (of-probes .0, (of-probes .1 .0, of-probes .1 .1 .0)))
+    (asked .0 .probed, asked .1 .0)
 
 loop-holds : tie.Need-loop-holds Inv-loop μ-loop
 loop-holds c =
     let s = c .before .before .before .before .before .before .before .before in
-    let of-probes = s .pre .1 .1 .1 .1 in
-    none-read _ _ (omega (arith, of-probes .1 .0, length-cells (s .args .probes .now))) (of-probes .1 .1 .1) (c .before .before .mark-probes .ensures .1 .1)
+    none-read _ _ (omega (arith, s .pre .0 .probed .few, length-cells (s .args .probes .now))) (s .pre .1 .1) (c .before .before .mark-probes .ensures .1 .1)
 
 -- what the loop goes over, and the marks
 module _ (c : tie.After-slice-known3 Inv-loop μ-loop) where
@@ -54,7 +52,7 @@ module _ (c : tie.After-slice-known3 Inv-loop μ-loop) where
 
   -- the same for what is found
   still : {found : List ℕ} {left read : ℕ} → Walking q l found left read → length found ≡ length (start .args .found .now)
-  still w = w .size ∙ sym (ap length (start .pre .1 .1 .1 .1 .1 .1 .1) ∙ length-replicate {A = ℕ} places 0)
+  still w = w .size ∙ sym (ap length (start .pre .1 .1) ∙ length-replicate {A = ℕ} places 0)
 
   marks : Marked (start .args .p) q scratch
   marks = c .before .before .mark-probes .ensures .0
@@ -86,16 +84,16 @@ module _ (c : tie.Else1 Inv-loop μ-loop) where
   below = omega (arith, c .before .loop-test .taken, length-cells (start known .args .list .now))
 
   few : read < 16384
-  few = omega (arith, c .before .loop-test .taken, start known .pre .1 .1 .1 .0)
+  few = omega (arith, c .before .loop-test .taken, start known .pre .0 .short)
 
   inside : OnPanel (start known .args .p) (nth (l known) read)
-  inside = on-index (start known .args .p) (l known) read (start known .pre .1 .0) below
+  inside = on-index (start known .args .p) (l known) read (start known .pre .0 .inside) below
 
   new : among (nth (l known) read) (take read (l known)) ≡ false
-  new = new-index (l known) read (start known .pre .1 .1 .0) below
+  new = new-index (l known) read (start known .pre .0 .once) below
 
 place-at-requires : tie.Need-place-at-requires Inv-loop μ-loop
-place-at-requires c κs = (start (known c) .pre .0, (start (known c) .pre .1 .0, below c))
+place-at-requires c κs = (start (known c) .pre .0 .probed .good, (start (known c) .pre .0 .inside, below c))
 
 -- its mark
 module _ (c : tie.After-place-at Inv-loop μ-loop) where
@@ -123,7 +121,7 @@ module _ (c : tie.After-place-at Inv-loop μ-loop) where
           arith,
           place-given here (q k) (mark - 1) at-mark .0,
           length-cells (start k .args .probes .now),
-          start k .pre .1 .1 .1 .1 .1 .0,
+          start k .pre .0 .probed .few,
           turn .before .before .loop .inv .size,
         )
 
