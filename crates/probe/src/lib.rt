@@ -63,11 +63,12 @@ pub fn probe(p: Panel, entry: Cell, exit: Cell, list: &[u8], scratch: &mut [u8],
     }
     let found = find_probes(p, list, probes, scratch);
     let positions = found.positions;
+    let read = found.read;
     let nearest = nearest_cells(list, probes, positions);
     ProbeSheet {
         refusal: 0,
         positions,
         nearest,
-        read: found.read,
+        read,
     }
 }
