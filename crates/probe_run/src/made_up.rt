@@ -117,15 +117,13 @@ fn draw_list(o: Order, code: u32, list: &mut [u8]) -> u32 {
 
 // Probe's input for the order: the list, whose last cell is the exit, and up to three bytes of scratch to spare.
 fn good_job(o: Order, code: u32, list: &[u8], cells: u32) -> Job {
+    let panel = o.panel;
+    let entry = o.entry;
     let exit = cell_of(list, less_one(cells));
     Job {
-        order: Order {
-            panel: o.panel,
-            entry: o.entry,
-            exit,
-        },
+        order: Order { panel, entry, exit },
         list: 2 * (cells as usize),
-        scratch: area_of(o.panel) % 32768 + (pick(code, 8, 4) as usize),
+        scratch: area_of(panel) % 32768 + (pick(code, 8, 4) as usize),
         probes: probe_bytes(code),
     }
 }
@@ -197,25 +195,47 @@ fn fault_of(code: u32) -> u32 {
 
 // 1, 18, 2, 3, and another exit.
 fn spoiled_order(o: Order, fault: u32) -> Order {
-    let mut next = o;
+    let panel = o.panel;
+    let entry = o.entry;
+    let exit = o.exit;
     match fault {
-        0 => next.panel = panel_of(129, o.panel.height, PITCH),
-        1 => next.panel = panel_of(o.panel.width, o.panel.height, 999),
-        2 => next.entry = Cell { x: 0, y: 1 },
-        3 => next.exit = Cell {
-            x: 1,
-            y: add(o.panel.height, 1),
+        0 => Order {
+            panel: panel_of(129, panel.height, PITCH),
+            entry,
+            exit,
         },
-        4 => next.exit = o.entry,
-        _ => {}
+        1 => Order {
+            panel: panel_of(panel.width, panel.height, 999),
+            entry,
+            exit,
+        },
+        2 => Order {
+            panel,
+            entry: Cell { x: 0, y: 1 },
+            exit,
+        },
+        3 => Order {
+            panel,
+            entry,
+            exit: Cell {
+                x: 1,
+                y: add(panel.height, 1),
+            },
+        },
+        4 => Order {
+            panel,
+            entry,
+            exit: entry,
+        },
+        _ => o,
     }
-    next
 }
 
 // 6, an empty list and one cut short; 5; a cell more.
 fn spoiled_job(j: Job, fault: u32) -> Job {
+    let order = spoiled_order(j.order, fault);
     let mut next = j;
-    next.order = spoiled_order(j.order, fault);
+    next.order = order;
     match fault {
         5 => next.list = 0,
         6 => next.list = one_less(j.list),
@@ -288,6 +308,23 @@ fn tallied(t: Tally, s: ProbeSheet, bytes: usize, alike: bool) -> Tally {
     next
 }
 
+fn alike(a: ProbeSheet, b: ProbeSheet, one: &[u8], two: &[u8]) -> bool {
+    if !same_sheet(a, b) {
+        return false;
+    }
+    same(one, two)
+}
+
+fn probed(o: Order, list: &[u8], scratch: &mut [u8], probes: &[u8]) -> ProbeSheet {
+    fill(scratch);
+    probe::probe(o.panel, o.entry, o.exit, list, scratch, probes)
+}
+
+fn by_peer(o: Order, list: &[u8], scratch: &mut [u8], probes: &[u8]) -> ProbeSheet {
+    fill(scratch);
+    expected_sheet(o, list, scratch, probes)
+}
+
 // Probe and the peer, each with scratch of its own.
 fn compared(
     o: Order,
@@ -297,12 +334,9 @@ fn compared(
     probes: &[u8],
     t: Tally,
 ) -> Tally {
-    fill(one);
-    fill(two);
-    let s = probe::probe(o.panel, o.entry, o.exit, list, one, probes);
-    let expected = expected_sheet(o, list, two, probes);
-    let alike = same_sheet(s, expected) && same(one, two);
-    tallied(t, expected, probes.len(), alike)
+    let s = probed(o, list, one, probes);
+    let expected = by_peer(o, list, two, probes);
+    tallied(t, expected, probes.len(), alike(s, expected, one, two))
 }
 
 fn lent(j: Job, list: &[u8], one: &mut [u8], two: &mut [u8], probes: &[u8], t: Tally) -> Tally {
@@ -369,7 +403,8 @@ pub fn run() {
     named(b", all found ", t.found);
     named(b", some missed ", t.missed);
     text(b"\n");
-    print_refused(t.refused);
+    let refused = t.refused;
+    print_refused(refused);
     named(b"different ", t.different);
     text(b"\n");
 }
