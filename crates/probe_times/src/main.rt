@@ -26,7 +26,7 @@ use trial::print::text;
 // doubled for that.
 const TURNS: u32 = 8;
 
-const LEAST: u64 = 4000;
+const LEAST: u64 = 2000;
 
 const DOUBLED: u32 = 16;
 
@@ -242,11 +242,12 @@ fn try_missed(name: &[u8], probes: &[u8]) {
     try_case(name, Cell { x: 128, y: 127 }, &list, probes);
 }
 
-// Makes (x, y) the probe at i.
-fn put(probes: &mut [u8], i: usize, x: u32, y: u32) {
-    if i + 1 < probes.len() {
-        probes[i] = (x % 256) as u8;
-        probes[i + 1] = (y % 256) as u8;
+// Makes (x, y) probe i, where there is room.
+fn put(probes: &mut [u8], i: u32, x: u32, y: u32) {
+    let at = 2 * (i as usize);
+    if at + 1 < probes.len() {
+        probes[at] = (x % 256) as u8;
+        probes[at + 1] = (y % 256) as u8;
     }
 }
 
@@ -255,26 +256,17 @@ fn spread_cells() {
     let mut list = [0u8; 32768];
     snake(&mut list);
     let mut probes = [0u8; 128];
-    let mut i = 0;
-    while i < 64 {
-        let at = 510 * i + 636;
-        put(
-            &mut probes,
-            2 * i,
-            byte_at(&list, at),
-            byte_at(&list, at + 1),
-        );
-        i += 1;
+    for i in 0..64 {
+        let at = 510 * (i as usize) + 636;
+        put(&mut probes, i, byte_at(&list, at), byte_at(&list, at + 1));
     }
     try_all_rows(b"64 to the end", &probes);
 }
 
 fn last_cell() {
     let mut probes = [0u8; 128];
-    let mut i = 0;
-    while i < 64 {
-        put(&mut probes, 2 * i, 1, 128);
-        i += 1;
+    for i in 0..64 {
+        put(&mut probes, i, 1, 128);
     }
     try_all_rows(b"the end 64 times", &probes);
 }
@@ -282,10 +274,8 @@ fn last_cell() {
 // Every second cell of the last row.
 fn last_row() {
     let mut probes = [0u8; 128];
-    let mut i: u32 = 0;
-    while i < 64 {
-        put(&mut probes, 2 * (i as usize), 2 * i + 1, 128);
-        i += 1;
+    for i in 0..64 {
+        put(&mut probes, i, 2 * i + 1, 128);
     }
     try_missed(b"64 missed", &probes);
 }
