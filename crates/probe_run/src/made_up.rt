@@ -63,7 +63,8 @@ fn one_less(a: usize) -> usize {
     if 0 < a { a - 1 } else { 0 }
 }
 
-fn less_one(a: u32) -> u32 {
+// The number before a; 0 has none and stays.
+fn previous(a: u32) -> u32 {
     if 0 < a { a - 1 } else { 0 }
 }
 
@@ -119,7 +120,7 @@ fn draw_list(o: Order, code: u32, list: &mut [u8]) -> u32 {
 fn good_job(o: Order, code: u32, list: &[u8], cells: u32) -> Job {
     let panel = o.panel;
     let entry = o.entry;
-    let exit = cell_of(list, less_one(cells));
+    let exit = cell_of(list, previous(cells));
     Job {
         order: Order { panel, entry, exit },
         list: 2 * (cells as usize),
@@ -251,7 +252,7 @@ fn spoil_list(list: &mut [u8], cells: u32, code: u32, fault: u32) {
     let at = pick(code, 254, cells);
     let c = cell_of(list, at);
     match fault {
-        8 => put(list, cells, cell_of(list, less_one(less_one(cells)))),
+        8 => put(list, cells, cell_of(list, previous(previous(cells)))),
         9 => put(list, at, Cell { x: 200, y: c.y }),
         10 | 11 => put(
             list,

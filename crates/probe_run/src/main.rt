@@ -430,8 +430,9 @@ fn lower_cells() {
     try_five_cells(&probes);
 }
 
-// All rows: none, the first, the last, the last 64 times, the first 64, 64 spread to the end. The upper half:
-// 64 missed, and five cells with them; one missed beside the first cell. Off the panel.
+// The track over all rows: none, the first cell, the last, the last row's start and the first, 64 in front, 64 to
+// the end. The upper half and five cells: 64 missed. The upper half: one missed beside the first cell and
+// beside the last. All rows again: off the panel; 65 probes, half of one less, 64 on one cell.
 fn large() {
     text(b"128 by 128:\n");
     try_all_rows(b"");

@@ -1,4 +1,4 @@
--- List and probes keep their lengths.
+-- The probes keep their length.
 use Prim.Native.Nat.{_-_, _≤_}
 use mathlib.Core.Path.{_≡_}
 use lib.ListN.{length}
