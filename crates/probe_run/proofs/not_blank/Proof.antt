@@ -1,5 +1,5 @@
 -- Nothing is to be kept: each index is tested before it is used.
-use Prim.{Unit, tt}
+use Prim.{Unit}
 use Prim.Native.Nat.{_-_}
 use borrow.Author.Needs.{needs}
 use Rattle.probe_run.proofs.not_blank.Statement.{statement}

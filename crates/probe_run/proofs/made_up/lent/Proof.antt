@@ -1,6 +1,6 @@
 -- The parts that are lent lie within the buffers.
 use native.Mathlib.Omega.{arith}
-use lib.ListN.{length, length-take}
+use lib.ListN.{length-take}
 use borrow.Author.Needs.{needs}
 use Rattle.probe_run.proofs.made_up.lent.Statement.{statement}
 use Rattle.probe_run.proofs.made_up.lent.Tie as tie

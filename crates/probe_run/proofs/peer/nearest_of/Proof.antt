@@ -1,5 +1,5 @@
 -- The measure is what is left of the cells.
-use Prim.{Unit, tt}
+use Prim.{Unit}
 use Prim.Native.Nat.{_-_}
 use borrow.Author.Needs.{needs}
 use Rattle.probe_run.proofs.peer.nearest_of.Statement.{statement}
