@@ -4,7 +4,7 @@ use Prim.Native.Nat.{ℕ, _*_, _≤_}
 use native.Mathlib.Omega.{arith}
 use mathlib.Core.Path.{_≡_, refl, sym, ap, _∙_}
 use mathlib.Core.Bool.{Bool, true, false}
-use mathlib.Core.List.{List, []}
+use mathlib.Core.List.{List, [], _∷_}
 use lib.Dec.{leb, eqb}
 use lib.ListN.{length}
 use borrow.Author.Tests.{leb-true}
@@ -12,12 +12,12 @@ use Rattle.grid.specs.declared.Panel.{Panel}
 use Rattle.grid.specs.declared.Cell.{Cell}
 use Rattle.grid.specs.declared.Cells.{Cells}
 use Rattle.grid.specs.declared.Refusal.{Refusal}
-use Rattle.grid.specs.declared.Refusal.the-variants.{CellOff, ProbeBytes}
+use Rattle.grid.specs.declared.Refusal.the-variants.{CellOff, WrongEnds, ProbeBytes}
 use Rattle.grid.specs.declared.Check.{Check}
 use Rattle.grid.specs.declared.Check.the-variants.{Good, Refused}
 use Rattle.grid.specs.declared.CellsAnswer.{CellsAnswer}
 use Rattle.grid.specs.declared.CellsAnswer.the-variants as judged
-use Rattle.grid.specs.Panel.{area}
+use Rattle.grid.specs.Panel.{panel, cell, dist, apart}
 use Rattle.grid.specs.Bytes.{cellsIn}
 use Rattle.grid.proofs.Answers.{checkBehind, check-behind}
 use Rattle.grid.proofs.Facts.{and-parts, is-sides, area-small}
@@ -34,6 +34,21 @@ use Rattle.judge.proofs.Checks.{Sized, sized, passed, few}
 use Rattle.probe_walk.specs.Probes.{places, Searched}
 use Rattle.probe.specs.declared.ProbeSheet.{ProbeSheet}
 use Rattle.probe.specs.Probe.{fewProbes, probeCheck, sheet, probeScratch, Probes}
+
+-- ---- computed
+
+abbrev pub checked : List ℕ → List ℕ → Check
+checked list probes = probeCheck (panel 3 1 4000) (cell 1 1) (cell 2 1) list probes 3
+
+-- so many bytes: none, 64 probes; 65, an odd number
+pub bytes-shown : (fewProbes 0 ≡ true) × (fewProbes 128 ≡ true) × (fewProbes 130 ≡ false) × (fewProbes 127 ≡ false)
+bytes-shown = (refl, refl, refl, refl)
+
+-- from (1, 1) to (2, 1) on a panel of 3 by 1: half a probe and a list that Judge refuses; such a list and a probe off the panel; that probe alone
+pub order-shown : (checked (1 ∷ 1 ∷ []) (4 ∷ []) ≡ Refused ProbeBytes) × (checked (1 ∷ 1 ∷ []) (4 ∷ 1 ∷ []) ≡ Refused WrongEnds)
+    × (checked (1 ∷ 1 ∷ 2 ∷ 1 ∷ []) (4 ∷ 1 ∷ []) ≡ Refused CellOff) × (checked (1 ∷ 1 ∷ 2 ∷ 1 ∷ []) (3 ∷ 1 ∷ []) ≡ Good)
+unfolding apart dist
+order-shown = (refl, refl, refl, refl)
 
 -- ---- what Judge's answer says
 

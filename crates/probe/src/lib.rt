@@ -29,7 +29,11 @@ pub struct ProbeSheet {
 fn few_probes(bytes: usize) -> bool
     ensures { λ r. ⌜ r ≡ fewProbes bytes ⌝ }
 {
-    if bytes <= 2 * PLACES { bytes % 2 == 0 } else { false }
+    if bytes <= 2 * PLACES {
+        bytes % 2 == 0
+    } else {
+        false
+    }
 }
 
 // The sheet of a refused call.
@@ -48,7 +52,14 @@ fn refused(r: Refusal) -> ProbeSheet
 }
 
 // Where the probes are along the track that the list is.
-pub fn probe(p: Panel, entry: Cell, exit: Cell, list: &[u8], scratch: &mut [u8], probes: &[u8]) -> ProbeSheet
+pub fn probe(
+    p: Panel,
+    entry: Cell,
+    exit: Cell,
+    list: &[u8],
+    scratch: &mut [u8],
+    probes: &[u8],
+) -> ProbeSheet
     ensures { λ r. ⌜ Probes p entry exit (now (list .entry)) (now (probes .entry)) (now (scratch .entry)) (now (scratch .exit)) r ⌝ }
 {
     if !few_probes(probes.len()) {

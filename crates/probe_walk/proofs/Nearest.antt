@@ -10,12 +10,18 @@ use lib.ListN.{length, drop, drop-of-length-le}
 use lib.Seq.{drop-cons}
 use borrow.Author.Tests.{leb-true, leb-false, le-leb, lt-leb}
 use Rattle.grid.specs.declared.Cell.{Cell}
-use Rattle.grid.specs.Panel.{cell}
+use Rattle.grid.specs.Panel.{cell, dist}
 use Rattle.grid.specs.Track.{All}
 use Rattle.grid.proofs.Tests.{both-branches, cond-yes, cond-no}
 use Rattle.grid.proofs.Track.{all-map, all-append}
 use Rattle.list.specs.List.{nth, squaredDistance}
 use Rattle.probe_walk.specs.Probes.{nearestFrom, nearest}
+
+-- computed: of (1, 1), (1, 2) and (1, 3) the second is nearest to (2, 2); (1, 1) and (3, 1) are as near, and the earlier is taken
+pub nearest-shown : (nearest (cell 2 2) (cell 1 1 ∷ cell 1 2 ∷ cell 1 3 ∷ []) ≡ cell 1 2)
+    × (nearest (cell 2 2) (cell 1 1 ∷ cell 3 1 ∷ []) ≡ cell 1 1)
+unfolding dist
+nearest-shown = (refl, refl)
 
 -- a is the earliest of the nearest cells of l to c
 pub record Nearest (c : Cell) (l : List Cell) (a : Cell) : Type 0 where

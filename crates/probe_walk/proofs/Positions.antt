@@ -17,6 +17,11 @@ use Rattle.list.specs.List.{nth, among, noneTwice}
 use Rattle.list.proofs.Indexed.{new-index}
 use Rattle.probe_walk.specs.Probes.{positionFrom, position}
 
+-- computed: the first cell, the second, one that is not there
+pub positions-shown : let l : List Cell = cell 1 1 ∷ cell 2 1 ∷ [] in
+    (position (cell 1 1) l ≡ 1) × (position (cell 2 1) l ≡ 2) × (position (cell 3 1) l ≡ 0)
+positions-shown = (refl, refl, refl)
+
 -- 0 exactly if the cell is not on the list
 pub position-none : (k : ℕ) (c : Cell) (l : List Cell) → eqb (positionFrom (suc k) c l) 0 ≡ not (among c l)
 position-none k c [] = refl

@@ -5,12 +5,12 @@ use mathlib.Core.Path.{_≡_, refl, sym, ap, _∙_}
 use mathlib.Core.Bool.{Bool, true, _||_, or-true}
 use mathlib.Core.List.{List, [], _∷_, _++_, map, map-append, append-assoc}
 use lib.ListN.{length, take, getD, set, replicate, length-append, length-map, List·getD-append}
-use lib.Seq.{length-take-le, take-length, set-at}
+use lib.Seq.{length-take-le, take-length, set-at, getD-append-add}
 use Rattle.grid.specs.declared.Cell.{Cell}
 use Rattle.grid.specs.Panel.{sameCell}
 use Rattle.grid.proofs.Facts.{eq-same}
 use Rattle.list.specs.List.{nth, among}
-use Rattle.probe_walk.specs.Probes.{places, placed, position, positions, Noted, noted}
+use Rattle.probe_walk.specs.Probes.{places, placed, position, positions, Noted, notedPositions}
 use Rattle.probe_walk.proofs.Marks.{take-next}
 use Rattle.probe_walk.proofs.Positions.{some-position}
 
@@ -50,6 +50,19 @@ module _ {A : Type 0} (z : A) (f : Cell → A) (q : List Cell) where
   placed-nth i d h =
       List·getD-append (map f q) (replicate (places - length (map f q)) z) d i (omega (arith, length-map q f)) ∙ map-nth f q i d h
 
+-- an unused place
+none-there : {A : Type 0} (z : A) (k i : ℕ) → getD (replicate k z) i z ≡ z
+none-there z zero i = refl
+none-there z (suc k) zero = refl
+none-there z (suc k) (suc i) = none-there z k i
+
+pub placed-unused : {A : Type 0} (z : A) (m : List A) (i : ℕ) → length m ≤ i → getD (placed z m) i z ≡ z
+placed-unused z m i h =
+    let e : i ≡ length m + (i - length m) = omega arith in
+    ap (λ (k : ℕ). getD (placed z m) k z) e
+    ∙ getD-append-add m (replicate (places - length m) z) (i - length m) z
+    ∙ none-there z (places - length m) (i - length m)
+
 -- what is noted for the probes are their positions
 same-for : {A : Type 0} (f g : Cell → A) (q : List Cell) → ((c : Cell) → among c q ≡ true → f c ≡ g c) → map f q ≡ map g q
 same-for f g [] h = refl
@@ -58,6 +71,6 @@ same-for f g (c ∷ q) h =
     let rest = same-for f g q (λ d e. h d (ap (λ (b : Bool). sameCell d c || b) e ∙ or-true (sameCell d c))) in
     λ i. first i ∷ rest i
 
-pub noted-positions : (q l : List Cell) {found : List ℕ} → Noted q l found → noted q found ≡ positions q l
+pub noted-positions : (q l : List Cell) {found : List ℕ} → Noted q l found → notedPositions q found ≡ positions q l
 noted-positions q l {found} n =
     ap (placed 0) (same-for (λ c. getD found (position c q - 1) 0) (λ c. position c l) q (λ c e. n .notes c (position c q - 1) (omega (arith, some-position c q e))))

@@ -6,10 +6,10 @@ use mathlib.Core.Bool.{Bool, true, false, cond, _&&_, _||_, true≢false, false�
 use mathlib.Core.Logic.{_≢_}
 use mathlib.Core.List.{List, [], _∷_, _++_}
 use lib.Dec.{eqb}
-use lib.ListN.{length}
+use lib.ListN.{length, take, drop, take-append-drop, length-take}
 use borrow.Author.Tests.{eqb-true, eqb-false, eq-eqb, ne-eqb}
 use Rattle.grid.specs.declared.Cell.{Cell}
-use Rattle.grid.specs.Panel.{sameCell}
+use Rattle.grid.specs.Panel.{cell, sameCell}
 use Rattle.grid.proofs.Facts.{and-parts, and-both, same-eq, eq-same}
 use Rattle.grid.proofs.Tests.{both-branches, cond-yes, cond-no}
 use Rattle.list.specs.List.{among}
@@ -124,6 +124,12 @@ unfound-marked (d ∷ q) c = go (sameCell c d) refl (unfound-marked q c)
 
 -- ---- the cells read
 
+-- computed, of three cells: no probe; the second and the first; the first twice; the second and one that is missed
+pub reads-shown : let l : List Cell = cell 1 1 ∷ cell 2 1 ∷ cell 3 1 ∷ [] in
+    (cellsRead [] l ≡ 0) × (cellsRead (cell 2 1 ∷ cell 1 1 ∷ []) l ≡ 2) × (cellsRead (cell 1 1 ∷ cell 1 1 ∷ []) l ≡ 1)
+    × (cellsRead (cell 2 1 ∷ cell 4 1 ∷ []) l ≡ 3)
+reads-shown = (refl, refl, refl, refl)
+
 furthest-small : (q l : List Cell) → furthest q l ≤ length l
 furthest-small [] l = omega arith
 furthest-small (c ∷ q) l = omega (arith, position-small c l, furthest-small q l)
@@ -159,3 +165,12 @@ read-all q l e = cond-no _ _ e refl
 
 pub read-small : (q l : List Cell) → cellsRead q l ≤ length l
 read-small q l = both-branches (λ (k : ℕ). k ≤ length l) (allAmong q l) (furthest q l) (length l) (λ _. furthest-small q l) (λ _. omega arith)
+
+-- however far one reads: where every probe is found by then, the walk reads no further
+pub read-least : (q l : List Cell) (k : ℕ) → allAmong q (take k l) ≡ true → cellsRead q l ≤ k
+read-least q l k e =
+    let front = take k l in
+    let (a, f) = all-front q front (drop k l) e in
+    let whole = take-append-drop k l in
+    let all : cellsRead q l ≡ furthest q front = sym (cond-yes _ _ (sym (ap (allAmong q) whole) ∙ a) refl) ∙ sym (ap (furthest q) whole) ∙ f in
+    omega (arith, furthest-small q front, length-take k l)

@@ -65,6 +65,7 @@ positions q l = placed 0 (map (λ c. position c l) q)
 abbrev pub nearestMissed : List Cell → Cell → Cell
 nearestMissed l c = cond (eqb (position c l) 0) (nearest c l) (cell 0 0)
 
+-- the same for every probe
 abbrev pub nearestCells : List Cell → List Cell → List Cell
 nearestCells q l = placed (cell 0 0) (map (nearestMissed l) q)
 
@@ -101,6 +102,6 @@ pub record Marked (p : Panel) (q : List Cell) (scratch : List ℕ) : Type 0 wher
 pub record Noted (q l : List Cell) (found : List ℕ) : Type 0 where
   pub notes : (c : Cell) (i : ℕ) → position c q ≡ suc i → getD found i 0 ≡ position c l
 
--- what is noted for each probe
-abbrev pub noted : List Cell → List ℕ → List ℕ
-noted q found = placed 0 (map (λ c. getD found (position c q - 1) 0) q)
+-- the positions noted for the probes
+abbrev pub notedPositions : List Cell → List ℕ → List ℕ
+notedPositions q found = placed 0 (map (λ c. getD found (position c q - 1) 0) q)

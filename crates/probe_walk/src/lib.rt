@@ -17,7 +17,7 @@ ghost use Rattle.grid.specs.Bytes.{InBytes, cellsIn};
 ghost use Rattle.list.specs.List.{nth, allOn};
 ghost use Rattle.scratch.specs.Scratch.{place, Clean};
 ghost use Rattle.probe_walk.specs.Probes.{position, nearest, cellsRead, places, positions, nearestMissed, nearestCells};
-ghost use Rattle.probe_walk.specs.Probes.{foundOn, Probed, Searched, unfound, Marked, Noted, noted};
+ghost use Rattle.probe_walk.specs.Probes.{foundOn, Probed, Searched, unfound, Marked, Noted, notedPositions};
 
 // How many probes a sheet has places for.
 pub const PLACES: usize = 64;
@@ -93,13 +93,13 @@ fn noted_for(p: Panel, probes: &[u8], scratch: &[u8], found: &[u32]) -> [u32; 64
     requires probed { ⌜ Probed p (now probes) ⌝ }
     requires marks { ⌜ Marked p (cellsIn (now probes)) (now scratch) ⌝ }
     requires room { ⌜ places ≤ length (now found) ⌝ }
-    ensures { λ r. ⌜ r ≡ noted (cellsIn (now (probes .entry))) (now (found .entry)) ⌝ }
+    ensures { λ r. ⌜ r ≡ notedPositions (cellsIn (now (probes .entry))) (now (found .entry)) ⌝ }
 {
     let mut positions = [0u32; PLACES];
     let mut i = 0;
     while i < probes.len() / 2 {
-        let mark = scratch[place_at(p, probes, i)] as usize;
-        positions[i] = found[mark - 1];
+        let first = scratch[place_at(p, probes, i)] as usize - 1;
+        positions[i] = found[first];
         i += 1;
     }
     positions
@@ -113,12 +113,12 @@ pub fn find_probes(p: Panel, list: &[u8], probes: &[u8], scratch: &mut [u8]) -> 
     ensures left { λ _. ⌜ now (scratch .exit) ≡ now (scratch .entry) ⌝ }
 {
     let mut found = [0u32; PLACES];
-    let read = walk(p, list, probes, scratch, &mut found);
+    let read = walk(p, list, probes, scratch, &mut found) as u32;
     let positions = noted_for(p, probes, scratch, &found);
     clear(p, scratch);
     Found {
         positions,
-        read: Cells(read as u32),
+        read: Cells(read),
     }
 }
 

@@ -91,8 +91,7 @@ find-probes-requires c κs =
 nearest-cells-requires : tie.Need-nearest-cells-requires
 nearest-cells-requires c κs =
     let f = c .before .before .before .before in
-    let j = behind (f .before) in
-    (
+    let j = behind (f .before) in (
       some _ _ _ _ _ (j .judge .ensures) (told (f .before) .enum-told .given .1),
       (all-searched (f .before) .probed .few, ap (λ (r : Found). r .positions) (f .find-probes .ensures .0)),
     )

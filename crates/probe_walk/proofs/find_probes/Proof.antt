@@ -32,6 +32,11 @@ module _ (c : tie.After-walk) where
   abbrev l : List Cell
   l = cellsIn (start .args .list .now)
 
+cast-read : tie.Need-cast-read
+cast-read c =
+    let w = c .before .before .before in
+    omega (arith, w .walk .ensures .1 .1 .1, read-small (q w) (l w), start w .pre .0 .short, length-cells (start w .args .list .now))
+
 noted-for-requires : tie.Need-noted-for-requires
 noted-for-requires c κs =
     let w = c .before .before .before .before .before in
@@ -40,19 +45,13 @@ noted-for-requires c κs =
 clear-requires : tie.Need-clear-requires
 clear-requires c κs = search needs
 
-cast-t19 : tie.Need-cast-t19
-cast-t19 c =
-    let w = c .before .before .before .before .before .before .before .before .before .before in
-    omega (arith, w .walk .ensures .1 .1 .1, read-small (q w) (l w), start w .pre .0 .short, length-cells (start w .args .list .now))
-
 same-length : tie.Need-same-length
 same-length c = search needs
 
 returns : tie.Need-returns
 returns c =
     let w = c .before .before .before .before .before .before .before .before .before .before in
-    let found = c .before .before .before .before .noted-for .ensures ∙ noted-positions (q w) (l w) (w .walk .ensures .1 .1 .0) in
-    (
+    let found = c .before .before .before .before .noted-for .ensures ∙ noted-positions (q w) (l w) (w .walk .ensures .1 .1 .0) in (
       λ i. record { positions = found i; read = record { 0 = w .walk .ensures .1 .1 .1 i } },
       c .before .before .clear .ensures ∙ clean-again (start w .args .p) (w .walk .last .1 .1 .1 .0) (start w .pre .1) (w .walk .ensures .1 .0),
     )
@@ -63,9 +62,9 @@ find-probes-spec =
     (tie.spec
     slice-aggregate-walk
     walk-requires
+    cast-read
     slice-aggregate-noted-for
     noted-for-requires
     clear-requires
-    cast-t19
     same-length
     returns)

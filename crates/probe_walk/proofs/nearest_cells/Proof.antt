@@ -92,11 +92,10 @@ loop-less c = omega (arith, c .before .before .loop-test .taken)
 loop-again : tie.Need-loop-again Inv-loop μ-loop
 loop-again c =
     let t = c .before .before in
-    let near = c .nearest-if-missed .ensures ∙ ap (nearestMissed (l t)) (here (c .before)) in
-    (
+    let near = c .nearest-if-missed .ensures ∙ ap (nearestMissed (l t)) (here (c .before)) in (
       omega (arith, below t),
       ap (λ (k : List Cell). set k (i t) (c .nearest-if-missed .result)) (t .before .loop .inv .1)
-      ∙ fill-next (cell 0 0) (nearestMissed (l t)) (q t) (i t) (below t) (few t) near,
+          ∙ fill-next (cell 0 0) (nearestMissed (l t)) (q t) (i t) (below t) (few t) near,
     )
 
 returns : tie.Need-returns Inv-loop μ-loop

@@ -74,24 +74,26 @@ module _ (c : tie.After-place-at Inv-loop μ-loop) where
       let t = c .before in
       omega (arith, is-mark, some-mark, position-small (nth (q t) (i t)) (q t), few t, start t .pre .1 .1)
 
-shared-slice-read-mark : tie.Need-shared-slice-read-mark Inv-loop μ-loop
-shared-slice-read-mark c =
+shared-slice-read-first : tie.Need-shared-slice-read-first Inv-loop μ-loop
+shared-slice-read-first c =
     let t = c .before .before in
     in-scratch (start t .pre .1 .0) (inside t) (c .before .place-at .ensures)
 
-cast-mark : tie.Need-cast-mark Inv-loop μ-loop
-cast-mark c = omega (arith, c .shared-slice-known4 .given (c .before .place-at .result) .fits)
+cast-first : tie.Need-cast-first Inv-loop μ-loop
+cast-first c = omega (arith, c .shared-slice-known4 .given (c .before .place-at .result) .fits)
 
-sub-positions : tie.Need-sub-positions Inv-loop μ-loop
-sub-positions c = some-mark (c .before)
+sub-first : tie.Need-sub-first Inv-loop μ-loop
+sub-first c = some-mark (c .before)
 
 mul-positions : tie.Need-mul-positions Inv-loop μ-loop
 mul-positions c =
     let t = c .before .before in
-    omega (arith, is-mark (c .before), position-small (nth (q t) (i t)) (q t), few t)
+    omega (arith, is-mark (c .before), position-small (nth (q t) (i t)) (q t), below t, few t)
 
 shared-slice-read-positions : tie.Need-shared-slice-read-positions Inv-loop μ-loop
-shared-slice-read-positions c = in-found (c .before .before)
+shared-slice-read-positions c =
+    let t = c .before .before .before in
+    omega (arith, in-found (c .before .before), below t, few t, start t .pre .1 .1)
 
 mul-positions-2 : tie.Need-mul-positions-2 Inv-loop μ-loop
 mul-positions-2 c = let t = c .before .before .before in omega (arith, below t, few t)
@@ -108,11 +110,10 @@ loop-less c = omega (arith, c .before .before .before .loop-test .taken)
 loop-again : tie.Need-loop-again Inv-loop μ-loop
 loop-again c =
     let t = c .before .before .before in
-    let found = start t .args .found .now in
-    (
+    let found = start t .args .found .now in (
       omega (arith, below t),
       ap (λ (k : List ℕ). set k (i t) (getD found (mark (c .before .before) - 1) 0)) (t .before .loop .inv .1)
-      ∙ fill-next 0 (note (q t) found) (q t) (i t) (below t) (few t) (ap (λ (k : ℕ). getD found (k - 1) 0) (is-mark (c .before .before))),
+          ∙ fill-next 0 (note (q t) found) (q t) (i t) (below t) (few t) (ap (λ (k : ℕ). getD found (k - 1) 0) (is-mark (c .before .before))),
     )
 
 returns : tie.Need-returns Inv-loop μ-loop
@@ -130,9 +131,9 @@ noted-for-spec =
     μ-loop
     loop-holds
     place-at-requires
-    shared-slice-read-mark
-    cast-mark
-    sub-positions
+    shared-slice-read-first
+    cast-first
+    sub-first
     mul-positions
     shared-slice-read-positions
     mul-positions-2
