@@ -20,8 +20,8 @@ ghost use Rattle.probe.specs.Probe.{fewProbes, sheet, Probes};
 // else is 0 then.
 pub struct ProbeSheet {
     pub refusal: u32,
-    pub positions: [u32; 64],
-    pub nearest: [Cell; 64],
+    pub positions: [u32; PLACES],
+    pub nearest: [Cell; PLACES],
     pub read: Cells,
 }
 

@@ -25,7 +25,7 @@ pub const PLACES: usize = 64;
 // The positions of the probes, 0 for one that is not on the track and at unused places, and how many
 // cells of the track were read for them.
 pub struct Found {
-    pub positions: [u32; 64],
+    pub positions: [u32; PLACES],
     pub read: Cells,
 }
 
@@ -89,7 +89,7 @@ fn walk(p: Panel, list: &[u8], probes: &[u8], scratch: &mut [u8], found: &mut [u
 }
 
 // What is noted for every probe, at its cell's mark.
-fn noted_for(p: Panel, probes: &[u8], scratch: &[u8], found: &[u32]) -> [u32; 64]
+fn noted_for(p: Panel, probes: &[u8], scratch: &[u8], found: &[u32]) -> [u32; PLACES]
     requires probed { ⌜ Probed p (now probes) ⌝ }
     requires marks { ⌜ Marked p (cellsIn (now probes)) (now scratch) ⌝ }
     requires room { ⌜ places ≤ length (now found) ⌝ }
@@ -157,7 +157,7 @@ fn nearest_if_missed(list: &[u8], c: Cell, at: u32) -> Cell
 }
 
 // The same for every probe.
-pub fn nearest_cells(list: &[u8], probes: &[u8], found: [u32; 64]) -> [Cell; 64]
+pub fn nearest_cells(list: &[u8], probes: &[u8], found: [u32; PLACES]) -> [Cell; PLACES]
     requires some { ⌜ 2 ≤ length (now list) ⌝ }
     requires few { ⌜ length (now probes) ≤ 2 * places ⌝ }
     requires found { ⌜ found ≡ positions (cellsIn (now probes)) (cellsIn (now list)) ⌝ }
