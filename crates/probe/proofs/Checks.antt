@@ -3,9 +3,9 @@
 use Prim.Native.Nat.{ℕ, _*_, _≤_}
 use native.Mathlib.Omega.{arith}
 use mathlib.Core.Path.{_≡_, refl, sym, ap, _∙_}
-use mathlib.Core.Bool.{Bool, true, false}
+use mathlib.Core.Bool.{true, false}
 use mathlib.Core.List.{List, [], _∷_}
-use lib.Dec.{leb, eqb}
+use lib.Dec.{leb}
 use lib.ListN.{length}
 use borrow.Author.Tests.{leb-true}
 use Rattle.grid.specs.declared.Panel.{Panel}
@@ -25,11 +25,10 @@ use Rattle.grid.proofs.Passed.{after-passed, after-rest}
 use Rattle.grid.proofs.Tests.{cond-yes, cond-no, expect-yes, expect-no, after-good, after-refused, answer-good}
 use Rattle.list.specs.List.{allOn}
 use Rattle.list.proofs.Cells.{length-cells}
-use Rattle.list.proofs.Tracks.{TrackTests}
 use Rattle.list.proofs.Whole.{whole}
-use Rattle.scratch.specs.Scratch.{cleared, Clean}
+use Rattle.scratch.specs.Scratch.{Clean}
 use Rattle.scratch.proofs.Clean.{clean}
-use Rattle.judge.specs.Judge.{sizesCheck, cellsCheck, judgeCheck, scratchAfter, Judges}
+use Rattle.judge.specs.Judge.{sizesCheck, cellsCheck, judgeCheck, Judges}
 use Rattle.judge.proofs.Checks.{Sized, sized, passed, few}
 use Rattle.probe_walk.specs.Probes.{places, Searched}
 use Rattle.probe.specs.declared.ProbeSheet.{ProbeSheet}

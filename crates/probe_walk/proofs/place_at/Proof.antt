@@ -1,7 +1,6 @@
 -- The cell's bytes, then its place.
 use native.Mathlib.Omega.{arith}
 use mathlib.Core.Path.{_≡_, ap, subst⁻¹, _∙_}
-use lib.ListN.{length}
 use Rattle.grid.specs.Panel.{OnPanel}
 use Rattle.grid.specs.Bytes.{cellsIn}
 use Rattle.grid.proofs.Facts.{is-on}
