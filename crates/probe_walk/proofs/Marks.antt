@@ -1,5 +1,5 @@
 -- What is known while the probes are marked: the marks stand for those that were taken. A mark is found by its cell alone.
-use Prim.Native.Nat.{ℕ, suc, _+_, _≤_, _<_}
+use Prim.Native.Nat.{ℕ, suc, _+_, _/_, _≤_, _<_}
 use native.Mathlib.Omega.{arith}
 use mathlib.Core.Path.{_≡_, refl, sym, ap, subst⁻¹, _∙_}
 use mathlib.Core.Bool.{Bool, true, false, cond}
@@ -11,12 +11,15 @@ use borrow.Author.Tests.{eqb-true}
 use Rattle.grid.specs.declared.Panel.{Panel}
 use Rattle.grid.specs.declared.Cell.{Cell}
 use Rattle.grid.specs.Panel.{cell, area, OnPanel, sameCell}
+use Rattle.grid.specs.Bytes.{cellsIn}
 use Rattle.grid.proofs.Facts.{same-eq, same-ne}
 use Rattle.list.specs.List.{nth, among}
+use Rattle.list.proofs.Cells.{length-cells}
+use Rattle.list.proofs.Indexed.{on-index}
 use Rattle.scratch.specs.Scratch.{place, Clean}
 use Rattle.scratch.proofs.Marks.{unmarked-clean}
 use Rattle.scratch.proofs.Places.{place-below, place-once}
-use Rattle.probe_walk.specs.Probes.{position, unfound, Marked}
+use Rattle.probe_walk.specs.Probes.{places, position, Probed, unfound, Marked}
 use Rattle.probe_walk.proofs.Positions.{is-not-on, is-on-list, position-new, position-other, position-old}
 use Rattle.probe_walk.proofs.Unfound.{unfound-marked}
 
@@ -25,6 +28,17 @@ pub take-next : (l : List Cell) (i : ℕ) → i < length l → take (i + 1) l �
 take-next l i h =
     let e : i + 1 ≡ suc i = omega arith in
     ap (λ (k : ℕ). take k l) e ∙ take-suc l i (cell 0 0) h
+
+-- the probe with the number i, from 0
+module _ {p : Panel} {probes : List ℕ} (g : Probed p probes) where
+  pub few-probes : length (cellsIn probes) ≤ places
+  few-probes = omega (arith, g .few, length-cells probes)
+
+  pub probe-below : {i : ℕ} → i < length probes / 2 → i < length (cellsIn probes)
+  probe-below h = omega (arith, length-cells probes)
+
+  pub probe-inside : (i : ℕ) → i < length probes / 2 → OnPanel p (nth (cellsIn probes) i)
+  probe-inside i h = on-index p (cellsIn probes) i (g .on) (probe-below h)
 
 -- the place k of a cell is a place of scratch
 pub in-scratch : {p : Panel} {q : List Cell} {scratch : List ℕ} {c : Cell} {k : ℕ} → Marked p q scratch → OnPanel p c → k ≡ place p c

@@ -1,15 +1,12 @@
 -- `Marking` holds at each turn.
 use Prim.Native.Nat.{_-_, _≤_, _<_}
 use native.Mathlib.Omega.{arith}
-use mathlib.Core.List.{List}
 use lib.ListN.{length}
-use Rattle.grid.specs.declared.Cell.{Cell}
 use Rattle.grid.specs.Panel.{OnPanel}
 use Rattle.grid.specs.Bytes.{cellsIn}
 use Rattle.list.specs.List.{nth}
 use Rattle.list.proofs.Cells.{length-cells}
-use Rattle.list.proofs.Indexed.{on-index}
-use Rattle.probe_walk.proofs.Marks.{Marking, in-scratch, none-marked, marked-before, marked-now, all-marked, all-counted}
+use Rattle.probe_walk.proofs.Marks.{Marking, few-probes, probe-below, probe-inside, in-scratch, none-marked, marked-before, marked-now, all-marked, all-counted}
 use Rattle.probe_walk.proofs.mark_probes.Statement.{statement}
 use Rattle.probe_walk.proofs.mark_probes.Tie as tie
 
@@ -27,17 +24,14 @@ module _ (c : tie.In-loop Inv-loop μ-loop) where
   abbrev start : tie.Start Inv-loop μ-loop
   start = c .before .before .before .before
 
-  abbrev q : List Cell
-  q = cellsIn (start .args .probes .now)
-
-  below : c .before .loop .i < length q
-  below = omega (arith, c .loop-test .taken, length-cells (start .args .probes .now))
+  below : c .before .loop .i < length (cellsIn (start .args .probes .now))
+  below = probe-below (start .pre .0) (c .loop-test .taken)
 
   few : c .before .loop .i < 64
-  few = omega (arith, c .loop-test .taken, start .pre .0 .few)
+  few = omega (arith, below, few-probes (start .pre .0))
 
-  inside : OnPanel (start .args .p) (nth q (c .before .loop .i))
-  inside = on-index (start .args .p) q (c .before .loop .i) (start .pre .0 .on) below
+  inside : OnPanel (start .args .p) (nth (cellsIn (start .args .probes .now)) (c .before .loop .i))
+  inside = probe-inside (start .pre .0) (c .before .loop .i) (c .loop-test .taken)
 
 place-at-requires : tie.Need-place-at-requires Inv-loop μ-loop
 place-at-requires c κs = (start c .pre .0 .good, (start c .pre .0 .on, below c))

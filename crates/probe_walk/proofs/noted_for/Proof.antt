@@ -9,10 +9,10 @@ use Rattle.grid.specs.Panel.{OnPanel}
 use Rattle.grid.specs.Bytes.{cellsIn}
 use Rattle.list.specs.List.{nth}
 use Rattle.list.proofs.Cells.{length-cells}
-use Rattle.list.proofs.Indexed.{on-index, among-index}
+use Rattle.list.proofs.Indexed.{among-index}
 use Rattle.probe_walk.specs.Probes.{position}
 use Rattle.probe_walk.proofs.Positions.{some-position, position-small}
-use Rattle.probe_walk.proofs.Marks.{in-scratch}
+use Rattle.probe_walk.proofs.Marks.{few-probes, probe-below, probe-inside, in-scratch}
 use Rattle.probe_walk.proofs.Sheets.{filled, fill-next, fill-all}
 use Rattle.probe_walk.proofs.noted_for.Statement.{statement}
 use Rattle.probe_walk.proofs.noted_for.Tie as tie
@@ -43,13 +43,13 @@ module _ (c : tie.In-loop Inv-loop μ-loop) where
   i = c .before .loop .i
 
   below : i < length q
-  below = omega (arith, c .loop-test .taken, length-cells (start .args .probes .now))
+  below = probe-below (start .pre .0) (c .loop-test .taken)
 
   few : length q ≤ 64
-  few = omega (arith, start .pre .0 .few, length-cells (start .args .probes .now))
+  few = few-probes (start .pre .0)
 
   inside : OnPanel (start .args .p) (nth q i)
-  inside = on-index (start .args .p) q i (start .pre .0 .on) below
+  inside = probe-inside (start .pre .0) i (c .loop-test .taken)
 
 place-at-requires : tie.Need-place-at-requires Inv-loop μ-loop
 place-at-requires c κs = (start c .pre .0 .good, (start c .pre .0 .on, below c))

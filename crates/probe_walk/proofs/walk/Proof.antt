@@ -15,7 +15,7 @@ use Rattle.list.proofs.Cells.{length-cells}
 use Rattle.list.proofs.Indexed.{on-index, new-index}
 use Rattle.probe_walk.specs.Probes.{places, position, Marked}
 use Rattle.probe_walk.proofs.Positions.{is-not-on, place-given}
-use Rattle.probe_walk.proofs.Marks.{in-scratch}
+use Rattle.probe_walk.proofs.Marks.{few-probes, in-scratch}
 use Rattle.probe_walk.proofs.Walks.{Walking, none-read, passed-over, found-now, stopped-noted, stopped-read, ended-noted, ended-read}
 use Rattle.probe_walk.proofs.walk.Statement.{statement}
 use Rattle.probe_walk.proofs.walk.Tie as tie
@@ -34,7 +34,7 @@ mark-probes-requires c κs =
 loop-holds : tie.Need-loop-holds Inv-loop μ-loop
 loop-holds c =
     let s = c .before .before .before .before .before .before .before .before in
-    none-read _ _ (omega (arith, s .pre .0 .probed .few, length-cells (s .args .probes .now))) (s .pre .1 .1) (c .before .before .mark-probes .ensures .1 .1)
+    none-read _ _ (few-probes (s .pre .0 .probed)) (s .pre .1 .1) (c .before .before .mark-probes .ensures .1 .1)
 
 -- what the loop goes over, and the marks
 module _ (c : tie.After-slice-known3 Inv-loop μ-loop) where
@@ -120,8 +120,7 @@ module _ (c : tie.After-place-at Inv-loop μ-loop) where
         omega (
           arith,
           place-given here (q k) (mark - 1) at-mark .0,
-          length-cells (start k .args .probes .now),
-          start k .pre .0 .probed .few,
+          few-probes (start k .pre .0 .probed),
           turn .before .before .loop .inv .size,
         )
 
