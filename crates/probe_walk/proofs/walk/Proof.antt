@@ -50,7 +50,7 @@ module _ (c : tie.After-slice-known3 Inv-loop μ-loop) where
   abbrev q : List Cell
   q = cellsIn (start .args .probes .now)
 
-  -- the same for what is found
+  -- what is noted has the length that it came with
   still : {found : List ℕ} {left read : ℕ} → Walking q l found left read → length found ≡ length (start .args .found .now)
   still w = w .size ∙ sym (ap length (start .pre .1 .1) ∙ length-replicate {A = ℕ} places 0)
 
