@@ -1,10 +1,5 @@
 // Orders, lists and probes made up by a fixed sequence, and Probe on them beside the peer.
-use crate::buffers::cell_of;
-use crate::buffers::cells_in;
-use crate::buffers::fill;
-use crate::buffers::put;
 use crate::peer::expected_sheet;
-use crate::peer::same_sheet;
 use check::same;
 use grid::Cell;
 use grid::Panel;
@@ -12,12 +7,21 @@ use grid::area_of;
 use grid::cells_values;
 use grid::panel_of;
 use probe::ProbeSheet;
-use std::num::wrapping_add_u32;
 use trial::PITCH;
 use trial::cells::Order;
+use trial::cells::cell_at;
+use trial::cells::cells_in;
+use trial::cells::fill;
+use trial::cells::put;
+use trial::numbers::add;
+use trial::numbers::at_most;
+use trial::numbers::below;
+use trial::numbers::one_less;
+use trial::numbers::scrambled;
+use trial::plain::Sheet;
+use trial::plain::different;
 use trial::print::named;
 use trial::print::text;
-ghost use Prim.Native.Nat.{_≤_};
 
 // How many orders are made up.
 const ORDERS: u32 = 8192;
@@ -49,20 +53,6 @@ struct Job {
     probes: usize,
 }
 
-fn add(a: u32, b: u32) -> u32 {
-    wrapping_add_u32(a, b)
-}
-
-fn at_most(a: usize, most: usize) -> usize
-    ensures { λ r. ⌜ r ≤ most ⌝ }
-{
-    if a <= most { a } else { most }
-}
-
-fn one_less(a: usize) -> usize {
-    if 0 < a { a - 1 } else { 0 }
-}
-
 // The number before a; 0 has none and stays.
 fn previous(a: u32) -> u32 {
     if 0 < a { a - 1 } else { 0 }
@@ -70,18 +60,15 @@ fn previous(a: u32) -> u32 {
 
 // ---- the sequence
 
-// A step of the generator xorshift32, and a sum, whose carries mix what the shifts alone keep apart.
-fn scrambled(x: u32) -> u32 {
-    let a = x ^ x << 13;
-    let b = a ^ a >> 17;
-    add(b ^ b << 5, 2654435769)
+// A step of the generator and a sum, whose carries mix what the step's shifts alone keep apart.
+fn mixed(x: u32) -> u32 {
+    add(scrambled(x), 2654435769)
 }
 
 // A made-up number below n: number k of order `code`.
 fn pick(code: u32, k: u32, n: u32) -> u32 {
     let seed = code % 65536 * 256 + k % 256 + 1;
-    let x = scrambled(scrambled(scrambled(seed))) / 16;
-    if n == 0 { 0 } else { x % n }
+    below(n, mixed(mixed(mixed(seed))) / 16)
 }
 
 fn pick_cell(p: Panel, code: u32, k: u32) -> Cell {
@@ -120,7 +107,7 @@ fn draw_list(o: Order, code: u32, list: &mut [u8]) -> u32 {
 fn good_job(o: Order, code: u32, list: &[u8], cells: u32) -> Job {
     let panel = o.panel;
     let entry = o.entry;
-    let exit = cell_of(list, previous(cells));
+    let exit = cell_at(list, previous(cells));
     Job {
         order: Order { panel, entry, exit },
         list: 2 * (cells as usize),
@@ -145,13 +132,13 @@ fn probe_bytes(code: u32) -> usize {
 fn made_up_probe(o: Order, list: &[u8], cells: u32, code: u32, i: u32) -> Cell {
     let k = i % 80 * 3 + 16;
     match pick(code, 12, 4) {
-        0 => cell_of(list, pick(code, k, cells)),
-        1 => cell_of(list, pick(code, k, cells / 4 + 1)),
+        0 => cell_at(list, pick(code, k, cells)),
+        1 => cell_at(list, pick(code, k, cells / 4 + 1)),
         2 => {
             if pick(code, k, 8) == 0 {
                 pick_cell(o.panel, code, k + 1)
             } else {
-                cell_of(list, pick(code, k + 1, cells))
+                cell_at(list, pick(code, k + 1, cells))
             }
         }
         _ => pick_cell(o.panel, code, k + 1),
@@ -250,9 +237,9 @@ fn spoiled_job(j: Job, fault: u32) -> Job {
 // The cell more, which stands twice; a cell off the panel; a cell a row below where it was.
 fn spoil_list(list: &mut [u8], cells: u32, code: u32, fault: u32) {
     let at = pick(code, 254, cells);
-    let c = cell_of(list, at);
+    let c = cell_at(list, at);
     match fault {
-        8 => put(list, cells, cell_of(list, previous(previous(cells)))),
+        8 => put(list, cells, cell_at(list, previous(previous(cells)))),
         9 => put(list, at, Cell { x: 200, y: c.y }),
         10 | 11 => put(
             list,
@@ -269,7 +256,7 @@ fn spoil_list(list: &mut [u8], cells: u32, code: u32, fault: u32) {
 // ---- one order
 
 // Whether some place has a nearest cell, which only a missed probe's has.
-fn some_missed(s: ProbeSheet) -> bool {
+fn some_missed(s: Sheet) -> bool {
     let nearest = s.nearest;
     let mut i = 0;
     while i < 64 {
@@ -283,7 +270,7 @@ fn some_missed(s: ProbeSheet) -> bool {
 }
 
 // One sheet more, which the peer expected.
-fn tallied_given(t: Tally, s: ProbeSheet, bytes: usize) -> Tally {
+fn tallied_given(t: Tally, s: Sheet, bytes: usize) -> Tally {
     let mut next = t;
     if bytes == 0 {
         next.empty = add(t.empty, 1);
@@ -295,7 +282,7 @@ fn tallied_given(t: Tally, s: ProbeSheet, bytes: usize) -> Tally {
     next
 }
 
-fn tallied(t: Tally, s: ProbeSheet, bytes: usize, alike: bool) -> Tally {
+fn tallied(t: Tally, s: Sheet, bytes: usize, alike: bool) -> Tally {
     let mut next = t;
     if !alike {
         next.different = add(t.different, 1);
@@ -309,20 +296,22 @@ fn tallied(t: Tally, s: ProbeSheet, bytes: usize, alike: bool) -> Tally {
     next
 }
 
-fn alike(a: ProbeSheet, b: ProbeSheet, one: &[u8], two: &[u8]) -> bool {
-    if !same_sheet(a, b) {
+fn alike(s: ProbeSheet, expected: Sheet, one: &[u8], two: &[u8]) -> bool {
+    let positions = s.positions;
+    let nearest = s.nearest;
+    if different(expected, s.refusal, positions, nearest, s.read.0) != 0 {
         return false;
     }
     same(one, two)
 }
 
 fn probed(o: Order, list: &[u8], scratch: &mut [u8], probes: &[u8]) -> ProbeSheet {
-    fill(scratch);
+    fill(scratch, 255);
     probe::probe(o.panel, o.entry, o.exit, list, scratch, probes)
 }
 
-fn by_peer(o: Order, list: &[u8], scratch: &mut [u8], probes: &[u8]) -> ProbeSheet {
-    fill(scratch);
+fn by_peer(o: Order, list: &[u8], scratch: &mut [u8], probes: &[u8]) -> Sheet {
+    fill(scratch, 255);
     expected_sheet(o, list, scratch, probes)
 }
 

@@ -5,20 +5,20 @@
 // position and the nearest cell, eight places to a line. At last, for orders made up by a fixed sequence,
 // how often a sheet was given and how often refused as by a plain peer, with the same scratch, and how often
 // it differed.
-mod buffers;
 mod made_up;
 mod peer;
 
-use buffers::cell_of;
-use buffers::count;
-use buffers::fill;
-use buffers::put;
 use grid::Cell;
 use grid::panel_of;
 use std::num::wrapping_add_u32;
 use trial::PITCH;
 use trial::cells::Order;
+use trial::cells::count;
+use trial::cells::fill;
+use trial::cells::put;
+use trial::cells::repeat;
 use trial::cells::snake;
+use trial::cells::spread;
 use trial::print::row;
 use trial::print::text;
 
@@ -93,7 +93,7 @@ fn print_places(positions: [u32; 64], nearest: [Cell; 64], used: usize) {
 }
 
 fn try_probes(o: Order, list: &[u8], scratch: &mut [u8], probes: &[u8]) {
-    fill(scratch);
+    fill(scratch, 255);
     let s = probe::probe(o.panel, o.entry, o.exit, list, scratch, probes);
     let zeros = count(scratch, 0);
     let kept = count(scratch, 255);
@@ -128,9 +128,7 @@ fn try_short(probes: &[u8]) {
 // One cell again and again, in so many bytes.
 fn try_repeated(x: u32, y: u32, bytes: usize) {
     let mut probes = [0u8; 140];
-    for i in 0..70 {
-        put(&mut probes, i, Cell { x, y });
-    }
+    repeat(&mut probes, Cell { x, y });
     if bytes <= 140 {
         try_whole(&probes[..bytes]);
         try_short(&probes[..bytes]);
@@ -192,8 +190,8 @@ fn probe_bytes() {
     try_whole(&many);
 }
 
-// 7: a probe below and above each side; first, between and last of several; the 64th.
-fn off_panel() {
+// 7: a probe below and above each side.
+fn off_alone() {
     text(b"7:\n");
     try_whole(b"\x00\x01");
     try_whole(b"\x01\x00");
@@ -205,6 +203,10 @@ fn off_panel() {
     try_whole(b"\xff\x01");
     try_whole(b"\x01\xff");
     try_whole(b"\xff\xff");
+}
+
+// 7: first, between and last of several; the 64th.
+fn off_among() {
     try_whole(b"\x04\x01\x01\x01\x02\x01");
     try_whole(b"\x01\x01\x04\x01\x02\x01");
     try_whole(b"\x01\x01\x02\x01\x04\x01");
@@ -318,13 +320,17 @@ fn try_hook(entry: Cell, exit: Cell, list: &[u8], probes: &[u8]) {
     try_probes(order_of(6, 4, entry, exit), list, &mut scratch, probes);
 }
 
-// Ties: two or three cells beside the probe; several probes. Then from (1,1): 25 twice, forwards and backwards,
-// 18 before 25, whose sides are longer together, and 16 before 18, whose longer side is shorter.
+// Ties: two or three cells beside the probe; several probes.
 fn ties() {
     text(b"nearest:\n");
     try_around(b"\x02\x02");
     try_around(b"\x01\x02");
     try_around(b"\x02\x02\x01\x02\x02\x02\x03\x03\x01\x02");
+}
+
+// Squares from (1,1): 25 twice, forwards and backwards, 18 before 25, whose sides are longer together, and
+// 16 before 18, whose longer side is shorter.
+fn hooks() {
     let a = Cell { x: 6, y: 1 };
     let b = Cell { x: 5, y: 4 };
     let c = Cell { x: 4, y: 4 };
@@ -357,8 +363,8 @@ fn try_spot(side: u32, x: u32, y: u32, list: &[u8], probes: &[u8]) {
     try_probes(order_of(side, side, c, c), list, &mut scratch, probes);
 }
 
-// The smallest panel, and one of 3 by 3: its cell, its cell twice, others, cells off the panel.
-fn spots() {
+// The smallest panel: its cell, its cell twice, off the panel, its cell 64 times.
+fn smallest() {
     text(b"one cell:\n");
     try_spot(1, 1, 1, b"\x01\x01", b"");
     try_spot(1, 1, 1, b"\x01\x01", b"\x01\x01");
@@ -367,6 +373,10 @@ fn spots() {
     try_spot(1, 1, 1, b"\x01\x01", b"\x01\x01\x00\x01");
     let many = [1u8; 128];
     try_spot(1, 1, 1, b"\x01\x01", &many);
+}
+
+// 3 by 3: the track's cell, others, off the panel.
+fn spots() {
     try_spot(3, 2, 1, b"\x02\x01", b"");
     try_spot(3, 2, 1, b"\x02\x01", b"\x02\x01");
     try_spot(3, 2, 1, b"\x02\x01", b"\x01\x01\x02\x01\x03\x03");
@@ -407,14 +417,10 @@ fn first_cells() {
     try_all_rows(&probes);
 }
 
-// Cells 319, 574, and so on to the last, 16,384.
+// 64 cells to the end.
 fn spread_cells() {
-    let mut list = [0u8; 32768];
-    snake(&mut list);
     let mut probes = [0u8; 128];
-    for i in 0..64 {
-        put(&mut probes, i, cell_of(&list, 255 * i + 318));
-    }
+    spread(&mut probes);
     try_all_rows(&probes);
 }
 
@@ -432,7 +438,7 @@ fn lower_cells() {
 
 // The track over all rows: none, the first cell, the last, the last row's start and the first, 64 in front, 64 to
 // the end. The upper half and five cells: 64 missed. The upper half: one missed beside the first cell and
-// beside the last. All rows again: off the panel; 65 probes, half of one less, 64 on one cell.
+// beside the last.
 fn large() {
     text(b"128 by 128:\n");
     try_all_rows(b"");
@@ -444,6 +450,10 @@ fn large() {
     lower_cells();
     try_half_of_rows(b"\x01\x01\x80\x80");
     try_half_of_rows(b"\x01\x40\x80\x41");
+}
+
+// All rows again: off the panel; 65 probes, half of one less, 64 on one cell.
+fn large_limits() {
     try_all_rows(b"\x81\x01");
     try_all_rows(b"\x01\x81");
     try_all_rows(b"\x80\x80\x00\x80");
@@ -459,10 +469,14 @@ fn main() {
     repeated();
     missed();
     probe_bytes();
-    off_panel();
+    off_alone();
+    off_among();
     with_refusals();
     ties();
+    hooks();
+    smallest();
     spots();
     large();
+    large_limits();
     made_up::run();
 }

@@ -4,31 +4,33 @@
 // probes are found, and how many places of the sheets differ (refusal and cells read counted as one). Standard
 // error has, in the same order, the processor's time of a call of Judge, of Probe and of the plain way, in
 // nanoseconds, the shortest of some turns, each with a sum over what it gave.
-mod plain;
-
 use grid::Cell;
 use grid::cells_values;
 use grid::panel_of;
-use libc::STDERR_FILENO;
-use plain::plain_sheet;
 use probe::ProbeSheet;
 use std::num::wrapping_add_u32;
-use std::num::wrapping_sub_u64;
 use trial::PITCH;
 use trial::cells::Order;
-use trial::cells::byte_at;
-use trial::cells::same;
+use trial::cells::put;
+use trial::cells::repeat;
 use trial::cells::snake;
+use trial::cells::spread;
+use trial::plain::Sheet;
+use trial::plain::blank;
+use trial::plain::different;
+use trial::plain::sheet_of;
 use trial::print::named;
 use trial::print::text;
-
-// How many turns are timed, and how many microseconds one is to take at least; how often its calls are
-// doubled for that.
-const TURNS: u32 = 8;
-
-const LEAST: u64 = 2000;
-
-const DOUBLED: u32 = 16;
+use trial::times::DOUBLED;
+use trial::times::TURNS;
+use trial::times::Turn;
+use trial::times::each;
+use trial::times::long_enough;
+use trial::times::micros;
+use trial::times::say;
+use trial::times::say_time;
+use trial::times::shorter;
+use trial::times::turn_from;
 
 // What is timed.
 enum Way {
@@ -37,19 +39,11 @@ enum Way {
     Plain,
 }
 
-// How long a turn took, and the sum over what it gave, so that none of it may be left out.
-struct Turn {
-    micros: u64,
-    sum: u32,
-}
-
 // ---- the ways
 
-// A sum over all of a sheet.
-fn sum_of(s: ProbeSheet) -> u32 {
-    let positions = s.positions;
-    let nearest = s.nearest;
-    let mut sum = s.read.0;
+// A sum over the numbers of a sheet.
+fn sum_of(positions: [u32; 64], nearest: [Cell; 64], read: u32) -> u32 {
+    let mut sum = read;
     let mut i = 0;
     while i < 64 {
         let c = nearest[i];
@@ -66,6 +60,29 @@ fn probed(o: Order, list: &[u8], scratch: &mut [u8], probes: &[u8]) -> ProbeShee
     probe::probe(o.panel, o.entry, o.exit, list, scratch, probes)
 }
 
+fn probe_sum(o: Order, list: &[u8], scratch: &mut [u8], probes: &[u8]) -> u32 {
+    let s = probed(o, list, scratch, probes);
+    let positions = s.positions;
+    let nearest = s.nearest;
+    sum_of(positions, nearest, s.read.0)
+}
+
+// Judge, and then a search of its own for each probe. It takes good probes only.
+fn plain_sheet(o: Order, list: &[u8], scratch: &mut [u8], probes: &[u8]) -> Sheet {
+    let v = cells_values(judge::judge(o.panel, o.entry, o.exit, list, scratch));
+    if v.refusal != 0 {
+        return blank(v.refusal);
+    }
+    sheet_of(list, probes)
+}
+
+fn plain_sum(o: Order, list: &[u8], scratch: &mut [u8], probes: &[u8]) -> u32 {
+    let s = plain_sheet(o, list, scratch, probes);
+    let positions = s.positions;
+    let nearest = s.nearest;
+    sum_of(positions, nearest, s.read)
+}
+
 fn judged(o: Order, list: &[u8], scratch: &mut [u8]) -> u32 {
     let v = cells_values(judge::judge(o.panel, o.entry, o.exit, list, scratch));
     v.cells.0
@@ -74,20 +91,12 @@ fn judged(o: Order, list: &[u8], scratch: &mut [u8]) -> u32 {
 fn answer(way: Way, o: Order, list: &[u8], scratch: &mut [u8], probes: &[u8]) -> u32 {
     match way {
         Way::Judge => judged(o, list, scratch),
-        Way::Probe => sum_of(probed(o, list, scratch, probes)),
-        Way::Plain => sum_of(plain_sheet(o, list, scratch, probes)),
+        Way::Probe => probe_sum(o, list, scratch, probes),
+        Way::Plain => plain_sum(o, list, scratch, probes),
     }
 }
 
 // ---- times
-
-fn micros() -> u64 {
-    let k = libc::clock();
-    if k < 0 {
-        return 0;
-    }
-    k as u64
-}
 
 // So many calls.
 fn timed(way: Way, o: Order, list: &[u8], scratch: &mut [u8], probes: &[u8], calls: u32) -> Turn {
@@ -96,18 +105,14 @@ fn timed(way: Way, o: Order, list: &[u8], scratch: &mut [u8], probes: &[u8], cal
     for _i in 0..calls {
         sum = wrapping_add_u32(sum, answer(way, o, list, scratch, probes));
     }
-    Turn {
-        micros: wrapping_sub_u64(micros(), start),
-        sum,
-    }
+    turn_from(start, sum)
 }
 
 // The calls of a turn that is long enough.
 fn calls_of(way: Way, o: Order, list: &[u8], scratch: &mut [u8], probes: &[u8]) -> u32 {
     let mut calls = 1;
     for _k in 0..DOUBLED {
-        let t = timed(way, o, list, scratch, probes, calls);
-        if LEAST <= t.micros {
+        if long_enough(timed(way, o, list, scratch, probes, calls)) {
             return calls;
         }
         calls = wrapping_add_u32(calls, calls);
@@ -126,70 +131,29 @@ fn shortest(
 ) -> Turn {
     let mut best = timed(way, o, list, scratch, probes, calls);
     for _k in 1..TURNS {
-        let t = timed(way, o, list, scratch, probes, calls);
-        if t.micros < best.micros {
-            best = t;
-        }
+        best = shorter(best, timed(way, o, list, scratch, probes, calls));
     }
     best
 }
 
-// Nanoseconds for each call.
-fn each(t: Turn, calls: u32) -> u64 {
-    if calls == 0 {
-        return 0;
-    }
-    t.micros % 1000000000 * 1000 / (calls as u64)
-}
-
-fn say(name: &[u8], way: Way, o: Order, list: &[u8], probes: &[u8]) {
+// In nanoseconds.
+fn say_way(name: &[u8], way: Way, o: Order, list: &[u8], probes: &[u8]) {
     let mut scratch = [0u8; 16384];
     let calls = calls_of(way, o, list, &mut scratch, probes);
     let t = shortest(way, o, list, &mut scratch, probes, calls);
-    io::write_all(STDERR_FILENO, name);
-    io::print_decimal(STDERR_FILENO, each(t, calls));
-    io::write_all(STDERR_FILENO, b" (sum ");
-    io::print_decimal(STDERR_FILENO, t.sum as u64);
-    io::write_all(STDERR_FILENO, b")");
+    say(name);
+    say_time(each(t, calls) / 10, t.sum);
 }
 
 fn say_times(name: &[u8], o: Order, list: &[u8], probes: &[u8]) {
-    io::write_all(STDERR_FILENO, name);
-    say(b": judge ", Way::Judge, o, list, probes);
-    say(b", probe ", Way::Probe, o, list, probes);
-    say(b", plain ", Way::Plain, o, list, probes);
-    io::write_all(STDERR_FILENO, b"\n");
+    say(name);
+    say_way(b": judge ", Way::Judge, o, list, probes);
+    say_way(b", probe ", Way::Probe, o, list, probes);
+    say_way(b", plain ", Way::Plain, o, list, probes);
+    say(b"\n");
 }
 
 // ---- what both give
-
-fn same_place(p: u32, c: Cell, q: u32, d: Cell) -> bool {
-    if p != q {
-        return false;
-    }
-    same(c, d)
-}
-
-// How many places differ.
-fn different_places(a: ProbeSheet, b: ProbeSheet) -> u32 {
-    let mut n = 0;
-    let mut i = 0;
-    while i < 64 {
-        if !same_place(a.positions[i], a.nearest[i], b.positions[i], b.nearest[i]) {
-            n = wrapping_add_u32(n, 1);
-        }
-        i += 1;
-    }
-    n
-}
-
-fn different(a: ProbeSheet, b: ProbeSheet) -> u32 {
-    let places = different_places(a, b);
-    if a.refusal != b.refusal || a.read.0 != b.read.0 {
-        return wrapping_add_u32(places, 1);
-    }
-    places
-}
 
 // How many places have a position.
 fn found_in(positions: [u32; 64]) -> u32 {
@@ -209,10 +173,14 @@ fn compare(name: &[u8], o: Order, list: &[u8], probes: &[u8]) {
     let s = probed(o, list, &mut scratch, probes);
     let expected = plain_sheet(o, list, &mut scratch, probes);
     let positions = s.positions;
+    let nearest = s.nearest;
     text(name);
     named(b": read ", s.read.0);
     named(b", found ", found_in(positions));
-    named(b", different ", different(s, expected));
+    named(
+        b", different ",
+        different(expected, s.refusal, positions, nearest, s.read.0),
+    );
     text(b"\n");
 }
 
@@ -242,32 +210,16 @@ fn try_missed(name: &[u8], probes: &[u8]) {
     try_case(name, Cell { x: 128, y: 127 }, &list, probes);
 }
 
-// Makes (x, y) probe i, where there is room.
-fn put(probes: &mut [u8], i: u32, x: u32, y: u32) {
-    let at = 2 * (i as usize);
-    if at + 1 < probes.len() {
-        probes[at] = (x % 256) as u8;
-        probes[at + 1] = (y % 256) as u8;
-    }
-}
-
-// Cells 319, 574, and so on to the last, 16,384.
+// 64 cells to the end.
 fn spread_cells() {
-    let mut list = [0u8; 32768];
-    snake(&mut list);
     let mut probes = [0u8; 128];
-    for i in 0..64 {
-        let at = 510 * (i as usize) + 636;
-        put(&mut probes, i, byte_at(&list, at), byte_at(&list, at + 1));
-    }
+    spread(&mut probes);
     try_all_rows(b"64 to the end", &probes);
 }
 
 fn last_cell() {
     let mut probes = [0u8; 128];
-    for i in 0..64 {
-        put(&mut probes, i, 1, 128);
-    }
+    repeat(&mut probes, Cell { x: 1, y: 128 });
     try_all_rows(b"the end 64 times", &probes);
 }
 
@@ -275,7 +227,8 @@ fn last_cell() {
 fn last_row() {
     let mut probes = [0u8; 128];
     for i in 0..64 {
-        put(&mut probes, i, 2 * i + 1, 128);
+        let x = 2 * i + 1;
+        put(&mut probes, i, Cell { x, y: 128 });
     }
     try_missed(b"64 missed", &probes);
 }

@@ -18,6 +18,9 @@ loop-holds c = search needs
 timed-requires : tie.Need-timed-requires Inv-loop μ-loop
 timed-requires c κs = search needs
 
+long-enough-requires : tie.Need-long-enough-requires Inv-loop μ-loop
+long-enough-requires c κs = search needs
+
 same-length : tie.Need-same-length Inv-loop μ-loop
 same-length c = search needs
 
@@ -50,6 +53,7 @@ calls-of-spec =
     μ-loop
     loop-holds
     timed-requires
+    long-enough-requires
     same-length
     returns
     wrapping-add-u32-requires

@@ -5,10 +5,10 @@ use Rattle.probe_times.proofs.sum_of.Statement.{statement}
 use Rattle.probe_times.proofs.sum_of.Tie as tie
 
 abbrev Inv-loop : tie.InvT-loop
-Inv-loop positions nearest sum₀ i₀ sum i = i ≤ 64
+Inv-loop positions nearest read sum₀ i₀ sum i = i ≤ 64
 
 abbrev μ-loop : tie.MeasureT-loop
-μ-loop positions nearest sum₀ i₀ sum i = 64 - i
+μ-loop positions nearest read sum₀ i₀ sum i = 64 - i
 
 loop-holds : tie.Need-loop-holds Inv-loop μ-loop
 loop-holds c = search needs

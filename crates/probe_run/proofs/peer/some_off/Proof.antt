@@ -16,8 +16,8 @@ cells-in-requires c κs = search needs
 loop-holds : tie.Need-loop-holds Inv-loop μ-loop
 loop-holds c = search needs
 
-cell-of-requires : tie.Need-cell-of-requires Inv-loop μ-loop
-cell-of-requires c κs = search needs
+cell-at-requires : tie.Need-cell-at-requires Inv-loop μ-loop
+cell-at-requires c κs = search needs
 
 on-requires : tie.Need-on-requires Inv-loop μ-loop
 on-requires c κs = search needs
@@ -45,7 +45,7 @@ some-off-spec =
     μ-loop
     cells-in-requires
     loop-holds
-    cell-of-requires
+    cell-at-requires
     on-requires
     returns
     add-i
