@@ -52,7 +52,7 @@ is-on-list c l n = go (among c l) refl
     go false e = absurd (n (not-on c l e))
 
 -- with cells behind: the position in front, or else behind
-pub position-append : (k : ℕ) (c : Cell) (l m : List Cell)
+position-append : (k : ℕ) (c : Cell) (l m : List Cell)
     → positionFrom k c (l ++ m) ≡ cond (among c l) (positionFrom k c l) (positionFrom (k + length l) c m)
 position-append k c [] m = let e : k ≡ k + 0 = omega arith in ap (λ (j : ℕ). positionFrom j c m) e
 position-append k c (d ∷ l) m =
@@ -63,31 +63,28 @@ position-append k c (d ∷ l) m =
     go true s t e = refl
     go false s t e = e
 
-module _ (c : Cell) (l m : List Cell) where
-  pub position-front : among c l ≡ true → position c (l ++ m) ≡ position c l
-  position-front e = position-append 1 c l m ∙ ap (λ (b : Bool). cond b (position c l) (positionFrom (1 + length l) c m)) e
-
-  pub position-back : among c l ≡ false → position c (l ++ m) ≡ positionFrom (1 + length l) c m
-  position-back e = position-append 1 c l m ∙ ap (λ (b : Bool). cond b (position c l) (positionFrom (1 + length l) c m)) e
+pub position-by : (c : Cell) (l m : List Cell) {b : Bool} → among c l ≡ b
+    → position c (l ++ m) ≡ cond b (position c l) (positionFrom (1 + length l) c m)
+position-by c l m e = position-append 1 c l m ∙ ap (λ (b : Bool). cond b (position c l) (positionFrom (1 + length l) c m)) e
 
 -- with one cell behind: its own position where it is new; that of another cell, and where it is not new any cell's, stays
 pub position-new : (c : Cell) (l m : List Cell) → among c l ≡ false → position c (l ++ c ∷ m) ≡ 1 + length l
 position-new c l m e =
-    position-back c l (c ∷ m) e ∙ ap (λ (b : Bool). cond b (1 + length l) (positionFrom (suc (1 + length l)) c m)) (eq-same {a = c} refl)
+    position-by c l (c ∷ m) e ∙ ap (λ (b : Bool). cond b (1 + length l) (positionFrom (suc (1 + length l)) c m)) (eq-same {a = c} refl)
 
 pub position-other : (d : Cell) (l : List Cell) (c : Cell) → sameCell d c ≡ false → position d (l ++ c ∷ []) ≡ position d l
 position-other d l c e = go (among d l) refl
   where
     go : (b : Bool) → among d l ≡ b → position d (l ++ c ∷ []) ≡ position d l
-    go true f = position-front d l (c ∷ []) f
+    go true f = position-by d l (c ∷ []) f
     go false f =
-        position-back d l (c ∷ []) f ∙ ap (λ (b : Bool). cond b (1 + length l) 0) e ∙ sym (not-on d l f)
+        position-by d l (c ∷ []) f ∙ ap (λ (b : Bool). cond b (1 + length l) 0) e ∙ sym (not-on d l f)
 
 pub position-old : (d : Cell) (l : List Cell) (c : Cell) → among c l ≡ true → position d (l ++ c ∷ []) ≡ position d l
 position-old d l c e = go (sameCell d c) refl
   where
     go : (b : Bool) → sameCell d c ≡ b → position d (l ++ c ∷ []) ≡ position d l
-    go true f = position-front d l (c ∷ []) (ap (λ (a : Cell). among a l) (same-eq d c f) ∙ e)
+    go true f = position-by d l (c ∷ []) (ap (λ (a : Cell). among a l) (same-eq d c f) ∙ e)
     go false f = position-other d l c f
 
 -- no position is past the end

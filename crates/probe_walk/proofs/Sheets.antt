@@ -73,4 +73,6 @@ same-for f g (c ∷ q) h =
 
 pub noted-positions : (q l : List Cell) {found : List ℕ} → Noted q l found → notedPositions q found ≡ positions q l
 noted-positions q l {found} n =
-    ap (placed 0) (same-for (λ c. getD found (position c q - 1) 0) (λ c. position c l) q (λ c e. n .notes c (position c q - 1) (omega (arith, some-position c q e))))
+    let first : (c : Cell) → among c q ≡ true → position c q ≡ suc (position c q - 1) = λ c e. omega (arith, some-position c q e) in
+    let each = same-for (λ c. getD found (position c q - 1) 0) (λ c. position c l) q (λ c e. n .notes c (position c q - 1) (first c e)) in
+    ap (placed 0) each

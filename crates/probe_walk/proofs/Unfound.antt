@@ -15,7 +15,7 @@ use Rattle.grid.proofs.Tests.{both-branches, cond-yes, cond-no}
 use Rattle.list.specs.List.{among}
 use Rattle.list.proofs.Behind.{among-behind}
 use Rattle.probe_walk.specs.Probes.{position, allAmong, furthest, cellsRead, unfound}
-use Rattle.probe_walk.proofs.Positions.{position-front, position-small}
+use Rattle.probe_walk.proofs.Positions.{position-by, position-small}
 
 -- ---- cells of a list
 
@@ -154,7 +154,7 @@ all-front [] l m e = (refl, refl)
 all-front (c ∷ q) l m e =
     let (a, r) = and-parts (among c l) (allAmong q l) e in
     let (s, f) = all-front q l m r in
-    (and-both (among-front c l m a) s, λ i. max (position-front c l m a i) (f i))
+    (and-both (among-front c l m a) s, λ i. max (position-by c l m a i) (f i))
 
 -- the walk stops where none is left, at the furthest; or at the end
 pub read-stopped : (q l m : List Cell) → allAmong q l ≡ true → furthest q l ≡ length l → length l ≡ cellsRead q (l ++ m)

@@ -16,7 +16,7 @@ use Rattle.grid.proofs.Facts.{same-eq, same-ne, ne-same}
 use Rattle.list.specs.List.{nth, among}
 use Rattle.probe_walk.specs.Probes.{places, position, allAmong, furthest, cellsRead, unfound, Noted}
 use Rattle.probe_walk.proofs.Marks.{take-next}
-use Rattle.probe_walk.proofs.Positions.{is-on-list, position-front, position-new, position-other, place-given, position-once}
+use Rattle.probe_walk.proofs.Positions.{is-on-list, position-by, position-new, position-other, place-given, position-once}
 use Rattle.probe_walk.proofs.Unfound.{member, unfound-other, unfound-one, unfound-none, furthest-none, furthest-last, read-stopped, read-all}
 
 pub record Walking (q l : List Cell) (found : List ℕ) (left read : ℕ) : Type 0 where
@@ -117,7 +117,7 @@ module _ {q l : List Cell} {found : List ℕ} {left read : ℕ} (w : Walking q l
 
     pub stopped-noted : Noted q l found
     stopped-noted = record {
-      notes = λ c i e. w .noted .notes c i e ∙ sym (position-front c front (drop read l) (member q front c all (probed q c i e))) ∙ ap (position c) parts;
+      notes = λ c i e. w .noted .notes c i e ∙ sym (position-by c front (drop read l) (member q front c all (probed q c i e))) ∙ ap (position c) parts;
     }
 
     pub stopped-read : read ≡ cellsRead q l

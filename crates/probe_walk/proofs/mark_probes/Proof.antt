@@ -6,7 +6,8 @@ use Rattle.grid.specs.Panel.{OnPanel}
 use Rattle.grid.specs.Bytes.{cellsIn}
 use Rattle.list.specs.List.{nth}
 use Rattle.list.proofs.Cells.{length-cells}
-use Rattle.probe_walk.proofs.Marks.{Marking, few-probes, probe-below, probe-inside, in-scratch, none-marked, marked-before, marked-now, all-marked, all-counted}
+use Rattle.probe_walk.proofs.Marks.{few-probes, probe-below, probe-inside, in-scratch}
+use Rattle.probe_walk.proofs.Marks.{Marking, none-marked, marked-before, marked-now, all-marked, all-counted}
 use Rattle.probe_walk.proofs.mark_probes.Statement.{statement}
 use Rattle.probe_walk.proofs.mark_probes.Tie as tie
 
