@@ -1,5 +1,6 @@
 -- The cells that bytes hold, read from a byte on: the next cell and those behind it, or none where no two bytes are left; how many there
--- are, their coordinates, and that an even number of bytes is its cells; and what goes by each two successive cells, as the steps do and the letters of a record.
+-- are, their coordinates, and that an even number of bytes is its cells; and what goes by each two successive cells, as the steps do and
+-- the letters of a record.
 use Prim.Native.Nat.{ℕ, suc, _+_, _/_, _%_, _≤_, _<_}
 use native.Mathlib.Numerals.{add-one, add-two}
 use native.Mathlib.Omega.{arith}

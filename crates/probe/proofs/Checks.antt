@@ -30,7 +30,8 @@ use Rattle.scratch.specs.Scratch.{Clean}
 use Rattle.scratch.proofs.Clean.{clean}
 use Rattle.judge.specs.Judge.{sizesCheck, cellsCheck, judgeCheck, Judges}
 use Rattle.judge.proofs.Checks.{Sized, sized, passed, few}
-use Rattle.probe_walk.specs.Probes.{places, Searched}
+use Rattle.probe_walk.specs.Probes.{places}
+use Rattle.probe_walk.specs.Search.{Searched}
 use Rattle.probe.specs.declared.ProbeSheet.{ProbeSheet}
 use Rattle.probe.specs.Probe.{fewProbes, probeCheck, sheet, probeScratch, Probes}
 

@@ -19,7 +19,8 @@ use Rattle.list.proofs.Indexed.{on-index}
 use Rattle.scratch.specs.Scratch.{place, Clean}
 use Rattle.scratch.proofs.Marks.{unmarked-clean}
 use Rattle.scratch.proofs.Places.{place-below, place-once}
-use Rattle.probe_walk.specs.Probes.{places, position, Probed, unfound, Marked}
+use Rattle.probe_walk.specs.Probes.{places, position}
+use Rattle.probe_walk.specs.Search.{Probed, unfound, Marked}
 use Rattle.probe_walk.proofs.Positions.{is-not-on, is-on-list, position-new, position-other, position-old}
 use Rattle.probe_walk.proofs.Unfound.{unfound-marked}
 

@@ -10,7 +10,8 @@ use Rattle.grid.specs.declared.Cell.{Cell}
 use Rattle.grid.specs.Panel.{sameCell}
 use Rattle.grid.proofs.Facts.{eq-same}
 use Rattle.list.specs.List.{nth, among}
-use Rattle.probe_walk.specs.Probes.{places, placed, position, positions, Noted, notedPositions}
+use Rattle.probe_walk.specs.Probes.{places, placed, position, positions}
+use Rattle.probe_walk.specs.Search.{Noted, notedPositions}
 use Rattle.probe_walk.proofs.Marks.{take-next}
 use Rattle.probe_walk.proofs.Positions.{some-position}
 

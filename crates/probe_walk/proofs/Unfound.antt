@@ -14,7 +14,8 @@ use Rattle.grid.proofs.Facts.{and-parts, and-both, same-eq, eq-same}
 use Rattle.grid.proofs.Tests.{both-branches, cond-yes, cond-no}
 use Rattle.list.specs.List.{among}
 use Rattle.list.proofs.Behind.{among-behind}
-use Rattle.probe_walk.specs.Probes.{position, allAmong, furthest, cellsRead, unfound}
+use Rattle.probe_walk.specs.Probes.{position, allAmong, furthest, cellsRead}
+use Rattle.probe_walk.specs.Search.{unfound}
 use Rattle.probe_walk.proofs.Positions.{position-by, position-small}
 
 -- ---- cells of a list

@@ -14,7 +14,8 @@ use Rattle.grid.specs.declared.Cell.{Cell}
 use Rattle.grid.specs.Panel.{sameCell}
 use Rattle.grid.proofs.Facts.{same-eq, same-ne, ne-same}
 use Rattle.list.specs.List.{nth, among}
-use Rattle.probe_walk.specs.Probes.{places, position, allAmong, furthest, cellsRead, unfound, Noted}
+use Rattle.probe_walk.specs.Probes.{places, position, allAmong, furthest, cellsRead}
+use Rattle.probe_walk.specs.Search.{unfound, Noted}
 use Rattle.probe_walk.proofs.Marks.{take-next}
 use Rattle.probe_walk.proofs.Positions.{is-on-list, position-by, position-new, position-other, place-given, position-once}
 use Rattle.probe_walk.proofs.Unfound.{member, unfound-other, unfound-one, unfound-none, furthest-none, furthest-last, read-stopped, read-all}

@@ -1,18 +1,13 @@
 -- Document 02, R-8: where a probe (a cell that inspection touches) stands on a list of cells, the nearest cell of the list to it, how many cells
 -- of the list one walk for all probes reads; and what a sheet has at its 64 places.
-use Prim.Native.Nat.{ℕ, suc, _+_, _-_, _*_, _≤_, max}
-use mathlib.Core.Path.{_≡_}
+use Prim.Native.Nat.{ℕ, suc, _-_, max}
 use mathlib.Core.Bool.{Bool, true, cond, _&&_}
 use mathlib.Core.List.{List, [], _∷_, _++_, map}
 use lib.Dec.{leb, eqb}
-use lib.ListN.{length, getD, replicate}
-use Rattle.grid.specs.declared.Panel.{Panel}
+use lib.ListN.{length, replicate}
 use Rattle.grid.specs.declared.Cell.{Cell}
-use Rattle.grid.specs.Panel.{cell, goodSides, area, OnPanel, sameCell}
-use Rattle.grid.specs.Bytes.{cellsIn}
-use Rattle.list.specs.List.{squaredDistance, allOn, among, noneTwice}
-use Rattle.scratch.specs.Scratch.{place}
-use Rattle.probe_walk.specs.declared.Found.{Found}
+use Rattle.grid.specs.Panel.{cell, sameCell}
+use Rattle.list.specs.List.{squaredDistance, among}
 
 -- the position of a cell in a list whose first cell has the position k, 0 where it does not stand in it
 abbrev pub positionFrom : ℕ → Cell → List Cell → ℕ
@@ -68,40 +63,3 @@ nearestMissed l c = cond (eqb (position c l) 0) (nearest c l) (cell 0 0)
 -- the same for every probe
 abbrev pub nearestCells : List Cell → List Cell → List Cell
 nearestCells q l = placed (cell 0 0) (map (nearestMissed l) q)
-
--- positions and cells read
-abbrev pub foundOn : List Cell → List Cell → Found
-foundOn q l = record { positions = positions q l; read = record { 0 = cellsRead q l } }
-
--- ---- the search
-
--- at most 64 probes, all on a panel with good sides
-pub record Probed (p : Panel) (probes : List ℕ) : Type 0 where
-  pub good : goodSides p ≡ true
-  pub on : allOn p (cellsIn probes) ≡ true
-  pub few : length probes ≤ 2 * places
-
--- and a list without repeats, all on it too
-pub record Searched (p : Panel) (list probes : List ℕ) : Type 0 where
-  pub probed : Probed p probes
-  pub inside : allOn p (cellsIn list) ≡ true
-  pub once : noneTwice (cellsIn list) ≡ true
-  pub short : length list ≤ 32768
-
--- how many different cells the probes have that are not on the list
-abbrev pub unfound : List Cell → List Cell → ℕ
-unfound [] l = 0
-unfound (c ∷ q) l = cond (among c q) 0 (cond (among c l) 0 1) + unfound q l
-
--- each place of scratch holds the position of its cell among the probes, 0 where it is not probed
-pub record Marked (p : Panel) (q : List Cell) (scratch : List ℕ) : Type 0 where
-  pub room : area p ≤ length scratch
-  pub marks : (c : Cell) → OnPanel p c → getD scratch (place p c) 0 ≡ position c q
-
--- at the first probe of each cell, the cell's position on the list
-pub record Noted (q l : List Cell) (found : List ℕ) : Type 0 where
-  pub notes : (c : Cell) (i : ℕ) → position c q ≡ suc i → getD found i 0 ≡ position c l
-
--- the positions noted for the probes
-abbrev pub notedPositions : List Cell → List ℕ → List ℕ
-notedPositions q found = placed 0 (map (λ c. getD found (position c q - 1) 0) q)

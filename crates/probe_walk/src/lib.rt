@@ -17,7 +17,7 @@ ghost use Rattle.grid.specs.Bytes.{InBytes, cellsIn};
 ghost use Rattle.list.specs.List.{nth, allOn};
 ghost use Rattle.scratch.specs.Scratch.{place, Clean};
 ghost use Rattle.probe_walk.specs.Probes.{position, nearest, cellsRead, places, positions, nearestMissed, nearestCells};
-ghost use Rattle.probe_walk.specs.Probes.{foundOn, Probed, Searched, unfound, Marked, Noted, notedPositions};
+ghost use Rattle.probe_walk.specs.Search.{foundOn, Probed, Searched, unfound, Marked, Noted, notedPositions};
 
 // How many probes a sheet has places for.
 pub const PLACES: usize = 64;

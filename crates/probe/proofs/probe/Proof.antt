@@ -7,7 +7,7 @@ use lib.ListN.{length}
 use Rattle.grid.specs.Bytes.{cellsIn}
 use Rattle.list.specs.List.{allOn}
 use Rattle.probe_walk.specs.declared.Found.{Found}
-use Rattle.probe_walk.specs.Probes.{Searched}
+use Rattle.probe_walk.specs.Search.{Searched}
 use Rattle.probe.specs.Probe.{fewProbes}
 use Rattle.probe.proofs.Checks.{too-many, judge-refused, probe-off, some, left-clean, searched, all-good}
 use Rattle.probe.proofs.probe.Statement.{statement}

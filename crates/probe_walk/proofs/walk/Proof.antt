@@ -13,7 +13,8 @@ use Rattle.grid.specs.Bytes.{cellsIn}
 use Rattle.list.specs.List.{nth, among}
 use Rattle.list.proofs.Cells.{length-cells}
 use Rattle.list.proofs.Indexed.{on-index, new-index}
-use Rattle.probe_walk.specs.Probes.{places, position, Marked}
+use Rattle.probe_walk.specs.Probes.{places, position}
+use Rattle.probe_walk.specs.Search.{Marked}
 use Rattle.probe_walk.proofs.Positions.{is-not-on, place-given}
 use Rattle.probe_walk.proofs.Marks.{few-probes, in-scratch}
 use Rattle.probe_walk.proofs.Walks.{Walking, none-read, passed-over, found-now, stopped-noted, stopped-read, ended-noted, ended-read}
