@@ -30,7 +30,8 @@ extern "C" {
 #endif
 
 /* Why a call refuses. The first that holds, in the order given at each call, is the one. 4 is withdrawn (it
- * was for equal terminals, which are accepted now) and stays free. */
+ * was for equal terminals, which are accepted now) and stays free; 12 to 17 and 20 are given by calls that C
+ * does not have. */
 enum foil_refusal {
     FOIL_OK = 0,                /* nothing is refused */
     FOIL_SIDE = 1,              /* a side is 0 or above 128 */

@@ -12,12 +12,15 @@ use grid::Panel;
 use grid::area_of;
 use grid::cells_values;
 use grid::panel_of;
-use std::num::wrapping_add_u32;
 use trial::PITCH;
 use trial::cells::Order;
+use trial::numbers::add;
+use trial::numbers::at_most;
+use trial::numbers::below;
+use trial::numbers::one_less;
+use trial::numbers::scrambled;
 use trial::print::named;
 use trial::print::text;
-ghost use Prim.Native.Nat.{_≤_};
 
 // More bytes than a call needs, for panels up to 3 by 3 and up to 129 by 129.
 const SMALL: usize = 20;
@@ -71,20 +74,6 @@ struct Sizes {
     list: usize,
     changed: usize,
     scratch: usize,
-}
-
-fn add(a: u32, b: u32) -> u32 {
-    wrapping_add_u32(a, b)
-}
-
-fn at_most(a: usize, most: usize) -> usize
-    ensures { λ r. ⌜ r ≤ most ⌝ }
-{
-    if a <= most { a } else { most }
-}
-
-fn one_less(a: usize) -> usize {
-    if 0 < a { a - 1 } else { 0 }
 }
 
 // The same bytes in each buffer, with few zeros.
@@ -310,17 +299,9 @@ fn small_order(code: u32) -> Order {
     }
 }
 
-// A step of the generator xorshift32.
-fn scrambled(x: u32) -> u32 {
-    let a = x ^ x << 13;
-    let b = a ^ a >> 17;
-    b ^ b << 5
-}
-
 // A made-up number below n: number k of order `code`.
 fn pick(code: u32, k: u32, n: u32) -> u32 {
-    let x = scrambled(scrambled(code % 65536 * 8 + k % 8 + 1));
-    if n == 0 { 0 } else { x % n }
+    below(n, scrambled(scrambled(code % 65536 * 8 + k % 8 + 1)))
 }
 
 // A made-up cell, on the panel or next to it, on the right or above.

@@ -10,26 +10,27 @@ use grid::Cells;
 use grid::Panel;
 use grid::area_of;
 use grid::panel_of;
-use libc::STDERR_FILENO;
 use std::num::wrapping_add_u32;
-use std::num::wrapping_sub_u64;
 use trial::PITCH;
 use trial::cells::Tally;
 use trial::cells::same;
 use trial::cells::tallied;
+use trial::numbers::below;
 use trial::print::row;
 use trial::print::tally;
+use trial::times::DOUBLED;
+use trial::times::TURNS;
+use trial::times::Turn;
+use trial::times::each;
+use trial::times::long_enough;
+use trial::times::micros;
+use trial::times::say;
+use trial::times::say_time;
+use trial::times::shorter;
+use trial::times::turn_from;
 
 // How many entries a case has.
 const ENTRIES: u32 = 64;
-
-// How many turns are timed, and how many microseconds one is to take at least; how often its calls are
-// doubled for that.
-const TURNS: u32 = 8;
-
-const LEAST: u64 = 2000;
-
-const DOUBLED: u32 = 16;
 
 // What is asked of every entry of a colour.
 struct Case {
@@ -38,23 +39,9 @@ struct Case {
     colour: u32,
 }
 
-// How long a turn took, and a sum over what it found, so that none of it may be left out.
-struct Turn {
-    micros: u64,
-    sum: u32,
-}
-
 // Stands for no cell.
 fn nothing() -> Cell {
     Cell { x: 0, y: 0 }
-}
-
-// A number below `end`, if that is not 0.
-fn below(end: u32, k: u32) -> u32 {
-    if end == 0 {
-        return 0;
-    }
-    k % end
 }
 
 // Entry i of a case: somewhere on its panel, in its colour.
@@ -119,14 +106,6 @@ fn answer(c: Case, i: u32, scanned: bool) -> Cell {
     ask(c, entry)
 }
 
-fn micros() -> u64 {
-    let k = libc::clock();
-    if k < 0 {
-        return 0;
-    }
-    k as u64
-}
-
 // So many calls, of every entry in turn.
 fn timed(c: Case, calls: u32, scanned: bool) -> Turn {
     let start = micros();
@@ -135,17 +114,14 @@ fn timed(c: Case, calls: u32, scanned: bool) -> Turn {
         let t = answer(c, i, scanned);
         sum = wrapping_add_u32(sum, wrapping_add_u32(t.x, t.y));
     }
-    Turn {
-        micros: wrapping_sub_u64(micros(), start),
-        sum,
-    }
+    turn_from(start, sum)
 }
 
 // The calls of a turn that is long enough.
 fn calls_of(c: Case, scanned: bool) -> u32 {
     let mut calls = ENTRIES;
     for _k in 0..DOUBLED {
-        if LEAST <= timed(c, calls, scanned).micros {
+        if long_enough(timed(c, calls, scanned)) {
             return calls;
         }
         calls = wrapping_add_u32(calls, calls);
@@ -157,29 +133,17 @@ fn calls_of(c: Case, scanned: bool) -> u32 {
 fn shortest(c: Case, calls: u32, scanned: bool) -> Turn {
     let mut best = timed(c, calls, scanned);
     for _k in 1..TURNS {
-        let t = timed(c, calls, scanned);
-        if t.micros < best.micros {
-            best = t;
-        }
+        best = shorter(best, timed(c, calls, scanned));
     }
     best
 }
 
-// Tenths of a nanosecond for each call.
-fn each(t: Turn, calls: u32) -> u64 {
-    if calls == 0 {
-        return 0;
-    }
-    t.micros % 1000000000 * 10000 / (calls as u64)
-}
-
-fn say(c: Case, scanned: bool) {
+// In tenths of a nanosecond.
+fn say_case(c: Case, scanned: bool) {
     let calls = calls_of(c, scanned);
     let t = shortest(c, calls, scanned);
-    io::print_decimal(STDERR_FILENO, each(t, calls));
-    io::write_all(STDERR_FILENO, b" (sum ");
-    io::print_decimal(STDERR_FILENO, t.sum as u64);
-    io::write_all(STDERR_FILENO, b") ");
+    say_time(each(t, calls), t.sum);
+    say(b" ");
 }
 
 // ---- cases
@@ -204,9 +168,9 @@ fn try_case(m: u32, n: u32, wanted: u32, colour: u32) {
     };
     row(&[m, n, wanted, colour], b": ");
     tally(compared(c));
-    say(c, false);
-    say(c, true);
-    io::write_all(STDERR_FILENO, b"\n");
+    say_case(c, false);
+    say_case(c, true);
+    say(b"\n");
 }
 
 // A count that no cell fits, all cells, and one fewer; then panels of three columns and of three rows,

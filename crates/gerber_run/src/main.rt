@@ -21,8 +21,10 @@ use grid::number_of;
 use grid::panel_of;
 use libc::STDIN_FILENO;
 use std::num::wrapping_add_u32;
+use trial::cells::fill;
 use trial::cells::filled;
 use trial::cells::snake;
+use trial::numbers::one_less;
 use trial::print::row;
 use trial::print::text;
 ghost use Prim.Native.Nat.{_≤_, _<_};
@@ -74,14 +76,6 @@ fn show(a: Answer, sum: u32, kept: bool) {
     }
 }
 
-fn fill(s: &mut [u8]) {
-    let mut i = 0;
-    while i < s.len() {
-        s[i] = FILL;
-        i += 1;
-    }
-}
-
 // A digit of base 256 more, modulo the largest prime of 32 bits.
 fn sum_on(n: u32, b: u8) -> u32 {
     ((256 * (n as u64) + (b as u64)) % 4294967291) as u32
@@ -100,11 +94,6 @@ fn sum(s: &[u8]) -> u32 {
 // The checksum of the first k bytes.
 fn sum_front(s: &[u8], k: usize) -> u32 {
     if k <= s.len() { sum(&s[0..k]) } else { 0 }
-}
-
-// A byte less.
-fn less(k: usize) -> usize {
-    if 0 < k { k - 1 } else { 0 }
 }
 
 fn answer_of(a: BytesAnswer) -> Answer {
@@ -170,7 +159,7 @@ fn stays(scratch: &[u8], out: &[u8], k: usize) -> bool {
 
 // Writes so, with all bytes filled before, and prints what came of it. The bytes written.
 fn write_in(p: Panel, list: &[u8], digits: usize, out: &mut [u8], room: usize) -> usize {
-    fill(out);
+    fill(out, FILL);
     let mut scratch = [FILL; SCRATCH];
     let a = write_into(p, list, &mut scratch, digits, out, room);
     let k = a.count as usize;
@@ -180,7 +169,7 @@ fn write_in(p: Panel, list: &[u8], digits: usize, out: &mut [u8], room: usize) -
 
 // The same of reading. The bytes of the list.
 fn read_in(p: Panel, file: &[u8], k: usize, list: &mut [u8], room: usize) -> usize {
-    fill(list);
+    fill(list, FILL);
     let a = read_into(p, file, k, list, room);
     let end = 2 * (a.count as usize);
     show(a, sum_front(list, end), filled(list, end, FILL));
@@ -189,7 +178,7 @@ fn read_in(p: Panel, file: &[u8], k: usize, list: &mut [u8], room: usize) -> usi
 
 // Writes a layer of k bytes in a byte too few, with a byte too few of scratch, and in just enough of both.
 fn write_closely(p: Panel, list: &[u8], out: &mut [u8], k: usize) {
-    write_in(p, list, SCRATCH, out, less(k));
+    write_in(p, list, SCRATCH, out, one_less(k));
     write_in(p, list, 9, out, k);
     write_in(p, list, 10, out, k);
     text(b"\n");
@@ -207,7 +196,7 @@ fn write_four(p: Panel, list: &[u8], out: &mut [u8]) -> usize {
 // Reads the list of a layer of k bytes into nothing, into a byte too few, and into just enough.
 fn read_closely(p: Panel, file: &[u8], k: usize, list: &mut [u8], end: usize) {
     read_in(p, file, k, list, 0);
-    read_in(p, file, k, list, less(end));
+    read_in(p, file, k, list, one_less(end));
     read_in(p, file, k, list, end);
     text(b"\n");
 }

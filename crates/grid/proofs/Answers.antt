@@ -44,6 +44,18 @@ pub behind-good {ℓ} : {A : Type ℓ} (c : Check) (f : Refusal → A) (a z : A)
 behind-good Good f a z n e = (refl, e)
 behind-good (Refused r) f a z n e = absurd (n r e)
 
+-- the check behind an answer in cells
+abbrev pub checkBehind : CellsAnswer → Check
+checkBehind (cells.Refused r) = Refused r
+checkBehind (cells.Given k) = Good
+
+pub check-behind : (c : Check) (n : ℕ) {a : CellsAnswer} → a ≡ cellsAnswer c n → checkBehind a ≡ c
+check-behind c n e = ap checkBehind e ∙ go c
+  where
+    go : (c : Check) → checkBehind (cellsAnswer c n) ≡ c
+    go Good = refl
+    go (Refused r) = refl
+
 pub cells-good : (c : Check) (n : ℕ) (k : Cells) → cellsAnswer c n ≡ cells.Given k → (c ≡ Good) × (n ≡ k .0)
 cells-good c n k e =
     let (g, h) = behind-good c cells.Refused (cells.Given (record { 0 = n })) (cells.Given k) (λ r q. clash (cc)) e in

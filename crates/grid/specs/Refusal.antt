@@ -1,4 +1,5 @@
--- The numbers of the refusals: 1 to 17 are document 01's, 18 is R-1's, and 19 R-7's, which only the bench's calls give. R-6 withdrew 4.
+-- The numbers of the refusals: 1 to 17 are document 01's, 18 is R-1's, 19 R-7's, which only the bench's calls give, and 20 R-8's, which
+-- only Probe gives. R-6 withdrew 4.
 use Prim.Native.Nat.{ℕ}
 use Rattle.grid.specs.declared.Refusal.{Refusal}
 use Rattle.grid.specs.declared.Refusal.the-variants as refusal
@@ -23,3 +24,4 @@ number refusal.UnknownByte = 16
 number refusal.CutShort = 17
 number refusal.Pitch = 18
 number refusal.BenchSide = 19
+number refusal.ProbeBytes = 20

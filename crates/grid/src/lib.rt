@@ -55,6 +55,7 @@ pub enum Refusal {
     CutShort,
     Pitch,
     BenchSide,
+    ProbeBytes,
 }
 
 // What a test of the input finds.
@@ -126,6 +127,7 @@ pub fn number_of(r: Refusal) -> u32
         Refusal::CutShort => 17,
         Refusal::Pitch => 18,
         Refusal::BenchSide => 19,
+        Refusal::ProbeBytes => 20,
     }
 }
 

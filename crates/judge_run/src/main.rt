@@ -5,6 +5,8 @@ use grid::Cell;
 use grid::Panel;
 use grid::panel_of;
 use trial::PITCH;
+use trial::cells::count;
+use trial::cells::fill;
 use trial::cells::snake;
 use trial::print::row;
 use trial::print::text;
@@ -12,28 +14,8 @@ use trial::print::text;
 // The largest number of 32 bits.
 const MAX: u32 = 4294967295;
 
-fn fill(s: &mut [u8]) {
-    let mut i = 0;
-    while i < s.len() {
-        s[i] = 255;
-        i += 1;
-    }
-}
-
-fn count(s: &[u8], b: u8) -> u32 {
-    let mut n: u32 = 0;
-    let mut i = 0;
-    while i < s.len() {
-        if s[i] == b {
-            n = std::num::wrapping_add_u32(n, 1);
-        }
-        i += 1;
-    }
-    n
-}
-
 fn try_order(p: Panel, entry: Cell, exit: Cell, list: &[u8], scratch: &mut [u8]) {
-    fill(scratch);
+    fill(scratch, 255);
     let j = judge::judge(p, entry, exit, list, scratch);
     let zeros = count(scratch, 0);
     let kept = count(scratch, 255);

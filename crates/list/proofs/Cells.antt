@@ -1,14 +1,15 @@
 -- The cells that bytes hold, read from a byte on: the next cell and those behind it, or none where no two bytes are left; how many there
--- are, and that an even number of bytes is its cells; and what goes by each two successive cells, as the steps do and the letters of a record.
+-- are, their coordinates, and that an even number of bytes is its cells; and what goes by each two successive cells, as the steps do and
+-- the letters of a record.
 use Prim.Native.Nat.{ℕ, suc, _+_, _/_, _%_, _≤_, _<_}
 use native.Mathlib.Numerals.{add-one, add-two}
 use native.Mathlib.Omega.{arith}
-use mathlib.Core.Path.{_≡_, refl, sym, ap, _∙_}
+use mathlib.Core.Path.{_≡_, refl, sym, ap, subst⁻¹, _∙_}
 use mathlib.Core.List.{List, [], _∷_}
 use lib.ListN.{length, drop, getD, set, length-drop}
 use lib.Seq.{drop-cons}
 use Rattle.grid.specs.declared.Cell.{Cell}
-use Rattle.grid.specs.Bytes.{bytes, cellsIn}
+use Rattle.grid.specs.Bytes.{InBytes, bytes, cellsIn}
 use Rattle.list.specs.List.{cellAt, withCells}
 
 pub cells-next : (b : List ℕ) (i : ℕ) → i + 1 < length b → cellsIn (drop i b) ≡ cellAt b i ∷ cellsIn (drop (i + 2) b)
@@ -29,6 +30,10 @@ pub length-cells : (b : List ℕ) → length (cellsIn b) ≡ length b / 2
 length-cells [] = refl
 length-cells (x ∷ []) = refl
 length-cells (x ∷ y ∷ b) = let e = length-cells b in omega arith
+
+-- the cell at a byte has bytes for coordinates
+pub cell-bytes : (b : List ℕ) → ((i : ℕ) → getD b i 0 < 256) → {c : Cell} (i : ℕ) → c ≡ cellAt b i → InBytes c
+cell-bytes b byte i e = subst⁻¹ InBytes e (record { across = omega (arith, byte i); down = omega (arith, byte (i + 1)) })
 
 -- an even number of bytes is its cells
 pub bytes-cells : (b : List ℕ) → length b % 2 ≡ 0 → bytes (cellsIn b) ≡ b

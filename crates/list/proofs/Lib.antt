@@ -3,6 +3,7 @@ pub mod Cells
 pub mod Turns
 pub mod Whole
 pub mod Tracks
+pub mod Indexed
 pub mod Checks
 pub mod Behind
 pub mod Apart

@@ -38,7 +38,7 @@ not-among c [] e = All.none
 not-among c (d ∷ l) e =
     All.more (same-ne c d (or-left (sameCell c d) (among c l) e)) (not-among c l (or-right (sameCell c d) (among c l) e))
 
-is-not-among : {c : Cell} {l : List Cell} → All (λ d. c ≢ d) l → among c l ≡ false
+pub is-not-among : {c : Cell} {l : List Cell} → All (λ d. c ≢ d) l → among c l ≡ false
 is-not-among All.none = refl
 is-not-among {c} (All.more {c = d} n r) = λ i. ne-same c d n i || is-not-among r i
 

@@ -13,6 +13,10 @@ use Rattle.grid.specs.Bytes.{bytes}
 abbrev pub cellAt : List ℕ → ℕ → Cell
 cellAt b i = cell (getD b i 0) (getD b (i + 1) 0)
 
+-- the cell with the number i, from 0, of a list; (0, 0) behind its end
+abbrev pub nth : List Cell → ℕ → Cell
+nth l i = getD l i (cell 0 0)
+
 -- the square of the straight distance between two cells
 abbrev pub squaredDistance : Cell → Cell → ℕ
 squaredDistance a b = dist (a .x) (b .x) * dist (a .x) (b .x) + dist (a .y) (b .y) * dist (a .y) (b .y)

@@ -49,7 +49,7 @@ pub fn whole_cells(bytes: usize) -> bool
 }
 
 // Whether every cell of the list is on the panel.
-fn all_on_panel(p: Panel, list: &[u8]) -> bool
+pub fn all_on_panel(p: Panel, list: &[u8]) -> bool
     ensures { λ r. ⌜ r ≡ allOn p (cellsIn (now (list .entry))) ⌝ }
 {
     let mut i = 0;

@@ -1,4 +1,4 @@
-// A plain look at lists of cells, which knows nothing of the router's own checks.
+// Lists of cells in buffers: made, and looked at plainly, apart from the router's own code.
 use grid::Cell;
 use grid::Panel;
 
@@ -20,12 +20,33 @@ pub fn byte_at(buf: &[u8], at: usize) -> u32 {
     0
 }
 
+// How many whole cells so many bytes hold.
+pub fn cells_in(bytes: usize) -> u32 {
+    (bytes / 2 % 65536) as u32
+}
+
 // Cell i of the list at the front of a buffer.
-fn cell_at(buf: &[u8], i: u32) -> Cell {
+pub fn cell_at(buf: &[u8], i: u32) -> Cell {
     let at = 2 * (i as usize);
     let x = byte_at(buf, at);
     let y = byte_at(buf, at + 1);
     Cell { x, y }
+}
+
+// Makes a cell the list's cell i, where the buffer has room.
+pub fn put(buf: &mut [u8], i: u32, c: Cell) {
+    let at = 2 * (i as usize);
+    if at + 1 < buf.len() {
+        buf[at] = (c.x % 256) as u8;
+        buf[at + 1] = (c.y % 256) as u8;
+    }
+}
+
+// One cell again and again, as often as the buffer has room.
+pub fn repeat(buf: &mut [u8], c: Cell) {
+    for i in 0..cells_in(buf.len()) {
+        put(buf, i, c);
+    }
 }
 
 fn apart(a: u32, b: u32) -> u32 {
@@ -125,6 +146,28 @@ pub fn is_closed(buf: &[u8], k: u32) -> bool {
     beside(cell_at(buf, k - 1), cell_at(buf, 0))
 }
 
+// Makes every byte b.
+pub fn fill(buf: &mut [u8], b: u8) {
+    let mut i = 0;
+    while i < buf.len() {
+        buf[i] = b;
+        i += 1;
+    }
+}
+
+// How many bytes are b.
+pub fn count(buf: &[u8], b: u8) -> u32 {
+    let mut n: u32 = 0;
+    let mut i = 0;
+    while i < buf.len() {
+        if buf[i] == b {
+            n = std::num::wrapping_add_u32(n, 1);
+        }
+        i += 1;
+    }
+    n
+}
+
 // Whether every byte from `from` on is b.
 pub fn filled(buf: &[u8], from: usize, b: u8) -> bool {
     let mut i = from;
@@ -153,6 +196,15 @@ pub fn snake(list: &mut [u8]) {
         list[i] = turning_x(i / 256, i / 2);
         list[i + 1] = (i / 256 % 128 + 1) as u8;
         i += 2;
+    }
+}
+
+// Cells 319, 574, and so on of that panel's rows: 64 of them go to the last, 16,384.
+pub fn spread(buf: &mut [u8]) {
+    let mut rows = [0u8; 32768];
+    snake(&mut rows);
+    for i in 0..64 {
+        put(buf, i, cell_at(&rows, 255 * i + 318));
     }
 }
 

@@ -16,6 +16,9 @@ loop-holds c = search needs
 timed-requires : tie.Need-timed-requires Inv-loop μ-loop
 timed-requires c κs = search needs
 
+long-enough-requires : tie.Need-long-enough-requires Inv-loop μ-loop
+long-enough-requires c κs = search needs
+
 returns : tie.Need-returns Inv-loop μ-loop
 returns c = search needs
 
@@ -42,6 +45,7 @@ calls-of-spec =
     μ-loop
     loop-holds
     timed-requires
+    long-enough-requires
     returns
     wrapping-add-u32-requires
     add--k

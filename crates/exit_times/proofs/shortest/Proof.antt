@@ -19,6 +19,9 @@ loop-holds c = search needs
 timed-requires-2 : tie.Need-timed-requires-2 Inv-loop μ-loop
 timed-requires-2 c κs = search needs
 
+shorter-requires : tie.Need-shorter-requires Inv-loop μ-loop
+shorter-requires c κs = search needs
+
 add--k : tie.Need-add--k Inv-loop μ-loop
 add--k c = search needs
 
@@ -40,6 +43,7 @@ shortest-spec =
     timed-requires
     loop-holds
     timed-requires-2
+    shorter-requires
     add--k
     loop-less
     loop-again

@@ -34,11 +34,8 @@ loop-less c = search needs
 loop-again : tie.Need-loop-again Inv-loop μ-loop
 loop-again c = search needs
 
-micros-requires-2 : tie.Need-micros-requires-2 Inv-loop μ-loop
-micros-requires-2 c κs = search needs
-
-wrapping-sub-u64-requires : tie.Need-wrapping-sub-u64-requires Inv-loop μ-loop
-wrapping-sub-u64-requires c κs = search needs
+turn-from-requires : tie.Need-turn-from-requires Inv-loop μ-loop
+turn-from-requires c κs = search needs
 
 returns : tie.Need-returns Inv-loop μ-loop
 returns c = search needs
@@ -57,6 +54,5 @@ timed-spec =
     add-i
     loop-less
     loop-again
-    micros-requires-2
-    wrapping-sub-u64-requires
+    turn-from-requires
     returns)

@@ -1,9 +1,9 @@
 -- The two cells are those at the two places, and their coordinates are bytes.
 use borrow.Author.Needs.{needs}
-use native.Mathlib.Omega.{arith}
 use Prim.Native.Nat.{_+_}
 use mathlib.Core.Path.{_∙_}
 use Rattle.grid.specs.Panel.{neighbours}
+use Rattle.list.proofs.Cells.{cell-bytes}
 use Rattle.list.proofs.step_at.Statement.{statement}
 use Rattle.list.proofs.step_at.Tie as tie
 
@@ -18,11 +18,10 @@ cell-at-requires-2 c κs = search needs
 
 adjacent-requires : tie.Need-adjacent-requires
 adjacent-requires c κs =
+    let a = c .before .before .before .args in
     let byte = c .before .before .shared-slice-known .given in
-    let i = c .before .before .before .args .i in (
-      rw (c .before .cell-at .ensures) (record { across = omega (arith, byte i .fits); down = omega (arith, byte (i + 1) .fits) }),
-      rw (c .cell-at2 .ensures) (record { across = omega (arith, byte (i + 2) .fits); down = omega (arith, byte (i + 2 + 1) .fits) }),
-    )
+    let first = cell-bytes (a .list .now) (λ i. byte i .fits) (a .i) (c .before .cell-at .ensures) in
+    (first, cell-bytes (a .list .now) (λ i. byte i .fits) (a .i + 2) (c .cell-at2 .ensures))
 
 returns : tie.Need-returns
 returns c = c .adjacent .ensures ∙ (λ i. neighbours (c .before .before .cell-at .ensures i) (c .before .cell-at2 .ensures i))

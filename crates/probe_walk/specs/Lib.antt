@@ -1,0 +1,2 @@
+pub mod Probes
+pub mod Search
