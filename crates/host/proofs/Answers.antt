@@ -22,7 +22,7 @@ use Rattle.bound.specs.declared.BoundAnswer.{BoundAnswer}
 use Rattle.bound.specs.Bound.{boundValues, GivesBound, Bounds}
 use Rattle.draw.specs.Draw.{drawCheck, Leaves, Draws, drawBuffer}
 use Rattle.judge.specs.Judge.{sizesCheck, cellsCheck, judgeCheck, Judges}
-use Rattle.judge.proofs.Checks.{sized, few}
+use Rattle.judge.proofs.Checks.{count-small}
 use Rattle.host.specs.Host.{packed, packedBehind, PacksBound, PacksDraw, PacksJudge}
 
 -- a value is as small behind its check as where the check is good
@@ -43,8 +43,7 @@ module _ (p : Panel) (s t : Cell) where
   judge-small list room e =
       let sizes = sizesCheck p s t (length list) room in
       let cells = cellsCheck p s t (cellsIn list) in
-      let z = sized p s t (length list) room (after-passed sizes cells e) in
-      omega (arith, few p s t (cellsIn list) (after-rest sizes cells e), area-small (z .ordered .panel .sides))
+      count-small p s t list room (after-passed sizes cells e) (after-rest sizes cells e)
 
 count-fits : (c : Check) (k : ℕ) → (c ≡ Good → k ≤ 16384) → given c k < 2 ^ 24
 count-fits c k h = omega (arith, given-most c k 16384 h)

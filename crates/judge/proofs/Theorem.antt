@@ -1,5 +1,5 @@
 -- Judge accepts a list exactly if it is a track between two cells of a good panel, equal or not, given scratch enough, and the count that it
--- gives is that of the list. The tests are the parts of a track (list/proofs/Tracks.antt); that there are at most mn cells then follows.
+-- gives is that of the list. The tests are the parts of a track (list/proofs/Tracks.antt).
 use Prim.Native.Nat.{ℕ, _*_, _%_, _≤_}
 use native.Mathlib.Omega.{arith}
 use mathlib.Core.Path.{_≡_, refl, sym, ap, _∙_}
@@ -8,12 +8,11 @@ use mathlib.Core.Logic.{_≢_, _↔_}
 use mathlib.Core.List.{List, [], _∷_}
 use lib.ListN.{length, take}
 use lib.Seq.{length-take-le}
-use borrow.Author.Tests.{le-leb}
 use Rattle.grid.specs.declared.Panel.{Panel}
 use Rattle.grid.specs.declared.Cell.{Cell}
 use Rattle.grid.specs.declared.Cells.{Cells}
 use Rattle.grid.specs.declared.Check.the-variants.{Good}
-use Rattle.grid.specs.declared.Refusal.the-variants.{Repeated, TooManyCells, WrongEnds}
+use Rattle.grid.specs.declared.Refusal.the-variants.{Repeated, WrongEnds}
 use Rattle.grid.specs.declared.CellsAnswer.the-variants.{Refused, Given}
 use Rattle.grid.specs.Panel.{goodPanel, area}
 use Rattle.grid.specs.Track.{Track}
@@ -23,13 +22,12 @@ use Rattle.grid.proofs.Facts.{good, is-good}
 use Rattle.grid.proofs.Passed.{after-passed, after-rest}
 use Rattle.grid.proofs.Tests.{expect-yes, expect-no, after-good, answer-good, answer-refused}
 use Rattle.grid.proofs.Track.{first-in, last-in, one-cell, some-cell}
-use Rattle.count.proofs.Pigeon.{at-most-area}
 use Rattle.list.specs.List.{allOn, allSteps, noneTwice, runs}
 use Rattle.list.specs.Check.{checkWalk}
 use Rattle.list.proofs.Cells.{length-cells}
 use Rattle.list.proofs.Checks.{walk-good}
 use Rattle.list.proofs.Whole.{whole, is-whole}
-use Rattle.list.proofs.Tracks.{all-on, once, tests-track}
+use Rattle.list.proofs.Tracks.{tests-track}
 use Rattle.judge.specs.Judge.{sizesCheck, judgeCheck, judgeOf}
 use Rattle.judge.proofs.Checks.{Sized, sized, is-sized, passed, is-passed}
 
@@ -89,9 +87,6 @@ spot-refused p s list room z w other = go (noneTwice l) refl
     walks : (allOn p l ≡ true) × (allSteps l ≡ true)
     walks = walk-good p l w
 
-    few : noneTwice l ≡ true → length l ≤ area p
-    few e = at-most-area p (once l e) (all-on p l (walks .0))
-
     -- without a repeat it would be a track from s to s
     wrong : noneTwice l ≡ true → (b : Bool) → runs s s l ≡ b → b ≡ false
     wrong e true r = absurd (other (one-cell (tests-track record { on-panel = walks .0; steps = walks .1; once = e; ends = r })))
@@ -99,7 +94,7 @@ spot-refused p s list room z w other = go (noneTwice l) refl
 
     go : (b : Bool) → noneTwice l ≡ b → judgeOf p s s list room ≡ Refused (cond b WrongEnds Repeated)
     go true e =
-        let ends = expect-yes TooManyCells _ (le-leb (length l) (area p) (few e)) (expect-no WrongEnds Good (wrong e (runs s s l) refl)) in
+        let ends = expect-no WrongEnds Good (wrong e (runs s s l) refl) in
         sym (answer-refused Refused _ (sym (after-good _ z (after-good _ w (expect-yes Repeated _ e ends)))))
     go false e = sym (answer-refused Refused _ (sym (after-good _ z (after-good _ w (expect-no Repeated _ e)))))
 
