@@ -3,17 +3,18 @@ use Prim.Native.Nat.{ℕ, _≤_}
 use native.Mathlib.Omega.{arith}
 use mathlib.Core.Path.{_≡_, refl, sym, ap}
 use mathlib.Core.Bool.{true}
-use mathlib.Core.List.{List}
+use mathlib.Core.List.{List, [], _∷_}
 use lib.Dec.{leb}
 use lib.ListN.{length}
 use borrow.Author.Tests.{leb-true, le-leb}
 use Rattle.grid.specs.declared.Panel.{Panel}
 use Rattle.grid.specs.declared.Cell.{Cell}
 use Rattle.grid.specs.declared.Refusal.{Refusal}
-use Rattle.grid.specs.declared.Refusal.the-variants.{WrongEnds}
+use Rattle.grid.specs.declared.Refusal.the-variants.{CellOff, Repeated, WrongEnds}
+use Rattle.grid.specs.declared.Check.{Check}
 use Rattle.grid.specs.declared.Check.the-variants.{Good, Refused}
 use Rattle.grid.specs.declared.CellsAnswer.the-variants as answers
-use Rattle.grid.specs.Panel.{area}
+use Rattle.grid.specs.Panel.{panel, cell, area, dist, apart}
 use Rattle.grid.specs.Check.{expect, checkOrder}
 use Rattle.grid.specs.Track.{Track}
 use Rattle.grid.specs.Bytes.{cellsIn}
@@ -28,6 +29,23 @@ use Rattle.list.proofs.Tracks.{TrackTests, track-tests}
 use Rattle.pigeonhole.proofs.Long.{tested-few}
 use Rattle.scratch.specs.Scratch.{cleared}
 use Rattle.judge.specs.Judge.{sizesCheck, cellsCheck, Judges}
+
+-- ---- computed
+
+-- on a panel of 2 by 1 from (1, 1) to (2, 1)
+abbrev checked : List Cell → Check
+checked l = cellsCheck (panel 2 1 4000) (cell 1 1) (cell 2 1) l
+
+-- lists longer than the panel: the last cell a repeat, and the last but one; off the panel; a repeat and then off the panel. The first one ends
+-- elsewhere too, and 9 is tested before 11.
+pub long-shown : (checked (cell 1 1 ∷ cell 2 1 ∷ cell 1 1 ∷ []) ≡ Refused Repeated)
+    × (checked (cell 1 1 ∷ cell 2 1 ∷ cell 1 1 ∷ cell 2 1 ∷ []) ≡ Refused Repeated)
+    × (checked (cell 1 1 ∷ cell 2 1 ∷ cell 3 1 ∷ []) ≡ Refused CellOff)
+    × (checked (cell 1 1 ∷ cell 2 1 ∷ cell 1 1 ∷ cell 0 1 ∷ []) ≡ Refused CellOff)
+unfolding apart dist
+long-shown = (refl, refl, refl, refl)
+
+-- ---- what passed checks say
 
 -- what is known once the refusals before 7 are passed
 pub record Sized (p : Panel) (s t : Cell) (bytes room : ℕ) : Type 0 where
