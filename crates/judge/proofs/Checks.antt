@@ -89,7 +89,7 @@ is-passed {p} {l = l} r =
     (expect-yes _ _ (j .once)
     (expect-yes _ _ (j .ends) refl))
 
--- of lists of any length, those that pass have a number of cells that fits
+-- those that pass have at most 16,384 cells, of lists of any length
 pub count-small : (p : Panel) (s t : Cell) (list : List ℕ) (room : ℕ) → sizesCheck p s t (length list) room ≡ Good
     → cellsCheck p s t (cellsIn list) ≡ Good → length (cellsIn list) ≤ 16384
 count-small p s t list room z e =
@@ -111,7 +111,8 @@ module _ (p : Panel) (s t : Cell) (list old : List ℕ) where
       scratch = answer-good _ _ z f;
     }
 
-    pub all-good : cellsCheck p s t (cellsIn list) ≡ Good → {k : ℕ} → k ≡ length (cellsIn list) → Judges p s t list old new (answers.Given (record { 0 = k }))
+    pub all-good : cellsCheck p s t (cellsIn list) ≡ Good → {k : ℕ} → k ≡ length (cellsIn list)
+        → Judges p s t list old new (answers.Given (record { 0 = k }))
     all-good e n = record {
       gives = gives-cells _ _ (answer-good _ _ (sym (after-good _ z (sym e))) (ap (λ (k : ℕ). answers.Given (record { 0 = k })) n));
       scratch = answer-good _ _ z f;

@@ -29,7 +29,7 @@ use Rattle.list.proofs.Checks.{walk-good}
 use Rattle.list.proofs.Whole.{whole, is-whole}
 use Rattle.list.proofs.Tracks.{tests-track}
 use Rattle.judge.specs.Judge.{sizesCheck, judgeCheck, judgeOf}
-use Rattle.judge.proofs.Checks.{Sized, sized, is-sized, passed, is-passed}
+use Rattle.judge.proofs.Checks.{Sized, sized, is-sized, passed, is-passed, count-small}
 
 -- the bytes hold a track between two cells of a good panel, equal or not, and nothing else
 pub record TrackBytes (p : Panel) (s t : Cell) (list : List ℕ) : Type 0 where
@@ -66,6 +66,13 @@ module _ (p : Panel) (s t : Cell) (list : List ℕ) (room : ℕ) where
   -- the count is that of the list
   pub counted : (k : Cells) → judgeOf p s t list room ≡ Given k → k .0 ≡ length (cellsIn list)
   counted k e = sym (cells-good (judgeCheck p s t list room) (length (cellsIn list)) k e .1)
+
+  -- and at most 16,384, for lists of any length
+  pub counts-few : (k : Cells) → judgeOf p s t list room ≡ Given k → k .0 ≤ 16384
+  counts-few k e =
+      let (g, n) = cells-good (judgeCheck p s t list room) (length (cellsIn list)) k e in
+      let sizes = sizesCheck p s t (length list) room in
+      omega (arith, n, count-small p s t list room (after-passed sizes _ g) (after-rest sizes _ g))
 
   -- given scratch enough, Judge accepts exactly the tracks
   pub judges : area p ≤ room → ((k : Cells) × (judgeOf p s t list room ≡ Given k)) ↔ TrackBytes p s t list
