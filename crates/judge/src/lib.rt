@@ -98,9 +98,10 @@ fn check_cells(p: Panel, entry: Cell, exit: Cell, list: &[u8], scratch: &mut [u8
     ensures left { λ _. ⌜ now (scratch .exit) ≡ cleared p (now (scratch .entry)) ⌝ }
 {
     clear(p, scratch); // whatever was lent
-    let kept = walk(p, entry, list, scratch);
+    // Told before clearing, so that the kept numbers need not outlast it (docs/PERFORMANCE.md).
+    let told = verdict(exit, walk(p, entry, list, scratch));
     clear(p, scratch);
-    verdict(exit, kept)
+    told
 }
 
 // Whether the list is a track from entry to exit, and how many cells it has.
