@@ -28,7 +28,7 @@ use Rattle.list.proofs.Checks.{walk-good, is-walk-good}
 use Rattle.list.proofs.Tracks.{TrackTests, track-tests}
 use Rattle.pigeonhole.proofs.Long.{tested-few}
 use Rattle.scratch.specs.Scratch.{cleared}
-use Rattle.judge.specs.Judge.{sizesCheck, cellsCheck, Judges}
+use Rattle.judge.specs.Judge.{sizesCheck, cellsCheck, judgeCheck, Judges}
 
 -- ---- computed
 
@@ -90,11 +90,12 @@ is-passed {p} {l = l} r =
     (expect-yes _ _ (j .ends) refl))
 
 -- those that pass have at most 16,384 cells, of lists of any length
-pub count-small : (p : Panel) (s t : Cell) (list : List ℕ) (room : ℕ) → sizesCheck p s t (length list) room ≡ Good
-    → cellsCheck p s t (cellsIn list) ≡ Good → length (cellsIn list) ≤ 16384
-count-small p s t list room z e =
-    let j = passed p s t (cellsIn list) e in
-    omega (arith, tested-few p (cellsIn list) (j .on-panel) (j .once), area-small (sized p s t (length list) room z .ordered .panel .sides))
+pub count-small : (p : Panel) (s t : Cell) (list : List ℕ) (room : ℕ) → judgeCheck p s t list room ≡ Good → length (cellsIn list) ≤ 16384
+count-small p s t list room e =
+    let sizes = sizesCheck p s t (length list) room in
+    let z = sized p s t (length list) room (after-passed sizes _ e) in
+    let j = passed p s t (cellsIn list) (after-rest sizes _ e) in
+    omega (arith, tested-few p (cellsIn list) (j .on-panel) (j .once), area-small (z .ordered .panel .sides))
 
 -- the promise, where the sizes are refused, where the cells are, and where all is good
 module _ (p : Panel) (s t : Cell) (list old : List ℕ) where

@@ -71,8 +71,7 @@ module _ (p : Panel) (s t : Cell) (list : List ℕ) (room : ℕ) where
   pub counts-few : (k : Cells) → judgeOf p s t list room ≡ Given k → k .0 ≤ 16384
   counts-few k e =
       let (g, n) = cells-good (judgeCheck p s t list room) (length (cellsIn list)) k e in
-      let sizes = sizesCheck p s t (length list) room in
-      omega (arith, n, count-small p s t list room (after-passed sizes _ g) (after-rest sizes _ g))
+      omega (arith, n, count-small p s t list room g)
 
   -- given scratch enough, Judge accepts exactly the tracks
   pub judges : area p ≤ room → ((k : Cells) × (judgeOf p s t list room ≡ Given k)) ↔ TrackBytes p s t list

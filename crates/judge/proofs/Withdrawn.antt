@@ -45,10 +45,10 @@ module _ (ten : Refusal) (p : Panel) (s t : Cell) where
   spare true false once short k h = refl
   spare false steps once short k h = refl
 
-  pub check-same : (l : List Cell) → cellsCheckWithTen l ≡ cellsCheck p s t l
-  check-same l =
+  pub check-without-ten : (l : List Cell) → cellsCheckWithTen l ≡ cellsCheck p s t l
+  check-without-ten l =
       spare (allOn p l) (allSteps l) (noneTwice l) (leb (length l) (area p)) _ (λ on once. le-leb (length l) (area p) (tested-few p l on once))
 
-  pub answer-same : (list : List ℕ) (room : ℕ) → judgeOfWithTen list room ≡ judgeOf p s t list room
-  answer-same list room =
-      ap (λ (c : Check). cellsAnswer (after (sizesCheck p s t (length list) room) c) (length (cellsIn list))) (check-same (cellsIn list))
+  pub answer-without-ten : (list : List ℕ) (room : ℕ) → judgeOfWithTen list room ≡ judgeOf p s t list room
+  answer-without-ten list room =
+      ap (λ (c : Check). cellsAnswer (after (sizesCheck p s t (length list) room) c) (length (cellsIn list))) (check-without-ten (cellsIn list))

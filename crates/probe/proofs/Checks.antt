@@ -84,7 +84,7 @@ module _ (p : Panel) (s t : Cell) (list old : List ℕ) {new : List ℕ} {j : Ce
           probed = record { good = is-sides (sizes .ordered .panel .sides); on = o; few = leb-true _ _ most };
           inside = tests .on-panel;
           once = tests .once;
-          short = omega (arith, count-small p s t list (length old) sizes-good cells-good, length-cells list, whole (length list) (sizes .whole) .1);
+          short = omega (arith, count-small p s t list (length old) good, length-cells list, whole (length list) (sizes .whole) .1);
         }
 
 -- ---- the promise

@@ -9,6 +9,7 @@ use Rattle.grid.specs.declared.Check.{Check}
 use Rattle.grid.specs.declared.Check.the-variants.{Good}
 use Rattle.grid.specs.Bytes.{cellsIn}
 use Rattle.grid.proofs.Facts.{is-sides}
+use Rattle.grid.proofs.Tests.{after-good}
 use Rattle.list.proofs.Cells.{length-cells}
 use Rattle.judge.specs.Judge.{sizesCheck, cellsCheck}
 use Rattle.judge.proofs.Checks.{Sized, sized, count-small, sizes-refused, cells-refused, all-good}
@@ -49,7 +50,8 @@ few : (c : tie.After-enum-told2) → length (cellsIn (list-of c)) ≤ 16384
 few c =
     let a = started c .args in
     let d = c .before .before .before .before in
-    count-small (a .p) (a .entry) (a .exit) (list-of c) (length (a .scratch .now)) (sizes-good (d .before .before)) (cells-told d (c .enum-told2 .given .1))
+    count-small (a .p) (a .entry) (a .exit) (list-of c) (length (a .scratch .now))
+    (sym (after-good _ (sizes-good (d .before .before)) (sym (cells-told d (c .enum-told2 .given .1)))))
 
 check-sizes-requires : tie.Need-check-sizes-requires
 check-sizes-requires c κs = search needs
