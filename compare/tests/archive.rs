@@ -1,6 +1,6 @@
 //! The archive's calls beside the independent implementation: every pair up to 8 by 8, equal or not, every
-//! fault beside every pitch, every short list on a small panel, and more than a million random and hostile
-//! calls, fixed by their seeds.
+//! fault beside every pitch, every short list on a small panel, lists longer than the panel, and more than a
+//! million random and hostile calls, fixed by their seeds.
 
 mod common;
 
@@ -340,7 +340,7 @@ fn faults_behind_all_cells_of_a_panel() {
         let (back, last, off) = ([back_x, back_y], [last_x, last_y], [last_x, last_y + 1]);
         let ends = [(u32::from(last_x), u32::from(last_y)), (1, 1), (u32::from(back_x), u32::from(back_y))];
         for order in ends.map(|exit| Order::new(width, height, USUAL, (1, 1), exit)) {
-            let mut refusal = |behind: &[[u8; 2]]| {
+            let refusal = |behind: &[[u8; 2]]| {
                 let list = [&all[..], &behind.concat()].concat();
                 compare_judge(&order, &list, &mut vec![0xA5; order.area() + 3]).refusal
             };
@@ -355,13 +355,14 @@ fn faults_behind_all_cells_of_a_panel() {
 }
 
 /// So many cells to and fro on a panel of two that 8, 16 or 24 bits do not hold their number, the count's own 24
-/// among them: refused 9, and 7 with a last cell off the panel.
+/// among them; cut to so many bits it would be 2, as many as the panel has. Refused 9, and 7 with a last cell off
+/// the panel.
 #[test]
 fn lists_far_longer_than_the_panel() {
     let order = Order::new(1, 2, USUAL, (1, 1), (1, 2));
     for cells in [1 << 8, 1 << 16, 1 << 24].map(|full| full + 2) {
         let mut list = [1, 1, 1, 2].repeat(cells / 2);
-        let mut refusal = |list: &[u8]| {
+        let refusal = |list: &[u8]| {
             let mut scratch = [0xA5; 3];
             let answer = archive::judge(&order, list, &mut scratch);
             assert_eq!((answer.class, answer.count, scratch), (0, 0, [0, 0, 0xA5]), "{cells} cells");

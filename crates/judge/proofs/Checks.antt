@@ -36,8 +36,8 @@ use Rattle.judge.specs.Judge.{sizesCheck, cellsCheck, judgeCheck, Judges
 abbrev checked : List Cell → Check
 checked l = cellsCheck (panel 2 1 4000) (cell 1 1) (cell 2 1) l
 
--- lists longer than the panel: the last cell a repeat, and the last but one; off the panel; a repeat and then off the panel. The first one ends
--- elsewhere too, and 9 is tested before 11.
+-- lists longer than the panel: a repeat at the end; two; a cell off the panel; a repeat, then a cell off it. The first ends elsewhere too: 9 is
+-- tested before 11.
 pub long-shown : (checked (cell 1 1 ∷ cell 2 1 ∷ cell 1 1 ∷ []) ≡ Refused Repeated)
     × (checked (cell 1 1 ∷ cell 2 1 ∷ cell 1 1 ∷ cell 2 1 ∷ []) ≡ Refused Repeated)
     × (checked (cell 1 1 ∷ cell 2 1 ∷ cell 3 1 ∷ []) ≡ Refused CellOff)
@@ -89,7 +89,7 @@ is-passed {p} {l = l} r =
     (expect-yes _ _ (j .once)
     (expect-yes _ _ (j .ends) refl))
 
--- those that pass have at most 16,384 cells, of lists of any length
+-- a list that passes all tests has at most 16,384 cells, however long lists may be
 pub count-small : (p : Panel) (s t : Cell) (list : List ℕ) (room : ℕ) → judgeCheck p s t list room ≡ Good → length (cellsIn list) ≤ 16384
 count-small p s t list room e =
     let sizes = sizesCheck p s t (length list) room in

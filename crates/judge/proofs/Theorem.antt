@@ -67,9 +67,9 @@ module _ (p : Panel) (s t : Cell) (list : List ℕ) (room : ℕ) where
   pub counted : (k : Cells) → judgeOf p s t list room ≡ Given k → k .0 ≡ length (cellsIn list)
   counted k e = sym (cells-good (judgeCheck p s t list room) (length (cellsIn list)) k e .1)
 
-  -- and at most 16,384, for lists of any length
-  pub counts-few : (k : Cells) → judgeOf p s t list room ≡ Given k → k .0 ≤ 16384
-  counts-few k e =
+  -- and at most 16,384, however long lists may be
+  pub counted-small : (k : Cells) → judgeOf p s t list room ≡ Given k → k .0 ≤ 16384
+  counted-small k e =
       let (g, n) = cells-good (judgeCheck p s t list room) (length (cellsIn list)) k e in
       omega (arith, n, count-small p s t list room g)
 

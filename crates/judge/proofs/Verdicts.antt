@@ -46,8 +46,8 @@ module _ (p : Panel) (s t : Cell) (l : List Cell) {k : Kept} {marks : List ℕ} 
       pub repeated : k .twice ≢ 0 → Refused Repeated ≡ cellsCheck p s t l
       repeated n = after-good _ walked (expect-no _ _ (sym (kept .twice) ∙ ne-eqb _ _ n))
 
-      pub ended : k .twice ≡ 0 → {r : Check} → r ≡ expect (k .begins && sameCell (cell (k .x) (k .y)) t) WrongEnds Good → r ≡ cellsCheck p s t l
-      ended once e =
+      pub ends-told : k .twice ≡ 0 → {r : Check} → r ≡ expect (k .begins && sameCell (cell (k .x) (k .y)) t) WrongEnds Good → r ≡ cellsCheck p s t l
+      ends-told once e =
           after-good _ walked
           (expect-yes _ _ (sym (kept .twice) ∙ eq-eqb _ _ once)
           (e ∙ (λ i. expect (kept .begins i && sameCell (kept .last i) t) WrongEnds Good) ∙ (λ i. expect (runs-is s t l i) WrongEnds Good)))

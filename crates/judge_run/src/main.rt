@@ -1,5 +1,5 @@
-// Runs Judge on lists with each fault, with several at once in both orders, and on the largest
-// panel. Each line gives the refusal (0 where accepted), the count, and how many bytes of scratch,
+// Runs Judge on lists with each fault, with several at once in both orders, longer than the panel, and on
+// the largest panel. Each line gives the refusal (0 where accepted), the count, and how many bytes of scratch,
 // filled with 255 before, are 0 and 255 after.
 use grid::Cell;
 use grid::Panel;
@@ -156,7 +156,7 @@ fn repeated() {
     try_list(b"\x03\x01\x02\x01\x03\x01");
 }
 
-// More cells than the panel has. Behind a track over all of it: a repeat, with 11 and without; the track once more;
+// More cells than the panel has. Behind a track over all of it: two cells again, with 11 and without; all of them;
 // a cell off the panel, below it and left of it; a repeat and then a cell off the panel, and the other way round; a
 // jump to a cell passed before, alone and with a cell off the panel behind it. At last around the panel, back to
 // where it began, for equal terminals.

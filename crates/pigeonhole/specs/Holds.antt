@@ -9,15 +9,16 @@ use Rattle.grid.specs.Panel.{OnPanel}
 use Rattle.list.specs.List.{nth}
 
 -- the cell at some place has the property
-pub record Holds (P : Cell → Type 0) (l : List Cell) : Type 0 where
+pub record Any (P : Cell → Type 0) (l : List Cell) : Type 0 where
   pub place : ℕ
   pub there : place < length l
   pub has : P (nth l place)
 
+-- some cell is off the panel
 abbrev pub HoldsCellOff : Panel → List Cell → Type 0
-HoldsCellOff p l = Holds (λ c. ¬ OnPanel p c) l
+HoldsCellOff p l = Any (λ c. ¬ OnPanel p c) l
 
--- a later place has the cell of an earlier one
+-- some cell stands twice: a later place has the cell of an earlier one
 pub record HoldsRepeat (l : List Cell) : Type 0 where
   pub first : ℕ
   pub later : ℕ

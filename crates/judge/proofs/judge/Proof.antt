@@ -1,4 +1,4 @@
--- The tests of the sizes, then those of the cells; a count that is given is at most mn, so that it fits.
+-- The tests of the sizes, then those of the cells; a count that is given is at most 16,384, so that it fits.
 use Prim.Native.Nat.{ℕ, _≤_}
 use native.Mathlib.Omega.{arith}
 use borrow.Author.Needs.{needs}

@@ -31,7 +31,7 @@ returns-4 c =
     let e = c .before .before in
     let n = e .before .before in
     record {
-      told = λ p s l marks z. verdicts.ended p s _ l z (n .before .before .if1 .left) (n .if2 .left) (e .if3 .left)
+      told = λ p s l marks z. verdicts.ends-told p s _ l z (n .before .before .if1 .left) (n .if2 .left) (e .if3 .left)
           (c .expect .ensures ∙ ap (λ (b : Bool). expect b WrongEnds Good) (c .before .ends-at .ensures));
     }
 
