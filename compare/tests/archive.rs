@@ -354,9 +354,8 @@ fn faults_behind_all_cells_of_a_panel() {
     }
 }
 
-/// So many cells to and fro on a panel of two that 8, 16 or 24 bits do not hold their number, the count's own 24
-/// among them; cut to so many bits it would be 2, as many as the panel has. Refused 9, and 7 with a last cell off
-/// the panel.
+/// To and fro on a panel of two, with more cells than 8, 16 or 24 bits can count (a packed count has 24); cut to so
+/// many bits the number would be 2, as many as the panel has. Refused 9, and 7 with a last cell off the panel.
 #[test]
 fn lists_far_longer_than_the_panel() {
     let order = Order::new(1, 2, USUAL, (1, 1), (1, 2));

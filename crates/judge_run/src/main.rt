@@ -318,8 +318,8 @@ fn try_two_more(a: Cell, b: Cell) {
     try_order(panel_of(128, 128, PITCH), entry, exit, &list, &mut scratch);
 }
 
-// A repeat and the last cell once more, which the list may end at; a repeat and a cell off the panel, and the
-// other way round.
+// A repeat and the last cell once more, which is the exit; a repeat and a cell off the panel, and the other way
+// round.
 fn large_and_longer() {
     let above = Cell { x: 1, y: 127 };
     let below = Cell { x: 1, y: 129 };
