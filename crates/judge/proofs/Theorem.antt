@@ -18,7 +18,7 @@ use Rattle.grid.specs.Panel.{goodPanel, area}
 use Rattle.grid.specs.Track.{Track}
 use Rattle.grid.specs.Bytes.{cellsIn, front}
 use Rattle.grid.proofs.Answers.{cells-good}
-use Rattle.grid.proofs.Facts.{good, is-good}
+use Rattle.grid.proofs.Facts.{test-fails, good, is-good}
 use Rattle.grid.proofs.Passed.{after-passed, after-rest}
 use Rattle.grid.proofs.Tests.{expect-yes, expect-no, after-good, answer-good, answer-refused}
 use Rattle.grid.proofs.Track.{first-in, last-in, one-cell, some-cell}
@@ -94,13 +94,14 @@ spot-refused p s list room z w other = go (noneTwice l) refl
     walks = walk-good p l w
 
     -- without a repeat it would be a track from s to s
-    wrong : noneTwice l ≡ true → (b : Bool) → runs s s l ≡ b → b ≡ false
-    wrong e true r = absurd (other (one-cell (tests-track record { on-panel = walks .0; steps = walks .1; once = e; ends = r })))
-    wrong e false r = refl
+    wrong : noneTwice l ≡ true → runs s s l ≡ false
+    wrong e =
+        test-fails (runs s s l)
+        (λ r. other (one-cell (tests-track record { on-panel = walks .0; steps = walks .1; once = e; ends = r })))
 
     go : (b : Bool) → noneTwice l ≡ b → judgeOf p s s list room ≡ Refused (cond b WrongEnds Repeated)
     go true e =
-        let ends = expect-no WrongEnds Good (wrong e (runs s s l) refl) in
+        let ends = expect-no WrongEnds Good (wrong e) in
         sym (answer-refused Refused _ (sym (after-good _ z (after-good _ w (expect-yes Repeated _ e ends)))))
     go false e = sym (answer-refused Refused _ (sym (after-good _ z (after-good _ w (expect-no Repeated _ e)))))
 

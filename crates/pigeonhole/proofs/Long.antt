@@ -13,7 +13,7 @@ use Rattle.grid.specs.declared.Panel.{Panel}
 use Rattle.grid.specs.declared.Cell.{Cell}
 use Rattle.grid.specs.Panel.{OnPanel, cell, onPanel, sameCell, area}
 use Rattle.grid.specs.Track.{All, Once}
-use Rattle.grid.proofs.Facts.{on, is-on, same-eq, same-ne}
+use Rattle.grid.proofs.Facts.{test-fails, on, is-on, same-eq, same-ne}
 use Rattle.count.proofs.Pigeon.{at-most-area}
 use Rattle.list.specs.List.{allOn, among, noneTwice}
 use Rattle.list.proofs.Indexed.{on-index, new-index, among-index}
@@ -73,19 +73,15 @@ tested-few p l on-panel none-twice = at-most-area p (once l none-twice) (all-on 
 
 -- ---- a list holds one exactly if its test fails
 
-fails : (b : Bool) → b ≢ true → b ≡ false
-fails true n = absurd (n refl)
-fails false n = refl
-
 -- what is one or the other, and passes a test in the one case, is the other where the test fails
 failed : {A B : Type 0} {b : Bool} → A ⊎ B → (A → b ≡ true) → b ≡ false → B
 failed r passes e = ⊎-elim (λ a. absurd (false≢true (sym e ∙ passes a))) (λ b. b) r
 
 pub off-tested : (p : Panel) (l : List Cell) → HoldsCellOff p l ↔ (allOn p l ≡ false)
-off-tested p l = (λ h. fails (allOn p l) (λ e. h .has (on-index p l (h .place) e (h .there))), failed (all-or-any (on-or-off p) l) is-all-on)
+off-tested p l = (λ h. test-fails (allOn p l) (λ e. h .has (on-index p l (h .place) e (h .there))), failed (all-or-any (on-or-off p) l) is-all-on)
 
 pub repeat-tested : (l : List Cell) → HoldsRepeat l ↔ (noneTwice l ≡ false)
-repeat-tested l = (λ h. fails (noneTwice l) (again h), failed (once-or-repeat l) is-once)
+repeat-tested l = (λ h. test-fails (noneTwice l) (again h), failed (once-or-repeat l) is-once)
   where
     -- the later cell would be new, and stands before
     again : HoldsRepeat l → noneTwice l ≢ true
