@@ -29,8 +29,9 @@
 extern "C" {
 #endif
 
-/* Why a call refuses. The first that holds, in the order given at each call, is the one. 4 is withdrawn (it
- * was for equal terminals, which are accepted now) and stays free; 12 to 17 and 20 are given by calls that C
+/* Why a call refuses. The first that holds, in the order given at each call, is the one. Two are withdrawn and
+ * stay free: 4 was for equal terminals, which are accepted now, and 10 for a list with more cells than the
+ * panel, which could not come: such a list meets 7, 8 or 9 before. 12 to 17 and 20 are given by calls that C
  * does not have. */
 enum foil_refusal {
     FOIL_OK = 0,                /* nothing is refused */
@@ -42,7 +43,6 @@ enum foil_refusal {
     FOIL_CELL_OFF = 7,          /* some cell of the list is off the panel */
     FOIL_NOT_NEIGHBOURS = 8,    /* some two successive cells are not neighbours */
     FOIL_REPEATED = 9,          /* some cell stands twice */
-    FOIL_TOO_MANY_CELLS = 10,   /* the list has more cells than the panel */
     FOIL_WRONG_ENDS = 11,       /* the first cell is not the entry, or the last not the exit */
     FOIL_PITCH = 18,            /* the pitch is below 1,000 or above 10,000; looked at right after 1 */
     FOIL_BENCH_SIDE = 19        /* a side is from 33 to 128; bench calls only, looked at right after 18 */
@@ -84,7 +84,7 @@ uint64_t foil_draw(uint32_t m, uint32_t n, uint32_t pitch,
 /* Judge: whether a list is a track from entry to exit, and its number of cells. It need not be longest.
  * For equal terminals the list of that one cell is accepted, and no other.
  * Refused, in order: 1, 18, 2, 3; 6; 5, the scratch is shorter than m * n bytes (FOIL_MAX_CELLS are
- * always enough); 7, 8, 9, 10, 11, each over the whole list before the next.
+ * always enough); 7, 8, 9, 11, each over the whole list before the next.
  * After: the list is as before. A refusal of 1, 18, 2, 3, 6 or 5 leaves the scratch as before;
  * otherwise, accepted or refused, its first m * n bytes are 0 and the rest as before. The class is 0. */
 uint64_t foil_judge(uint32_t m, uint32_t n, uint32_t pitch,
@@ -110,8 +110,8 @@ uint64_t foil_bench_draw(uint32_t m, uint32_t n, uint32_t pitch,
                          uint8_t *buffer, size_t buffer_len);
 
 /* Judge for the bench.
- * Refused, in order: 1, 18, 19, 2, 3; 6; 5, the scratch is shorter than m * n bytes; 7, 8, 9, 10, 11, each over
- * the whole list before the next.
+ * Refused, in order: 1, 18, 19, 2, 3; 6; 5, the scratch is shorter than m * n bytes; 7, 8, 9, 11, each over the
+ * whole list before the next.
  * After: the list is as before. A refusal of 1, 18, 19, 2, 3, 6 or 5 leaves the scratch as before; otherwise,
  * accepted or refused, its first m * n bytes are 0 and the rest as before. The class is 0. */
 uint64_t foil_bench_judge(uint32_t m, uint32_t n, uint32_t pitch,

@@ -428,8 +428,8 @@ static void judge_lists(struct order o, const struct judged *cases, size_t size)
         }
 }
 
-/* One list for each refusal of the cells, and two faults at once in both orders; on wider panels too, where 19
- * stands before each. */
+/* One list for each refusal of the cells, two faults at once in both orders, and behind all six cells a repeat, a
+ * cell off the panel, and both; on wider panels too, where 19 stands before each. */
 static void lists(void)
 {
     static const struct judged cases[] = {
@@ -445,6 +445,10 @@ static void lists(void)
         {FOIL_NOT_NEIGHBOURS, 0, 10, {1, 1, 2, 1, 1, 1, 3, 1, 1, 2}},
         {FOIL_REPEATED, 0, 8, {1, 1, 2, 1, 1, 1, 1, 2}},
         {FOIL_REPEATED, 0, 14, {1, 1, 2, 1, 3, 1, 3, 2, 2, 2, 1, 2, 1, 1}},
+        {FOIL_REPEATED, 0, 16, {1, 1, 2, 1, 3, 1, 3, 2, 2, 2, 1, 2, 1, 1, 1, 2}},
+        {FOIL_CELL_OFF, 0, 14, {1, 1, 2, 1, 3, 1, 3, 2, 2, 2, 1, 2, 1, 3}},
+        {FOIL_CELL_OFF, 0, 16, {1, 1, 2, 1, 3, 1, 3, 2, 2, 2, 1, 2, 1, 1, 1, 0}},
+        {FOIL_CELL_OFF, 0, 16, {1, 1, 2, 1, 3, 1, 3, 2, 2, 2, 1, 2, 1, 3, 1, 2}},
         {FOIL_WRONG_ENDS, 0, 4, {1, 2, 1, 1}},
         {FOIL_WRONG_ENDS, 0, 4, {1, 1, 2, 1}},
         {FOIL_WRONG_ENDS, 0, 2, {1, 1}},

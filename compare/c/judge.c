@@ -44,8 +44,6 @@ static uint64_t walk(uint32_t m, uint32_t n, uint32_t sx, uint32_t sy, uint32_t 
         return refuse(8);
     if (twice)
         return refuse(9);
-    if (len / 2 > (size_t)m * n)
-        return refuse(10);
     if (list[0] != sx || list[1] != sy || last_x != tx || last_y != ty)
         return refuse(11);
     return len / 2;

@@ -7,11 +7,8 @@ fn wide(&[x, y]: &[u8; 2]) -> (u32, u32) {
     (u32::from(x), u32::from(y))
 }
 
-/// The last refusals of the cells, then their number.
+/// The last refusal of the cells, then their number.
 fn judge_ends(order: &Order, cells: &[[u8; 2]]) -> Result<u32, Refusal> {
-    if cells.len() > order.area() {
-        return Err(Refusal::TooManyCells);
-    }
     if cells.first().map(wide) != Some(order.entry) || cells.last().map(wide) != Some(order.exit) {
         return Err(Refusal::WrongEnds);
     }

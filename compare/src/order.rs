@@ -15,8 +15,8 @@ pub struct Order {
     pub exit: Cell,
 }
 
-/// Why a call refuses, with document 01's number, or a later request's. R-6 withdrew 4, which stays free; 12 to
-/// 17 and 20 are of calls that the archive does not have.
+/// Why a call refuses, with document 01's number, or a later request's. R-6 withdrew 4 and R-9 10, which stay
+/// free; 12 to 17 and 20 are of calls that the archive does not have.
 #[derive(Clone, Copy, Debug, PartialEq, Eq)]
 #[repr(u32)]
 pub enum Refusal {
@@ -28,7 +28,6 @@ pub enum Refusal {
     CellOff = 7,
     NotNeighbours = 8,
     Repeated = 9,
-    TooManyCells = 10,
     WrongEnds = 11,
     Pitch = 18,
     BenchSide = 19,

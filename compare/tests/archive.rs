@@ -1,6 +1,6 @@
 //! The archive's calls beside the independent implementation: every pair up to 8 by 8, equal or not, every
-//! fault beside every pitch, every short list on a small panel, and more than a million random and hostile
-//! calls, fixed by their seeds.
+//! fault beside every pitch, every short list on a small panel, lists longer than the panel, and more than a
+//! million random and hostile calls, fixed by their seeds.
 
 mod common;
 
@@ -50,7 +50,7 @@ fn compare_judge(order: &Order, list: &[u8], scratch: &mut [u8]) -> Answer {
     assert_eq!(answer, expected, "{order:?} {list:?}, scratch of {}", own.len());
     assert!(*scratch == own[..], "{order:?} {list:?}: scratch");
     // What is tested before the cells leaves the scratch, 18 too.
-    let cells_looked_at = matches!(answer.refusal, 0 | 7..=11);
+    let cells_looked_at = matches!(answer.refusal, 0 | 7..=9 | 11);
     assert!(cells_looked_at || *scratch == before[..], "{order:?} {list:?}: scratch touched");
     // The forms that are only timed.
     let once: Judge = |o, l, s| packed(&judge_once(o, l, s), |&count| (0, count));
@@ -264,7 +264,6 @@ fn random_and_hostile_judgements() {
         let list = list_for(&mut random, &order);
         met.note(&order, compare_judge(&order, &list, &mut scratch_for(&mut random, &order)));
     }
-    // 10 is never met: more than mn cells of the panel have one twice, which is 9.
     met.at_least(100, &[0, 1, 18, 2, 3, 5, 6, 7, 8, 9, 11]);
     met.spots_at_least(100);
 }
@@ -293,6 +292,85 @@ fn every_short_list() {
     }
     met.at_least(1, &[0, 6, 7, 8, 9, 11]);
     met.spots_at_least(4);
+}
+
+/// Every list of mn + 1 cells, on a small panel or at one of two places beside it, for every two terminals: the
+/// refusal, told without either implementation, is 7, 8 or 9.
+#[test]
+fn every_list_of_a_cell_more_than_the_panel() {
+    let mut met = Met::new();
+    for (width, height) in [(1, 1), (2, 1), (1, 3), (2, 2)] {
+        let panel = (1..=width).flat_map(|x| (1..=height).map(move |y| (x, y)));
+        let cells: Vec<Cell> = panel.chain([(0, 1), (1, height + 1)]).collect();
+        let longer = |lists: Vec<Vec<Cell>>| -> Vec<Vec<Cell>> {
+            lists.iter().flat_map(|list| cells.iter().map(|&cell| [&list[..], &[cell]].concat())).collect()
+        };
+        let lists = (0..=width * height).fold(vec![vec![]], |lists, _| longer(lists));
+        for order in pairs(width, height, USUAL) {
+            for list in &lists {
+                let jump = |pair: &[Cell]| pair[0].0.abs_diff(pair[1].0) + pair[0].1.abs_diff(pair[1].1) != 1;
+                let expected = match () {
+                    _ if list.iter().any(|&(x, y)| x == 0 || y > height) => 7,
+                    _ if list.windows(2).any(jump) => 8,
+                    _ => 9,
+                };
+                let bytes: Vec<u8> = list.iter().copied().flat_map(bytes).collect();
+                let answer = compare_judge(&order, &bytes, &mut [0xA5; 5]);
+                assert_eq!(answer, Answer { refusal: expected, class: 0, count: 0 }, "{order:?} {list:?}");
+                met.note(&order, answer);
+            }
+        }
+    }
+    met.at_least(1, &[7, 8, 9]);
+}
+
+/// All cells of a panel, row by row, one to the right, the next to the left.
+fn rows(width: u32, height: u32) -> Vec<u8> {
+    let row = |y| (1..=width).map(move |x| bytes((if y % 2 == 1 { x } else { width + 1 - x }, y)));
+    (1..=height).flat_map(row).flatten().collect()
+}
+
+/// Late faults, told without either implementation: behind all cells of a panel a repeat, a cell off the panel,
+/// and both, with the right ends and wrong ones.
+#[test]
+fn faults_behind_all_cells_of_a_panel() {
+    for (width, height) in [(2, 1), (1, 2), (3, 2), (7, 5), (128, 1), (1, 128), (32, 32), (33, 3), (128, 128)] {
+        let all = rows(width, height);
+        let [.., back_x, back_y, last_x, last_y] = all[..] else { unreachable!() };
+        let (back, last, off) = ([back_x, back_y], [last_x, last_y], [last_x, last_y + 1]);
+        let ends = [(u32::from(last_x), u32::from(last_y)), (1, 1), (u32::from(back_x), u32::from(back_y))];
+        for order in ends.map(|exit| Order::new(width, height, USUAL, (1, 1), exit)) {
+            let refusal = |behind: &[[u8; 2]]| {
+                let list = [&all[..], &behind.concat()].concat();
+                compare_judge(&order, &list, &mut vec![0xA5; order.area() + 3]).refusal
+            };
+            assert_eq!(refusal(&[]), if order.exit == ends[0] { 0 } else { 11 }, "{order:?}");
+            assert_eq!(refusal(&[back]), 9, "{order:?}: a repeat");
+            assert_eq!(refusal(&[back, last]), 9, "{order:?}: two repeats");
+            assert_eq!(refusal(&[off]), 7, "{order:?}: a cell off the panel");
+            assert_eq!(refusal(&[back, last, off]), 7, "{order:?}: a repeat, then off the panel");
+            assert_eq!(refusal(&[off, last, back]), 7, "{order:?}: off the panel, then a repeat");
+        }
+    }
+}
+
+/// To and fro on a panel of two, with more cells than 8, 16 or 24 bits can count (a packed count has 24); cut to so
+/// many bits the number would be 2, as many as the panel has. Refused 9, and 7 with a last cell off the panel.
+#[test]
+fn lists_far_longer_than_the_panel() {
+    let order = Order::new(1, 2, USUAL, (1, 1), (1, 2));
+    for cells in [1 << 8, 1 << 16, 1 << 24].map(|full| full + 2) {
+        let mut list = [1, 1, 1, 2].repeat(cells / 2);
+        let refusal = |list: &[u8]| {
+            let mut scratch = [0xA5; 3];
+            let answer = archive::judge(&order, list, &mut scratch);
+            assert_eq!((answer.class, answer.count, scratch), (0, 0, [0, 0, 0xA5]), "{cells} cells");
+            answer.refusal
+        };
+        assert_eq!(refusal(&list), 9, "{cells} cells");
+        *list.last_mut().unwrap() = 3;
+        assert_eq!(refusal(&list), 7, "{cells} cells");
+    }
 }
 
 /// A list along the first row of a panel of two rows, with faults in the given order between its steps: 7

@@ -1,7 +1,8 @@
 -- How many cells a track can have, by the colour that it begins with; and that nothing fits where more are wanted.
 use Prim.Native.Nat.{_≤_, _<_}
-use mathlib.Core.Path.{_≡_, refl, ap, _∙_}
-use mathlib.Core.Bool.{Bool, true, false}
+use mathlib.Core.Path.{_≡_, ap, _∙_}
+use mathlib.Core.Bool.{true}
+use mathlib.Core.Logic.{_≢_}
 use mathlib.Core.List.{List}
 use native.Mathlib.Omega.{arith}
 use lib.ListN.{length}
@@ -10,6 +11,7 @@ use Rattle.grid.specs.declared.Cell.{Cell}
 use Rattle.grid.specs.declared.Cells.{Cells}
 use Rattle.grid.specs.Panel.{OnPanel, black}
 use Rattle.grid.specs.Track.{Track}
+use Rattle.grid.proofs.Facts.{test-fails}
 use Rattle.grid.proofs.Tests.{both-branches}
 use Rattle.count.proofs.Pigeon.{at-most-area}
 use Rattle.count.proofs.Colour.{bit, black-bit, walk-black, at-most-black}
@@ -27,8 +29,7 @@ at-most p {s} {t} {l} r =
     (λ w. omega (arith, at-most-area p (r .once) (r .within)))
 
 pub none-above : (p : Panel) (s : Cell) (w : Cells) → OnPanel p s → most p s < w .0 → Nothing ≡ firstFit p s w
-none-above p s w os h = none-first (fits p s w) p (λ d o. fails d o (fits p s w d) refl)
+none-above p s w os h = none-first (fits p s w) p (λ d o. test-fails (fits p s w d) (too-long d o))
   where
-    fails : (d : Cell) → OnPanel p d → (b : Bool) → fits p s w d ≡ b → fits p s w d ≡ false
-    fails d o true e = let x = fit-exit p s w d os o e in absurd (omega (arith, h, x .enough, at-most p (x .track)))
-    fails d o false e = e
+    too-long : (d : Cell) → OnPanel p d → fits p s w d ≢ true
+    too-long d o e = let x = fit-exit p s w d os o e in omega (arith, h, x .enough, at-most p (x .track))

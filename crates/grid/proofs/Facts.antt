@@ -18,6 +18,11 @@ use Rattle.grid.specs.Panel.{area, onPanel, OnPanel, sameCell, dist, apa
 pub clash {ℓ} : {A : Type ℓ} → _≡_ {A = ℕ} 0 1 → A
 clash e = absurd (omega arith)
 
+-- a test that cannot be passed fails
+pub test-fails : (b : Bool) → b ≢ true → b ≡ false
+test-fails true n = absurd (n refl)
+test-fails false n = refl
+
 -- ---- Boolean "and" and "or"
 
 pub and-left : (a b : Bool) → (a && b) ≡ true → a ≡ true
@@ -98,11 +103,7 @@ pub same-ne : (a b : Cell) → sameCell a b ≡ false → a ≢ b
 same-ne a b e q = true≢false (sym (eq-same q) ∙ e)
 
 pub ne-same : (a b : Cell) → a ≢ b → sameCell a b ≡ false
-ne-same a b n = go (sameCell a b) refl
-  where
-    go : (r : Bool) → sameCell a b ≡ r → sameCell a b ≡ false
-    go true e = absurd (n (same-eq a b e))
-    go false e = e
+ne-same a b n = test-fails (sameCell a b) (λ e. n (same-eq a b e))
 
 -- different in a coordinate
 pub ne-x : {a b : Cell} → a .x ≢ b .x → a ≢ b

@@ -1,5 +1,5 @@
 -- The numbers of the refusals: 1 to 17 are document 01's, 18 is R-1's, 19 R-7's, which only the bench's calls give, and 20 R-8's, which
--- only Probe gives. R-6 withdrew 4.
+-- only Probe gives. R-6 withdrew 4, R-9 withdrew 10.
 use Prim.Native.Nat.{ℕ}
 use Rattle.grid.specs.declared.Refusal.{Refusal}
 use Rattle.grid.specs.declared.Refusal.the-variants as refusal
@@ -14,7 +14,6 @@ number refusal.ListLength = 6
 number refusal.CellOff = 7
 number refusal.NotNeighbours = 8
 number refusal.Repeated = 9
-number refusal.TooManyCells = 10
 number refusal.WrongEnds = 11
 number refusal.NoExit = 12
 number refusal.OneWide = 13

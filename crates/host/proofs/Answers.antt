@@ -11,18 +11,17 @@ use Rattle.grid.specs.declared.Check.{Check}
 use Rattle.grid.specs.declared.Check.the-variants.{Good, Refused}
 use Rattle.grid.specs.declared.CellsAnswer.{CellsAnswer}
 use Rattle.grid.specs.declared.Refusal.the-variants.{ShortBuffer}
-use Rattle.grid.specs.Bytes.{cellsIn}
 use Rattle.grid.specs.Check.{checkOrder, expect}
 use Rattle.grid.specs.Answer.{given, cellsAnswer, cellsValues, GivesCells}
 use Rattle.grid.proofs.Facts.{area-small}
-use Rattle.grid.proofs.Passed.{after-passed, after-rest, good-order}
+use Rattle.grid.proofs.Passed.{after-passed, good-order}
 use Rattle.count.specs.Order.{orderClass, orderCount}
 use Rattle.count.proofs.Terminals.{order-bounds, order-class-small}
 use Rattle.bound.specs.declared.BoundAnswer.{BoundAnswer}
 use Rattle.bound.specs.Bound.{boundValues, GivesBound, Bounds}
 use Rattle.draw.specs.Draw.{drawCheck, Leaves, Draws, drawBuffer}
-use Rattle.judge.specs.Judge.{sizesCheck, cellsCheck, judgeCheck, Judges}
-use Rattle.judge.proofs.Checks.{sized, few}
+use Rattle.judge.specs.Judge.{Judges}
+use Rattle.judge.proofs.Checks.{count-small}
 use Rattle.host.specs.Host.{packed, packedBehind, PacksBound, PacksDraw, PacksJudge}
 
 -- a value is as small behind its check as where the check is good
@@ -38,13 +37,6 @@ module _ (p : Panel) (s t : Cell) where
 
   draw-small : (size : ℕ) → drawCheck p s t size ≡ Good → orderCount p s t ≤ 16384
   draw-small size e = order-small (after-passed (checkOrder p s t) (expect (leb (2 * orderCount p s t) size) ShortBuffer Good) e)
-
-  judge-small : (list : List ℕ) (room : ℕ) → judgeCheck p s t list room ≡ Good → length (cellsIn list) ≤ 16384
-  judge-small list room e =
-      let sizes = sizesCheck p s t (length list) room in
-      let cells = cellsCheck p s t (cellsIn list) in
-      let z = sized p s t (length list) room (after-passed sizes cells e) in
-      omega (arith, few p s t (cellsIn list) (after-rest sizes cells e), area-small (z .ordered .panel .sides))
 
 count-fits : (c : Check) (k : ℕ) → (c ≡ Good → k ≤ 16384) → given c k < 2 ^ 24
 count-fits c k h = omega (arith, given-most c k 16384 h)
@@ -106,7 +98,7 @@ module _ {p : Panel} {s t : Cell} {old new : List ℕ} {a : CellsAnswer} where
 
 module _ {p : Panel} {s t : Cell} {list old new : List ℕ} {a : CellsAnswer} where
   pub judge-fits : Judges p s t list old new a → CellsFit a
-  judge-fits j = fit-cells (j .gives) (judge-small p s t list (length old))
+  judge-fits j = fit-cells (j .gives) (count-small p s t list (length old))
 
   pub judge-packed : {r : ℕ} → Judges p s t list old new a → CellsPacked a r → PacksJudge p s t list old new r
   judge-packed j e = record { packs = behind-cells (j .gives) e; scratch = j .scratch }

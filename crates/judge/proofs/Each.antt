@@ -28,7 +28,7 @@ pub record State : Type 0 where
 module _ (p : Panel) (s t : Cell) (step : State → Cell → State) (verdict : Kept → Check)
     (takes : (z : State) (c : Cell) → StandsForSome p s (z .kept) (z .marks) → z .kept .bytes + 2 < 2 ^ 64
     → Takes p s (z .kept) c (z .marks) (step z c .kept) (step z c .marks))
-    (decides : (k : Kept) → Decides p t k (verdict k)) where
+    (decides : (k : Kept) → Decides t k (verdict k)) where
   -- after the cells of a list
   abbrev pub after : State → List Cell → State
   after z [] = z
@@ -47,7 +47,7 @@ module _ (p : Panel) (s t : Cell) (step : State → Cell → State) (verdict : K
     stands = stands-after [] l (begins .empty p s (start .marks) clean) (omega arith)
 
     pub each-cell : verdict (after start l .kept) ≡ cellsCheck p s t l
-    each-cell = decides (after start l .kept) .told s l (after start l .marks) stands
+    each-cell = decides (after start l .kept) .told p s l (after start l .marks) stands
 
     pub judged : (list : List ℕ) (room : ℕ) → cellsIn list ≡ l → sizesCheck p s t (length list) room ≡ Good
         → judgeOf p s t list room ≡ cellsAnswer (verdict (after start l .kept)) (after start l .kept .bytes / 2)

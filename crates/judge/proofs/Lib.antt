@@ -3,3 +3,4 @@ pub mod Verdicts
 pub mod Walks
 pub mod Each
 pub mod Theorem
+pub mod Withdrawn

@@ -1,5 +1,5 @@
 -- Judge accepts a list exactly if it is a track between two cells of a good panel, equal or not, given scratch enough, and the count that it
--- gives is that of the list. The tests are the parts of a track (list/proofs/Tracks.antt); that there are at most mn cells then follows.
+-- gives is that of the list. The tests are the parts of a track (list/proofs/Tracks.antt).
 use Prim.Native.Nat.{ℕ, _*_, _%_, _≤_}
 use native.Mathlib.Omega.{arith}
 use mathlib.Core.Path.{_≡_, refl, sym, ap, _∙_}
@@ -8,30 +8,28 @@ use mathlib.Core.Logic.{_≢_, _↔_}
 use mathlib.Core.List.{List, [], _∷_}
 use lib.ListN.{length, take}
 use lib.Seq.{length-take-le}
-use borrow.Author.Tests.{le-leb}
 use Rattle.grid.specs.declared.Panel.{Panel}
 use Rattle.grid.specs.declared.Cell.{Cell}
 use Rattle.grid.specs.declared.Cells.{Cells}
 use Rattle.grid.specs.declared.Check.the-variants.{Good}
-use Rattle.grid.specs.declared.Refusal.the-variants.{Repeated, TooManyCells, WrongEnds}
+use Rattle.grid.specs.declared.Refusal.the-variants.{Repeated, WrongEnds}
 use Rattle.grid.specs.declared.CellsAnswer.the-variants.{Refused, Given}
 use Rattle.grid.specs.Panel.{goodPanel, area}
 use Rattle.grid.specs.Track.{Track}
 use Rattle.grid.specs.Bytes.{cellsIn, front}
 use Rattle.grid.proofs.Answers.{cells-good}
-use Rattle.grid.proofs.Facts.{good, is-good}
+use Rattle.grid.proofs.Facts.{test-fails, good, is-good}
 use Rattle.grid.proofs.Passed.{after-passed, after-rest}
 use Rattle.grid.proofs.Tests.{expect-yes, expect-no, after-good, answer-good, answer-refused}
 use Rattle.grid.proofs.Track.{first-in, last-in, one-cell, some-cell}
-use Rattle.count.proofs.Pigeon.{at-most-area}
 use Rattle.list.specs.List.{allOn, allSteps, noneTwice, runs}
 use Rattle.list.specs.Check.{checkWalk}
 use Rattle.list.proofs.Cells.{length-cells}
 use Rattle.list.proofs.Checks.{walk-good}
 use Rattle.list.proofs.Whole.{whole, is-whole}
-use Rattle.list.proofs.Tracks.{all-on, once, tests-track}
+use Rattle.list.proofs.Tracks.{tests-track}
 use Rattle.judge.specs.Judge.{sizesCheck, judgeCheck, judgeOf}
-use Rattle.judge.proofs.Checks.{Sized, sized, is-sized, passed, is-passed}
+use Rattle.judge.proofs.Checks.{Sized, sized, is-sized, passed, is-passed, count-small}
 
 -- the bytes hold a track between two cells of a good panel, equal or not, and nothing else
 pub record TrackBytes (p : Panel) (s t : Cell) (list : List ℕ) : Type 0 where
@@ -69,6 +67,12 @@ module _ (p : Panel) (s t : Cell) (list : List ℕ) (room : ℕ) where
   pub counted : (k : Cells) → judgeOf p s t list room ≡ Given k → k .0 ≡ length (cellsIn list)
   counted k e = sym (cells-good (judgeCheck p s t list room) (length (cellsIn list)) k e .1)
 
+  -- and at most 16,384, however long lists may be
+  pub counted-small : (k : Cells) → judgeOf p s t list room ≡ Given k → k .0 ≤ 16384
+  counted-small k e =
+      let (g, n) = cells-good (judgeCheck p s t list room) (length (cellsIn list)) k e in
+      omega (arith, n, count-small p s t list room g)
+
   -- given scratch enough, Judge accepts exactly the tracks
   pub judges : area p ≤ room → ((k : Cells) × (judgeOf p s t list room ≡ Given k)) ↔ TrackBytes p s t list
   judges h = (λ a. accepted (a .0) (a .1), λ b. (record { 0 = length (cellsIn list) }, accepts h b))
@@ -89,17 +93,15 @@ spot-refused p s list room z w other = go (noneTwice l) refl
     walks : (allOn p l ≡ true) × (allSteps l ≡ true)
     walks = walk-good p l w
 
-    few : noneTwice l ≡ true → length l ≤ area p
-    few e = at-most-area p (once l e) (all-on p l (walks .0))
-
     -- without a repeat it would be a track from s to s
-    wrong : noneTwice l ≡ true → (b : Bool) → runs s s l ≡ b → b ≡ false
-    wrong e true r = absurd (other (one-cell (tests-track record { on-panel = walks .0; steps = walks .1; once = e; ends = r })))
-    wrong e false r = refl
+    wrong : noneTwice l ≡ true → runs s s l ≡ false
+    wrong e =
+        test-fails (runs s s l)
+        (λ r. other (one-cell (tests-track record { on-panel = walks .0; steps = walks .1; once = e; ends = r })))
 
     go : (b : Bool) → noneTwice l ≡ b → judgeOf p s s list room ≡ Refused (cond b WrongEnds Repeated)
     go true e =
-        let ends = expect-yes TooManyCells _ (le-leb (length l) (area p) (few e)) (expect-no WrongEnds Good (wrong e (runs s s l) refl)) in
+        let ends = expect-no WrongEnds Good (wrong e) in
         sym (answer-refused Refused _ (sym (after-good _ z (after-good _ w (expect-yes Repeated _ e ends)))))
     go false e = sym (answer-refused Refused _ (sym (after-good _ z (after-good _ w (expect-no Repeated _ e)))))
 

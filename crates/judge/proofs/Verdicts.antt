@@ -1,18 +1,16 @@
 -- What the kept numbers say of any list that they stand for: test by test in document 01's order, each is the definition's.
-use Prim.Native.Nat.{ℕ, _/_, _≤_, _<_}
-use native.Mathlib.Omega.{arith}
+use Prim.Native.Nat.{ℕ}
 use mathlib.Core.Path.{_≡_, refl, sym, _∙_}
 use mathlib.Core.Logic.{_≢_}
 use mathlib.Core.Bool.{true, _&&_}
 use mathlib.Core.List.{List, [], _∷_}
-use lib.ListN.{length}
-use borrow.Author.Tests.{eq-eqb, ne-eqb, le-leb, lt-leb}
+use borrow.Author.Tests.{eq-eqb, ne-eqb}
 use Rattle.grid.specs.declared.Panel.{Panel}
 use Rattle.grid.specs.declared.Cell.{Cell}
-use Rattle.grid.specs.declared.Refusal.the-variants.{CellOff, NotNeighbours, Repeated, TooManyCells, WrongEnds}
+use Rattle.grid.specs.declared.Refusal.the-variants.{CellOff, NotNeighbours, Repeated, WrongEnds}
 use Rattle.grid.specs.declared.Check.{Check}
 use Rattle.grid.specs.declared.Check.the-variants.{Good, Refused}
-use Rattle.grid.specs.Panel.{cell, area, sameCell}
+use Rattle.grid.specs.Panel.{cell, sameCell}
 use Rattle.grid.specs.Check.{expect}
 use Rattle.grid.proofs.Tests.{expect-yes, expect-no, after-good, after-refused}
 use Rattle.list.specs.List.{allOn, lastFrom, runs}
@@ -20,7 +18,7 @@ use Rattle.list.specs.Check.{checkWalk}
 use Rattle.list.proofs.Checks.{is-walk-good}
 use Rattle.judge_walk.specs.declared.Kept.{Kept}
 use Rattle.judge_walk.specs.Walk.{starts, KeptOn, Stands}
-use Rattle.judge.specs.Judge.{endsCheck, cellsCheck}
+use Rattle.judge.specs.Judge.{cellsCheck}
 
 -- the first cell and the last
 runs-is : (s t : Cell) (l : List Cell) → (starts s l && sameCell (lastFrom (cell 0 0) l) t) ≡ runs s t l
@@ -48,16 +46,8 @@ module _ (p : Panel) (s t : Cell) (l : List Cell) {k : Kept} {marks : List ℕ} 
       pub repeated : k .twice ≢ 0 → Refused Repeated ≡ cellsCheck p s t l
       repeated n = after-good _ walked (expect-no _ _ (sym (kept .twice) ∙ ne-eqb _ _ n))
 
-      module _ (once : k .twice ≡ 0) where
-        then-ends : {r : Check} → r ≡ endsCheck p s t l → r ≡ cellsCheck p s t l
-        then-ends e = after-good _ walked (expect-yes _ _ (sym (kept .twice) ∙ eq-eqb _ _ once) e)
-
-        pub many : area p < k .bytes / 2 → Refused TooManyCells ≡ cellsCheck p s t l
-        many h = then-ends (expect-no _ _ (lt-leb (length l) (area p) (omega (arith, z .bytes))))
-
-        pub few : {r : Check} → k .bytes / 2 ≤ area p
-            → r ≡ expect (k .begins && sameCell (cell (k .x) (k .y)) t) WrongEnds Good → r ≡ cellsCheck p s t l
-        few h e =
-            then-ends
-            (expect-yes _ _ (le-leb (length l) (area p) (omega (arith, z .bytes)))
-            (e ∙ (λ i. expect (kept .begins i && sameCell (kept .last i) t) WrongEnds Good) ∙ (λ i. expect (runs-is s t l i) WrongEnds Good)))
+      pub ends-told : k .twice ≡ 0 → {r : Check} → r ≡ expect (k .begins && sameCell (cell (k .x) (k .y)) t) WrongEnds Good → r ≡ cellsCheck p s t l
+      ends-told once e =
+          after-good _ walked
+          (expect-yes _ _ (sym (kept .twice) ∙ eq-eqb _ _ once)
+          (e ∙ (λ i. expect (kept .begins i && sameCell (kept .last i) t) WrongEnds Good) ∙ (λ i. expect (runs-is s t l i) WrongEnds Good)))

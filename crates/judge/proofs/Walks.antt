@@ -95,11 +95,11 @@ module _ (p : Panel) (s : Cell) (list old : List ℕ) where
 
 -- the check of the cells that a walk took is that of the whole list
 pub decided : (p : Panel) (s t : Cell) (l : List Cell) {old : List ℕ} {k : Kept} {new : List ℕ} {r : Check}
-    → Walked p s l old k new → Decides p t k r → r ≡ cellsCheck p s t l
+    → Walked p s l old k new → Decides t k r → r ≡ cellsCheck p s t l
 decided p s t l {k = k} {new} {r} w d = by-off (eqb (k .off) 0) refl
   where
     taken-check : r ≡ cellsCheck p s t (w .taken)
-    taken-check = d .told s (w .taken) new (w .stands)
+    taken-check = d .told p s (w .taken) new (w .stands)
 
     refused : (m : List Cell) → allOn p m ≡ false → Refused CellOff ≡ cellsCheck p s t m
     refused m f = after-refused _ (sym (expect-no _ _ f))

@@ -6,7 +6,7 @@ use lib.Dec.{leb}
 use lib.ListN.{length}
 use Rattle.grid.specs.declared.Panel.{Panel}
 use Rattle.grid.specs.declared.Cell.{Cell}
-use Rattle.grid.specs.declared.Refusal.the-variants.{ListLength, ShortBuffer, Repeated, TooManyCells, WrongEnds}
+use Rattle.grid.specs.declared.Refusal.the-variants.{ListLength, ShortBuffer, Repeated, WrongEnds}
 use Rattle.grid.specs.declared.Check.{Check}
 use Rattle.grid.specs.declared.Check.the-variants.{Good}
 use Rattle.grid.specs.declared.CellsAnswer.{CellsAnswer}
@@ -25,13 +25,10 @@ sizesCheck p s t bytes room =
     (expect (wholeCells bytes) ListLength
     (expect (leb (area p) room) ShortBuffer Good))
 
--- 10, more than mn cells; 11, the first cell is not the entry or the last not the exit
-abbrev pub endsCheck : Panel → Cell → Cell → List Cell → Check
-endsCheck p s t l = expect (leb (length l) (area p)) TooManyCells (expect (runs s t l) WrongEnds Good)
-
--- the refusals of the cells: 7, some cell is off the panel; 8, some two successive cells are not neighbours; 9, some cell stands twice; 10; 11
+-- the refusals of the cells: 7, some cell is off the panel; 8, some two successive cells are not neighbours; 9, some cell stands twice; 11, the
+-- first cell is not the entry or the last not the exit
 abbrev pub cellsCheck : Panel → Cell → Cell → List Cell → Check
-cellsCheck p s t l = after (checkWalk p l) (expect (noneTwice l) Repeated (endsCheck p s t l))
+cellsCheck p s t l = after (checkWalk p l) (expect (noneTwice l) Repeated (expect (runs s t l) WrongEnds Good))
 
 -- all refusals, for a list of bytes and scratch of so many bytes
 abbrev pub judgeCheck : Panel → Cell → Cell → List ℕ → ℕ → Check

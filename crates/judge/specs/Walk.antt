@@ -12,9 +12,9 @@ use Rattle.judge_walk.specs.declared.Kept.{Kept}
 use Rattle.judge_walk.specs.Walk.{Stands}
 use Rattle.judge.specs.Judge.{cellsCheck}
 
--- r is the check of the cells, for every list that the kept numbers stand for
-pub record Decides (p : Panel) (t : Cell) (k : Kept) (r : Check) : Type 0 where
-  pub told : (s : Cell) (l : List Cell) (marks : List ℕ) → Stands p s l k marks → r ≡ cellsCheck p s t l
+-- r is the check of the cells, on every panel, for every list that the kept numbers stand for
+pub record Decides (t : Cell) (k : Kept) (r : Check) : Type 0 where
+  pub told : (p : Panel) (s : Cell) (l : List Cell) (marks : List ℕ) → Stands p s l k marks → r ≡ cellsCheck p s t l
 
 -- a walk over the list l: what it keeps stands for the cells that it took, which are all of them unless one is off the panel. Bytes of
 -- scratch behind the panel's places stay.

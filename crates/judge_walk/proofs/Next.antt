@@ -15,7 +15,7 @@ use Rattle.grid.specs.declared.Panel.{Panel}
 use Rattle.grid.specs.declared.Cell.{Cell}
 use Rattle.grid.specs.Panel.{cell, GoodSides, area, onPanel, OnPanel, sameCell, neighbours}
 use Rattle.grid.specs.Bytes.{InBytes}
-use Rattle.grid.proofs.Facts.{and-parts, on, is-on}
+use Rattle.grid.proofs.Facts.{test-fails, and-parts, on, is-on}
 use Rattle.list.specs.List.{squaredDistance, allOn, allSteps, among, lastFrom}
 use Rattle.list.proofs.Apart.{step-by-squares}
 use Rattle.list.proofs.Behind.{all-on-append, last-behind, steps-behind, among-behind, none-twice-behind}
@@ -60,11 +60,7 @@ not-or false b = refl
 
 -- a cell that cannot be on it
 pub is-off : (p : Panel) (c : Cell) → (OnPanel p c → ⊥) → onPanel p c ≡ false
-is-off p c n = by-test (onPanel p c) refl
-  where
-    by-test : (b : Bool) → onPanel p c ≡ b → onPanel p c ≡ false
-    by-test true e = absurd (n (on p c e))
-    by-test false e = e
+is-off p c n = test-fails (onPanel p c) (λ e. n (on p c e))
 
 -- they are in bytes, and so is the last cell that is kept
 pub in-bytes : {p : Panel} {c : Cell} → GoodSides p → OnPanel p c → InBytes c

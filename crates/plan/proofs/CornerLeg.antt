@@ -10,7 +10,7 @@ use borrow.Author.Tests.{eq-eqb, eqb-true, leb-true, not-true}
 use Rattle.grid.specs.declared.Panel.{Panel}
 use Rattle.grid.specs.declared.Cell.{Cell}
 use Rattle.grid.specs.Panel.{OnPanel, dist, black}
-use Rattle.grid.proofs.Facts.{and-left, and-right, and-parts}
+use Rattle.grid.proofs.Facts.{test-fails, and-left, and-right, and-parts}
 use Rattle.line.specs.Rectangle.{Inside}
 use Rattle.corner.specs.Corner.{trackCount}
 use Rattle.count.specs.Count.{odd, f3}
@@ -95,11 +95,7 @@ f3-facts p s t e =
     far false q h = let z : s .x + 1 ≡ t .x = eqb-true _ _ (and-left (eqb (s .x + 1) (t .x)) _ h) in omega arith
 
 pub no-f3 : (p : Panel) (s t : Cell) → (ThreeApart p s t → ⊥) → f3 p s t ≡ false
-no-f3 p s t n = go (f3 p s t) refl
-  where
-    go : (b : Bool) → f3 p s t ≡ b → f3 p s t ≡ false
-    go true e = absurd (n (f3-facts p s t e))
-    go false e = e
+no-f3 p s t n = test-fails (f3 p s t) (λ e. n (f3-facts p s t e))
 
 -- ---- the leg
 

@@ -20,7 +20,7 @@ use Rattle.grid.specs.declared.CellsAnswer.the-variants as judged
 use Rattle.grid.specs.Panel.{panel, cell, dist, apart}
 use Rattle.grid.specs.Bytes.{cellsIn}
 use Rattle.grid.proofs.Answers.{checkBehind, check-behind}
-use Rattle.grid.proofs.Facts.{and-parts, is-sides, area-small}
+use Rattle.grid.proofs.Facts.{and-parts, is-sides}
 use Rattle.grid.proofs.Passed.{after-passed, after-rest}
 use Rattle.grid.proofs.Tests.{cond-yes, cond-no, expect-yes, expect-no, after-good, after-refused, answer-good}
 use Rattle.list.specs.List.{allOn}
@@ -29,7 +29,7 @@ use Rattle.list.proofs.Whole.{whole}
 use Rattle.scratch.specs.Scratch.{Clean}
 use Rattle.scratch.proofs.Clean.{clean}
 use Rattle.judge.specs.Judge.{sizesCheck, cellsCheck, judgeCheck, Judges}
-use Rattle.judge.proofs.Checks.{Sized, sized, passed, few}
+use Rattle.judge.proofs.Checks.{Sized, sized, passed, count-small}
 use Rattle.probe_walk.specs.Probes.{places}
 use Rattle.probe_walk.specs.Search.{Searched}
 use Rattle.probe.specs.declared.ProbeSheet.{ProbeSheet}
@@ -79,13 +79,12 @@ module _ (p : Panel) (s t : Cell) (list old : List ℕ) {new : List ℕ} {j : Ce
     pub searched : (probes : List ℕ) → fewProbes (length probes) ≡ true → allOn p (cellsIn probes) ≡ true → Searched p list probes
     searched probes m o =
         let tests = passed p s t (cellsIn list) cells-good in
-        let sides = sizes .ordered .panel .sides in
         let (most, even) = and-parts (leb (length probes) (2 * places)) _ m in
         record {
-          probed = record { good = is-sides sides; on = o; few = leb-true _ _ most };
+          probed = record { good = is-sides (sizes .ordered .panel .sides); on = o; few = leb-true _ _ most };
           inside = tests .on-panel;
           once = tests .once;
-          short = omega (arith, few p s t (cellsIn list) cells-good, area-small sides, length-cells list, whole (length list) (sizes .whole) .1);
+          short = omega (arith, count-small p s t list (length old) good, length-cells list, whole (length list) (sizes .whole) .1);
         }
 
 -- ---- the promise

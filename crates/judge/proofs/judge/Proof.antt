@@ -1,15 +1,18 @@
--- The tests of the sizes, then those of the cells; a count that is given is at most mn, so that it fits.
+-- The tests of the sizes, then those of the cells; a count that is given is at most 16,384, so that it fits.
+use Prim.Native.Nat.{ℕ, _≤_}
 use native.Mathlib.Omega.{arith}
 use borrow.Author.Needs.{needs}
 use mathlib.Core.Path.{_≡_, sym, _∙_}
+use mathlib.Core.List.{List}
 use lib.ListN.{length}
 use Rattle.grid.specs.declared.Check.{Check}
 use Rattle.grid.specs.declared.Check.the-variants.{Good}
 use Rattle.grid.specs.Bytes.{cellsIn}
-use Rattle.grid.proofs.Facts.{is-sides, area-small}
+use Rattle.grid.proofs.Facts.{is-sides}
+use Rattle.grid.proofs.Tests.{after-good}
 use Rattle.list.proofs.Cells.{length-cells}
 use Rattle.judge.specs.Judge.{sizesCheck, cellsCheck}
-use Rattle.judge.proofs.Checks.{Sized, sized, few, sizes-refused, cells-refused, all-good}
+use Rattle.judge.proofs.Checks.{Sized, sized, count-small, sizes-refused, cells-refused, all-good}
 use Rattle.judge.proofs.judge.Statement.{statement}
 use Rattle.judge.proofs.judge.Tie as tie
 
@@ -35,6 +38,20 @@ sizes-good c = sizes-told (c .before .before) (c .enum-told .given .1)
 
 cells-told : (c : tie.After-check-cells) {z : Check} → c .check-cells .result ≡ z → cells-of (begin (c .before .before)) ≡ z
 cells-told c e = sym (c .check-cells .ensures .0) ∙ e
+
+-- where the count is made
+abbrev started : tie.After-enum-told2 → tie.Start
+started c = begin (c .before .before .before .before .before .before)
+
+abbrev list-of : tie.After-enum-told2 → List ℕ
+list-of c = started c .args .list .now
+
+few : (c : tie.After-enum-told2) → length (cellsIn (list-of c)) ≤ 16384
+few c =
+    let a = started c .args in
+    let d = c .before .before .before .before in
+    count-small (a .p) (a .entry) (a .exit) (list-of c) (length (a .scratch .now))
+    (sym (after-good _ (sizes-good (d .before .before)) (sym (cells-told d (c .enum-told2 .given .1)))))
 
 check-sizes-requires : tie.Need-check-sizes-requires
 check-sizes-requires c κs = search needs
@@ -68,12 +85,7 @@ enum-told-2 : tie.Need-enum-told-2
 enum-told-2 c = search needs
 
 cast-k : tie.Need-cast-k
-cast-k c =
-    let d = c .before .before .before .before in
-    let s = begin (d .before .before) in
-    let z = sized-at s (sizes-good (d .before .before)) in
-    let k = few (s .args .p) (s .args .entry) (s .args .exit) (cellsIn (s .args .list .now)) (cells-told d (c .enum-told2 .given .1)) in
-    record { fits = omega (arith, k, area-small (z .ordered .panel .sides), length-cells (s .args .list .now)) }
+cast-k c = record { fits = omega (arith, few c, length-cells (list-of c)) }
 
 same-length-2 : tie.Need-same-length-2
 same-length-2 c = search needs
@@ -82,6 +94,7 @@ returns-3 : tie.Need-returns-3
 returns-3 c =
     let d = c .before .before .before .before in
     all-good _ _ _ _ _ (sizes-good (d .before .before)) (d .check-cells .ensures .1) (cells-told d (c .enum-told2 .given .1))
+    (omega (arith, few c, length-cells (list-of c)))
 
 pub judge-spec : {M : Type 1} → statement M
 judge-spec =

@@ -1,5 +1,4 @@
 -- Test by test (Verdicts.antt), whatever list the kept numbers stand for.
-use native.Mathlib.Omega.{arith}
 use borrow.Author.Needs.{needs}
 use mathlib.Core.Path.{ap, _∙_}
 use mathlib.Core.Bool.{Bool}
@@ -11,28 +10,15 @@ use Rattle.judge.proofs.verdict.Statement.{statement}
 use Rattle.judge.proofs.verdict.Tie as tie
 
 returns : tie.Need-returns
-returns c = record { told = λ s l marks z. verdicts.off _ _ _ l z (c .if1 .taken) }
+returns c = record { told = λ p s l marks z. verdicts.off p s _ l z (c .if1 .taken) }
 
 returns-2 : tie.Need-returns-2
-returns-2 c = record { told = λ s l marks z. verdicts.jumped _ _ _ l z (c .before .before .if1 .left) (c .if2 .taken) }
+returns-2 c = record { told = λ p s l marks z. verdicts.jumped p s _ l z (c .before .before .if1 .left) (c .if2 .taken) }
 
 returns-3 : tie.Need-returns-3
 returns-3 c =
     let e = c .before .before in
-    record { told = λ s l marks z. verdicts.repeated _ _ _ l z (e .before .before .if1 .left) (e .if2 .left) (c .if3 .taken) }
-
-area-of-requires : tie.Need-area-of-requires
-area-of-requires c κs = search needs
-
-returns-4 : tie.Need-returns-4
-returns-4 c =
-    let a = c .before .before in
-    let e = a .before in
-    let n = e .before .before in
-    record {
-      told = λ s l marks z. verdicts.many _ _ _ l z (n .before .before .if1 .left) (n .if2 .left) (e .if3 .left)
-          (omega (arith, c .if4 .taken, a .area-of .ensures));
-    }
+    record { told = λ p s l marks z. verdicts.repeated p s _ l z (e .before .before .if1 .left) (e .if2 .left) (c .if3 .taken) }
 
 ends-at-requires : tie.Need-ends-at-requires
 ends-at-requires c κs = search needs
@@ -40,27 +26,16 @@ ends-at-requires c κs = search needs
 expect-requires : tie.Need-expect-requires
 expect-requires c κs = search needs
 
-returns-5 : tie.Need-returns-5
-returns-5 c =
-    let f = c .before .before in
-    let a = f .before .before in
-    let e = a .before in
+returns-4 : tie.Need-returns-4
+returns-4 c =
+    let e = c .before .before in
     let n = e .before .before in
     record {
-      told = λ s l marks z. verdicts.few _ _ _ l z (n .before .before .if1 .left) (n .if2 .left) (e .if3 .left)
-          (omega (arith, f .if4 .left, a .area-of .ensures))
+      told = λ p s l marks z. verdicts.ends-told p s _ l z (n .before .before .if1 .left) (n .if2 .left) (e .if3 .left)
           (c .expect .ensures ∙ ap (λ (b : Bool). expect b WrongEnds Good) (c .before .ends-at .ensures));
     }
 
 pub verdict-spec : {M : Type 1} → statement M
 verdict-spec =
     tie.close
-    (tie.spec
-    returns
-    returns-2
-    returns-3
-    area-of-requires
-    returns-4
-    ends-at-requires
-    expect-requires
-    returns-5)
+    (tie.spec returns returns-2 returns-3 ends-at-requires expect-requires returns-4)
