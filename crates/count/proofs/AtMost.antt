@@ -22,6 +22,7 @@ use Rattle.grid.proofs.Moves.{turning, moved}
 use Rattle.count.specs.declared.ClassCount.{ClassCount}
 use Rattle.count.specs.Count.{area, odd, f1, f2, f2Count, f3Apart, f3, c2, c0, decided, named, classCount, count}
 use Rattle.count.specs.Longest.{NoLonger, ifBlack, weight}
+use Rattle.count.proofs.Lines.{over-lines}
 use Rattle.count.proofs.Pigeon.{InColumns, at-most-area}
 use Rattle.count.proofs.Colour.{bit, row-two, mod-bit, black-bit, walk-black, at-most-black}
 use Rattle.count.proofs.Strip.{strip}
@@ -190,23 +191,12 @@ decided-bound p s t ne h =
     (λ e. both-branches (AllFit p s t) (c0 p s t) _ _ (λ f l r. omega (arith, c0-bound p s t ne r e f))
     (λ f l r. omega (arith, c1-bound p s t ne r e f)))))
 
-named-bound : (p : Panel) (s t : Cell) → s ≢ t → AllFit p s t (named p s t)
-unfolding named
-named-bound p s t ne =
-    both-branches (AllFit p s t) (ltb (t .x) (s .x)) _ _
-    (λ e l r.
-    let h : t .x < s .x = ltb-true _ _ e in
-    omega (arith, decided-bound p t s (λ q. ne (sym q)) (omega arith) (reverse l) (backwards r), length-reverse l))
-    (λ e. decided-bound p s t ne (ltb-false _ _ e))
-
 count-bound : (p : Panel) (s t : Cell) → s ≢ t → AllFit p s t (classCount p s t)
-unfolding classCount
-count-bound p s t ne =
-    both-branches (AllFit p s t) (ltb (p .width) (p .height)) _ _
-    (λ e l r.
-    let q = named-bound (turned p) (turnedCell s) (turnedCell t) (λ q. ne (ap turnedCell q)) (map turnedCell l) (moved (turning p) r) in
-    omega (arith, q, length-map l turnedCell))
-    (λ e. named-bound p s t ne)
+count-bound =
+    over-lines (λ p s t f. s ≢ t → AllFit p s t f)
+    (λ p s t _ h ne. decided-bound p s t ne h)
+    (λ p s t f b ne l r. omega (arith, b (λ q. ne (sym q)) (reverse l) (backwards r), length-reverse l))
+    (λ p s t f b ne l r. omega (arith, b (λ q. ne (ap turnedCell q)) (map turnedCell l) (moved (turning p) r), length-map l turnedCell))
 
 -- every track between two different cells has at most the count's cells
 pub no-longer : (p : Panel) (s t : Cell) → s ≢ t → NoLonger p s t (count p s t)

@@ -11,12 +11,13 @@ use borrow.Author.Tests.{ltb-true, ltb-false, lt-ltb, le-ltb, lt-leb, leb-true, 
 use Rattle.grid.specs.declared.Panel.{Panel}
 use Rattle.grid.specs.declared.Cell.{Cell}
 use Rattle.grid.specs.Panel.{OnPanel, black, turned, turnedCell}
-use Rattle.grid.proofs.Facts.{and-left, and-right, or-cases, cell-eq}
+use Rattle.grid.proofs.Facts.{and-left, and-right, and-parts, or-cases, cell-eq}
 use Rattle.grid.proofs.Moves.{turn-on, black-turned}
 use Rattle.grid.proofs.Tests.{and-no, both-branches, cond-yes, cond-no}
 use Rattle.count.specs.declared.ClassCount.{ClassCount}
 use Rattle.count.specs.Count.{area, odd, endCell, f1, f2, f2Count, f3, c2, c0, found, decided, named, classCount, class, count}
 use Rattle.count.specs.ByColour.{coloured, byColour}
+use Rattle.count.proofs.Lines.{over-names, over-lines}
 
 -- ---- Boolean laws
 
@@ -42,17 +43,12 @@ decided-small p s t =
     (λ _. both-branches Small (c2 p s t) _ _ (λ _. omega arith)
     (λ _. both-branches Small (c0 p s t) _ _ (λ _. omega arith) (λ _. omega arith))))
 
-named-small : (p : Panel) (s t : Cell) → Small (named p s t)
-unfolding named
-named-small p s t = both-branches Small (ltb (t .x) (s .x)) _ _ (λ _. decided-small p t s) (λ _. decided-small p s t)
-
 pub class-small : (p : Panel) (s t : Cell) → class p s t ≤ 5
-unfolding classCount
-class-small p s t = both-branches Small (ltb (p .width) (p .height)) _ _ (λ _. named-small _ _ _) (λ _. named-small p s t)
+class-small = over-lines (λ p s t. Small) (λ p s t _ _. decided-small p s t) (λ p s t f h. h) (λ p s t f h. h)
 
 -- ---- areas
 
-area-turned : (p : Panel) → area (turned p) ≡ area p
+pub area-turned : (p : Panel) → area (turned p) ≡ area p
 area-turned p = mul-comm (p .height) (p .width)
 
 pub sum-le-product : (w h : ℕ) → 1 ≤ w → 1 ≤ h → w + h ≤ w * h + 1
@@ -63,13 +59,16 @@ sum-le-product (suc k) h p q = omega (arith, suc-mul k h, mul-le-mul-left k q, m
 pub area-of-cell : (p : Panel) (c : Cell) → OnPanel p c → c .x + c .y ≤ area p + 1
 area-of-cell p c o = omega (arith, sum-le-product (p .width) (p .height) (omega arith) (omega arith))
 
-f3-height : (p : Panel) (s t : Cell) → f3 p s t ≡ true → p .height ≡ 3
+f3-sides : (p : Panel) (s t : Cell) → f3 p s t ≡ true → (p .height ≡ 3) × (p .width % 2 ≢ 1)
 unfolding f3
-f3-height p s t e = eqb-true _ _ (and-left (eqb (p .height) 3) _ e)
+f3-sides p s t e =
+    let (three, rest) = and-parts (eqb (p .height) 3) _ e in
+    (eqb-true _ _ three, eqb-false _ _ (not-true _ (and-left (not (odd (p .width))) _ rest)))
 
-c2-cases : (p : Panel) (s t : Cell) → c2 p s t ≡ true → ((odd (area p) ≡ true) × (black s ≡ true) × (black t ≡ true)) ⊎ (p .height ≡ 3)
+pub c2-cases : (p : Panel) (s t : Cell) → c2 p s t ≡ true
+    → ((odd (area p) ≡ true) × (black s ≡ true) × (black t ≡ true)) ⊎ ((p .height ≡ 3) × (p .width % 2 ≢ 1))
 unfolding c2
-c2-cases p s t e = ⊎-elim (λ h. inl (three h)) (λ h. inr (f3-height p s t h)) (or-cases _ _ e)
+c2-cases p s t e = ⊎-elim (λ h. inl (three h)) (λ h. inr (f3-sides p s t h)) (or-cases _ _ e)
   where
     three : (odd (area p) && (black s && black t)) ≡ true → (odd (area p) ≡ true) × (black s ≡ true) × (black t ≡ true)
     three h =
@@ -217,17 +216,12 @@ not-f3 p s t n = sym (and-no _ (ne-eqb (p .height) 3 n))
 high : (p : Panel) (s t : Cell) → 3 < p .height → decided p s t ≡ byColour p s t
 high p s t h = decided-by-colour p s t (not-f1 p s t (omega arith)) (not-f2 p s t (omega arith)) (not-f3 p s t (omega arith))
 
-high-named : (p : Panel) (s t : Cell) → 3 < p .height → named p s t ≡ byColour p s t
-unfolding named
-high-named p s t h =
-    both-branches (λ (r : ClassCount). r ≡ byColour p s t) (ltb (t .x) (s .x)) _ _
-    (λ _. high p t s h ∙ by-colour-swap p t s) (λ _. high p s t h)
-
 pub class-by-colour : (p : Panel) (s t : Cell) → 3 < p .width → 3 < p .height → classCount p s t ≡ byColour p s t
-unfolding classCount
-class-by-colour p s t w h =
-    both-branches (λ (r : ClassCount). r ≡ byColour p s t) (ltb (p .width) (p .height)) _ _
-    (λ _. high-named (turned p) (turnedCell s) (turnedCell t) w ∙ by-colour-turned p s t) (λ _. high-named p s t h)
+class-by-colour =
+    over-lines (λ p s t f. 3 < p .width → 3 < p .height → f ≡ byColour p s t)
+    (λ p s t _ _ w h. high p s t h)
+    (λ p s t f e w h. e w h ∙ by-colour-swap p t s)
+    (λ p s t f e w h. e h w ∙ by-colour-turned p s t)
 
 -- ---- the panel turned
 
@@ -263,11 +257,10 @@ record Ordered (p : Panel) (s t : Cell) : Type 0 where
 -- what holds of either naming holds of the named terminals
 by-name : (P : ClassCount → Type 0) (p : Panel) (s t : Cell) → p .height ≤ p .width → OnPanel p s → OnPanel p t → s ≢ t
     → (Ordered p s t → P (decided p s t)) → (Ordered p t s → P (decided p t s)) → P (named p s t)
-unfolding named
 by-name P p s t h a b n f g =
-    both-branches P (ltb (t .x) (s .x)) _ _
-    (λ e. let k = ltb-true (t .x) (s .x) e in g (record { wide = h; on-s = b; on-t = a; differ = λ r. n (sym r); left = omega arith }))
-    (λ e. f (record { wide = h; on-s = a; on-t = b; differ = n; left = ltb-false (t .x) (s .x) e }))
+    over-names P p s t
+    (λ k. f (record { wide = h; on-s = a; on-t = b; differ = n; left = k }))
+    (λ k. g (record { wide = h; on-s = b; on-t = a; differ = λ r. n (sym r); left = k }))
 
 record Square (p : Panel) (s t : Cell) : Type 0 where
   order : Ordered p s t
@@ -486,16 +479,8 @@ module _ {p : Panel} {s t : Cell} (q : Ordered p s t) where
       (λ _. both-branches (Within (area p)) (c0 p s t) _ _ (λ _. within-3) (within-4 e))))
 
 pub bounds : (p : Panel) (s t : Cell) → OnPanel p s → OnPanel p t → s ≢ t → (2 ≤ count p s t) × (count p s t ≤ area p)
-bounds p s t a b n = go (ltb (p .width) (p .height)) refl
-  where
-    wide : (p : Panel) (s t : Cell) → p .height ≤ p .width → OnPanel p s → OnPanel p t → s ≢ t → Within (area p) (named p s t)
-    wide p s t h a b n = by-name (Within (area p)) p s t h a b n within within
-
-    go : (r : Bool) → ltb (p .width) (p .height) ≡ r → Within (area p) (classCount p s t)
-    go true e =
-        let h = ltb-true (p .width) (p .height) e in
-        subst₂ Within (area-turned p) (sym (tall-class p s t h))
-        (wide (turned p) (turnedCell s) (turnedCell t) (omega arith) (turn-on a) (turn-on b) (λ r. n (ap turnedCell r)))
-    go false e =
-        let h = ltb-false (p .width) (p .height) e in
-        subst (Within (area p)) (sym (wide-class p s t h)) (wide p s t h a b n)
+bounds =
+    over-lines (λ p s t f. OnPanel p s → OnPanel p t → s ≢ t → Within (area p) f)
+    (λ p s t h k a b n. within (record { wide = h; on-s = a; on-t = b; differ = n; left = k }))
+    (λ p s t f w a b n. w b a (λ r. n (sym r)))
+    (λ p s t f w a b n. subst (λ (k : ℕ). Within k f) (area-turned p) (w (turn-on a) (turn-on b) (λ r. n (ap turnedCell r))))

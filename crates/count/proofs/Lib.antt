@@ -1,4 +1,6 @@
 pub mod Laws
+pub mod Lines
+pub mod Classes
 pub mod Table
 pub mod Examples
 pub mod Sides

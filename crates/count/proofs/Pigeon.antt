@@ -25,7 +25,7 @@ pub sum-linear : (f g : ℕ → ℕ) (a k d e : ℕ) → ((i : ℕ) → a < i �
 sum-linear f g a zero d e h = omega arith
 sum-linear f g a (suc k) d e h = omega (arith, h (a + suc k) (omega arith) (omega arith), sum-linear f g a k d e (λ i p q. h i p (omega arith)))
 
-sum-same : (f g : ℕ → ℕ) (a k : ℕ) → ((i : ℕ) → a < i → i ≤ a + k → f i ≡ g i) → partialSum f a k ≡ partialSum g a k
+pub sum-same : (f g : ℕ → ℕ) (a k : ℕ) → ((i : ℕ) → a < i → i ≤ a + k → f i ≡ g i) → partialSum f a k ≡ partialSum g a k
 sum-same f g a k h = omega (arith, sum-linear f g a k 1 0 (λ i p q. omega (arith, h i p q)))
 
 pub sum-const : (f : ℕ → ℕ) (a k e : ℕ) → ((i : ℕ) → a < i → i ≤ a + k → f i ≡ e) → partialSum f a k ≡ k * e
@@ -46,6 +46,12 @@ sum-swap f a (suc k) b n = ap (λ (z : ℕ). partialSum (f (a + suc k)) b n + z)
 pub sum-split : (f : ℕ → ℕ) (a k j : ℕ) → partialSum f a (k + j) ≡ partialSum f a k + partialSum f (a + k) j
 sum-split f a k zero = rw (add-zero k) (omega arith)
 sum-split f a k (suc j) = rw (add-suc k j) (omega (arith, sum-split f a k j, ap f (add-assoc a k (suc j)), ap f (ap (λ (i : ℕ). a + i) (add-suc k j))))
+
+pub sum-first : (f : ℕ → ℕ) (a k : ℕ) → partialSum f a (suc k) ≡ f (suc a) + partialSum f (suc a) k
+sum-first f a k =
+    let e : suc k ≡ 1 + k = omega arith in
+    let d : a + 1 ≡ suc a = omega arith in
+    ap (partialSum f a) e ∙ sum-split f a 1 k ∙ (λ i. add-zero (f (d i)) i + partialSum f (d i) k)
 
 -- two functions that are equal but at one place: their sums differ as they do there
 sum-change : (f g : ℕ → ℕ) (a k i : ℕ) → a < i → i ≤ a + k → ((j : ℕ) → i ≢ j → g j ≡ f j)

@@ -1,0 +1,38 @@
+-- Document 02, R-10: the cells that a list leaves uncovered (cold patches), and how many of them are white and how many black, by class.
+use Prim.Native.Nat.{ℕ, _%_, _≤_}
+use mathlib.Core.Path.{_≡_}
+use mathlib.Core.Bool.{false, Bool-discrete}
+use mathlib.Core.Logic.{_≢_}
+use mathlib.Core.List.{List, [], filter}
+use Rattle.grid.specs.declared.Panel.{Panel}
+use Rattle.grid.specs.declared.Cell.{Cell}
+use Rattle.grid.specs.Panel.{area}
+use Rattle.grid.specs.Reading.{reading}
+use Rattle.count.specs.Order.{orderClass}
+use Rattle.count.specs.Longest.{weight, ifBlack, ifWhite}
+use Rattle.list.specs.List.{among}
+
+-- the cells of a panel that do not stand in the list, in reading order
+abbrev pub uncovered : Panel → List Cell → List Cell
+uncovered p l = filter (λ c. Bool-discrete (among c l) false) (reading p)
+
+-- so many cells of a list are white, so many black, which are all
+pub record Colours (white black : ℕ) (l : List Cell) : Type 0 where
+  pub whites : weight ifWhite l ≡ white
+  pub blacks : weight ifBlack l ≡ black
+
+-- one cell, of the colour opposite to the cell c's: white where c is black, black where it is white
+abbrev pub OneOpposite : Cell → List Cell → Type 0
+OneOpposite c l = Colours (ifBlack c) (ifWhite c) l
+
+-- what a track from s to t leaves, class by class
+pub record ByClass (p : Panel) (s t : Cell) (left : List Cell) : Type 0 where
+  pub four-even : orderClass p s t ≡ 4 → area p % 2 ≡ 0 → OneOpposite s left × OneOpposite t left
+  pub four-odd : orderClass p s t ≡ 4 → area p % 2 ≡ 1 → Colours 1 0 left
+  pub five-odd : orderClass p s t ≡ 5 → area p % 2 ≡ 1 → Colours 2 0 left
+  pub five-even : orderClass p s t ≡ 5 → area p % 2 ≡ 0 → Colours 1 1 left
+  pub three : orderClass p s t ≡ 3 → left ≡ []
+
+-- the promise, for panels with both sides 3 or more and different terminals
+abbrev pub LeavesByClass : Panel → Cell → Cell → List Cell → Type 0
+LeavesByClass p s t l = 3 ≤ p .width → 3 ≤ p .height → s ≢ t → ByClass p s t (uncovered p l)
