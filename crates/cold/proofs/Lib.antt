@@ -1,1 +1,2 @@
 pub mod Uncovered
+pub mod Theorem
