@@ -16,23 +16,23 @@ use Rattle.list.specs.List.{among}
 abbrev pub uncovered : Panel → List Cell → List Cell
 uncovered p l = filter (λ c. Bool-discrete (among c l) false) (reading p)
 
--- so many cells of a list are white, so many black, which are all
+-- so many cells of a list are white and so many black, which are all
 pub record Colours (white black : ℕ) (l : List Cell) : Type 0 where
   pub whites : weight ifWhite l ≡ white
   pub blacks : weight ifBlack l ≡ black
 
--- one cell, of the colour opposite to the cell c's: white where c is black, black where it is white
+-- one cell, of the colour opposite to the cell c's: white where c is black, black where c is white
 abbrev pub OneOpposite : Cell → List Cell → Type 0
 OneOpposite c l = Colours (ifBlack c) (ifWhite c) l
 
--- what a track from s to t leaves, class by class
-pub record ByClass (p : Panel) (s t : Cell) (left : List Cell) : Type 0 where
-  pub four-even : orderClass p s t ≡ 4 → area p % 2 ≡ 0 → OneOpposite s left × OneOpposite t left
-  pub four-odd : orderClass p s t ≡ 4 → area p % 2 ≡ 1 → Colours 1 0 left
-  pub five-odd : orderClass p s t ≡ 5 → area p % 2 ≡ 1 → Colours 2 0 left
-  pub five-even : orderClass p s t ≡ 5 → area p % 2 ≡ 0 → Colours 1 1 left
-  pub three : orderClass p s t ≡ 3 → left ≡ []
+-- the cells that a track from s to t leaves on a panel of mn cells, class by class
+pub record ColdByClass (class mn : ℕ) (s t : Cell) (cold : List Cell) : Type 0 where
+  pub four-even : class ≡ 4 → mn % 2 ≡ 0 → OneOpposite s cold × OneOpposite t cold
+  pub four-odd : class ≡ 4 → mn % 2 ≡ 1 → Colours 1 0 cold
+  pub five-odd : class ≡ 5 → mn % 2 ≡ 1 → Colours 2 0 cold
+  pub five-even : class ≡ 5 → mn % 2 ≡ 0 → Colours 1 1 cold
+  pub three : class ≡ 3 → cold ≡ []
 
 -- the promise, for panels with both sides 3 or more and different terminals
-abbrev pub LeavesByClass : Panel → Cell → Cell → List Cell → Type 0
-LeavesByClass p s t l = 3 ≤ p .width → 3 ≤ p .height → s ≢ t → ByClass p s t (uncovered p l)
+abbrev pub StaysCold : Panel → Cell → Cell → List Cell → Type 0
+StaysCold p s t l = 3 ≤ p .width → 3 ≤ p .height → s ≢ t → ColdByClass (orderClass p s t) (area p) s t (uncovered p l)

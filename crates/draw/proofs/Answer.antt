@@ -14,7 +14,6 @@ use Rattle.grid.specs.declared.Refusal.the-variants.{ShortBuffer}
 use Rattle.grid.specs.declared.Check.the-variants.{Good, Refused}
 use Rattle.grid.specs.declared.CellsAnswer.{CellsAnswer}
 use Rattle.grid.specs.Panel.{OnPanel}
-use Rattle.grid.specs.Track.{Track}
 use Rattle.grid.specs.Bytes.{front}
 use Rattle.grid.specs.Check.{checkOrder}
 use Rattle.grid.proofs.Facts.{eq-same, ne-same}
@@ -28,8 +27,9 @@ use Rattle.line.proofs.Drawn.{written-front, written-behind}
 use Rattle.count.specs.Order.{orderCount}
 use Rattle.count.specs.Longest.{NoLonger}
 use Rattle.count.proofs.Terminals.{none-longer}
+use Rattle.cold.proofs.Theorem.{stays-cold}
 use Rattle.draw.specs.Track.{trackBetween, drawnTrack}
-use Rattle.draw.specs.Draw.{drawCheck, LongestAtFront, Draws, drawBuffer}
+use Rattle.draw.specs.Draw.{drawCheck, Longest, LongestAtFront, Draws, drawBuffer}
 use Rattle.draw.proofs.Track.{drawn-track, length-drawn}
 
 -- ---- the check
@@ -57,7 +57,20 @@ module _ (m n : ℕ) (s t : Cell) (old : List ℕ) {new : List ℕ} where
   unfolding drawnTrack
   two-drawn d h = h ∙ ap (λ (l : List Cell). withCells l old) (cond-no _ _ (ne-same s t d) refl)
 
--- that track at the front is a longest one
+-- that track is a longest one
+longest : (p : Panel) (s t : Cell) → OnPanel p s → OnPanel p t → {k : ℕ} → k ≡ orderCount p s t
+    → Longest p s t k (drawnTrack (p .width) (p .height) s t)
+longest p s t os ot q =
+    let track = drawn-track p s t os ot in
+    let size = length-drawn p s t os ot in
+    record {
+      size = size ∙ sym q;
+      track = track;
+      none-longer = subst (NoLonger p s t) (sym q) (none-longer p s t);
+      cold = stays-cold p s t track size;
+    }
+
+-- and so is what is at the front
 pub at-front : {p : Panel} {s t : Cell} {k : ℕ} {old new : List ℕ} → k ≡ orderCount p s t → OnPanel p s → OnPanel p t
     → new ≡ withCells (drawnTrack (p .width) (p .height) s t) old → LongestAtFront p s t k old new
 at-front {p} {s} {t} {k} {old} {new} q os ot w =
@@ -65,12 +78,7 @@ at-front {p} {s} {t} {k} {old} {new} q os ot w =
     let e : length l ≡ k = length-drawn p s t os ot ∙ sym q in
     let v : new ≡ written l k old = w ∙ ap (λ (n : ℕ). written l n old) e in
     let there = written-front l old e v in
-    record {
-      size = ap length there ∙ e;
-      track = subst (λ (l : List Cell). Track p s t l) (sym there) (drawn-track p s t os ot);
-      none-longer = subst (λ (n : ℕ). NoLonger p s t n) (sym q) (none-longer p s t);
-      behind = written-behind l old e v;
-    }
+    record { longest = subst (Longest p s t k) (sym there) (longest p s t os ot q); behind = written-behind l old e v }
 
 -- ---- both promises of the call
 
@@ -93,4 +101,4 @@ module _ {p : Panel} {s t : Cell} {old new : List ℕ} where
 
 -- between equal terminals the property leaves no choice: that one cell is at the front
 pub spot-at-front : {p : Panel} {s : Cell} {k : ℕ} {old new : List ℕ} → LongestAtFront p s s k old new → front k new ≡ s ∷ []
-spot-at-front f = one-cell (f .track)
+spot-at-front f = one-cell (f .longest .track)

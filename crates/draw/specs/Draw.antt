@@ -18,18 +18,23 @@ use Rattle.grid.specs.Answer.{GivesCells}
 use Rattle.count.specs.Order.{orderCount}
 use Rattle.count.specs.Longest.{NoLonger}
 use Rattle.list.specs.List.{withCells}
+use Rattle.cold.specs.Cold.{StaysCold}
 use Rattle.draw.specs.Track.{drawnTrack}
 
 -- refused as Bound, then 5: the buffer is shorter than 2 bytes for each cell of the count
 abbrev pub drawCheck : Panel → Cell → Cell → ℕ → Check
 drawCheck p s t size = after (checkOrder p s t) (expect (leb (2 * orderCount p s t) size) ShortBuffer Good)
 
--- the k cells read from the front of the buffer after the call are a track from s to t, every list of cells that is such a track has at most k,
--- and the bytes behind the k cells are the old ones
-pub record LongestAtFront (p : Panel) (s t : Cell) (k : ℕ) (old new : List ℕ) : Type 0 where
-  pub size : length (front k new) ≡ k
-  pub track : Track p s t (front k new)
+-- a list of k cells is a track from s to t, every list of cells that is such a track has at most k, and the cells left uncovered are as R-10 says
+pub record Longest (p : Panel) (s t : Cell) (k : ℕ) (l : List Cell) : Type 0 where
+  pub size : length l ≡ k
+  pub track : Track p s t l
   pub none-longer : NoLonger p s t k
+  pub cold : StaysCold p s t l
+
+-- the k cells read from the front of the buffer after the call are such a list, and the bytes behind the k cells are the old ones
+pub record LongestAtFront (p : Panel) (s t : Cell) (k : ℕ) (old new : List ℕ) : Type 0 where
+  pub longest : Longest p s t k (front k new)
   pub behind : drop (2 * k) new ≡ drop (2 * k) old
 
 -- a refusal changes no byte

@@ -27,13 +27,13 @@ use Rattle.list.proofs.Cells.{length-cells}
 use Rattle.bound.specs.declared.BoundAnswer.{BoundAnswer}
 use Rattle.bound.specs.declared.BoundAnswer.the-variants as bound
 use Rattle.bound.specs.Bound.{boundOf}
-use Rattle.draw.specs.Draw.{drawCheck, LongestAtFront, Leaves, Draws}
+use Rattle.draw.specs.Draw.{drawCheck, Longest, LongestAtFront, Leaves, Draws}
 use Rattle.text.specs.Put.{put, Put}
 use Rattle.order.specs.declared.Line.{Line}
 use Rattle.order.specs.declared.Line.the-variants.{Other, Order}
 use Rattle.order.specs.declared.Drawing.{Drawing}
 use Rattle.order.specs.declared.Drawing.the-variants.{Given}
-use Rattle.order.specs.Order.{boundDrawing, drawingOf, Longest, Chosen, ChosenFor, drawnCells, DrawsLine, Printed}
+use Rattle.order.specs.Order.{boundDrawing, drawingOf, Chosen, ChosenFor, drawnCells, DrawsLine, Printed}
 
 -- ---- an order
 
@@ -78,7 +78,7 @@ module _ (p : Panel) (s t : Cell) (f : ClassCount) (e : boundOf p s t ≡ bound.
     pub draws-given : DrawsLine (Order p s t) (Given p f) new
     draws-given =
         let left : LongestAtFront p s t n old new = subst (Leaves p s t old new) answered (d .leaves) in
-        draws-bound p s t (bound.Given f) e (record { size = left .size; track = left .track; none-longer = left .none-longer })
+        draws-bound p s t (bound.Given f) e (left .longest)
 
 -- ---- the track drawn for a line
 

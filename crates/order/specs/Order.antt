@@ -8,12 +8,11 @@ use Rattle.grid.specs.declared.Panel.{Panel}
 use Rattle.grid.specs.declared.Cell.{Cell}
 use Rattle.grid.specs.declared.Refusal.the-variants.{UnknownByte}
 use Rattle.grid.specs.Refusal.{number}
-use Rattle.grid.specs.Track.{Track}
 use Rattle.grid.specs.Bytes.{front}
-use Rattle.count.specs.Longest.{NoLonger}
 use Rattle.bound.specs.declared.BoundAnswer.{BoundAnswer}
 use Rattle.bound.specs.declared.BoundAnswer.the-variants as bound
 use Rattle.bound.specs.Bound.{boundOf}
+use Rattle.draw.specs.Draw.{Longest}
 use Rattle.printout.specs.Text.{refusedText, answerText}
 use Rattle.order.specs.declared.Line.{Line}
 use Rattle.order.specs.declared.Line.the-variants.{Other, Order}
@@ -34,12 +33,6 @@ drawingOf Other = Refused UnknownByte
 drawingOf (Order p s t) = boundDrawing p (boundOf p s t)
 
 -- ---- the track that is drawn
-
--- a list of k cells is a track from s to t, and no track is longer
-pub record Longest (p : Panel) (s t : Cell) (k : ℕ) (l : List Cell) : Type 0 where
-  pub size : length l ≡ k
-  pub track : Track p s t l
-  pub none-longer : NoLonger p s t k
 
 -- the track chosen is a longest one and has Bound's count of cells, where the line is an order that is not refused; else nothing is asked of it
 abbrev pub Chosen : BoundAnswer → Panel → Cell → Cell → List Cell → Type 0
