@@ -1,0 +1,236 @@
+// Draws every order on the panels of 3 to 6 by 3 to 6 cells and looks at each cell of the panel, whether it
+// stands in the list. A line gives the class, whether mn is even or odd and the entry's colour and, behind the
+// colon, the number of such orders and how many white and how many black cells their tracks leave in all. The
+// last line says how many orders left other cells than document 02 promises, or no track of Bound's count. Of
+// spot heaters (class 6) nothing is promised.
+use bound::bound_values;
+use grid::Cell;
+use grid::Panel;
+use grid::cells_values;
+use grid::panel_of;
+use trial::PITCH;
+use trial::cells::Order;
+use trial::cells::is_track;
+use trial::cells::on;
+use trial::plain::position_of;
+use trial::print::named;
+use trial::print::text;
+
+// How many cells of each colour are left uncovered.
+struct Left {
+    white: u32,
+    black: u32,
+}
+
+// For each line the orders, and the cells left; and the wrong orders.
+struct Totals {
+    orders: [u32; 16],
+    white: [u32; 16],
+    black: [u32; 16],
+    wrong: u32,
+}
+
+fn add(a: u32, b: u32) -> u32 {
+    std::num::wrapping_add_u32(a, b)
+}
+
+// The first cell of a panel.
+fn first() -> Cell {
+    Cell { x: 1, y: 1 }
+}
+
+// The cells from (1, 1) on, in rows of six.
+fn nth(i: u32) -> Cell {
+    Cell {
+        x: i % 6 + 1,
+        y: i / 6 % 6 + 1,
+    }
+}
+
+// 0 for a white cell, 1 for a black one.
+fn colour(c: Cell) -> u32 {
+    add(c.x, c.y) % 2
+}
+
+// ---- a plain look
+
+// Whether a cell of the panel stands in the list. The buffer is 0 behind it.
+fn covered(p: Panel, list: &[u8], c: Cell) -> bool {
+    if on(p, first(), c) {
+        return position_of(list, c) != 0;
+    }
+    true
+}
+
+// The cells left, with c if it is one of them.
+fn with(l: Left, p: Panel, list: &[u8], c: Cell) -> Left {
+    if covered(p, list, c) {
+        return l;
+    }
+    if colour(c) == 0 {
+        return Left {
+            white: add(l.white, 1),
+            black: l.black,
+        };
+    }
+    Left {
+        white: l.white,
+        black: add(l.black, 1),
+    }
+}
+
+// The cells of the panel that do not stand in the list.
+fn look(p: Panel, list: &[u8]) -> Left {
+    let mut l = Left { white: 0, black: 0 };
+    for i in 0..36 {
+        l = with(l, p, list, nth(i));
+    }
+    l
+}
+
+// ---- what document 02 says of a class
+
+fn is(l: Left, white: u32, black: u32) -> bool {
+    l.white == white && l.black == black
+}
+
+fn one_opposite(l: Left, c: Cell) -> bool {
+    if colour(c) == 0 {
+        is(l, 0, 1)
+    } else {
+        is(l, 1, 0)
+    }
+}
+
+fn as_promised(class: u32, odd: u32, o: Order, l: Left) -> bool {
+    if class == 3 {
+        return is(l, 0, 0);
+    }
+    if class == 4 && odd == 0 {
+        return one_opposite(l, o.entry) && one_opposite(l, o.exit);
+    }
+    if class == 4 {
+        return is(l, 1, 0);
+    }
+    if class == 5 && odd == 0 {
+        return is(l, 1, 1);
+    }
+    if class == 5 {
+        return is(l, 2, 0);
+    }
+    class == 6
+}
+
+// ---- the orders
+
+// 0 where mn is even, 1 where it is odd.
+fn area_parity(p: Panel) -> u32 {
+    if p.width % 2 == 0 {
+        return 0;
+    }
+    p.height % 2
+}
+
+// The number of an order's line: classes 3 to 6, mn even or odd, the entry white or black.
+fn line_of(class: u32, odd: u32, entry: Cell) -> u32 {
+    add(add(class, 1) % 4 * 4 + odd % 2 * 2, colour(entry))
+}
+
+fn add_order(t: Totals, o: Order) -> Totals {
+    let p = o.panel;
+    let mut list = [0u8; 72];
+    let b = bound_values(bound::bound(p, o.entry, o.exit));
+    let a = cells_values(draw::draw(p, o.entry, o.exit, &mut list));
+    let l = look(p, &list);
+    let odd = area_parity(p);
+    let at = (line_of(b.class, odd, o.entry) % 16) as usize;
+    let mut next = t;
+    let orders = next.orders[at];
+    let white = next.white[at];
+    let black = next.black[at];
+    next.orders[at] = add(orders, 1);
+    next.white[at] = add(white, l.white);
+    next.black[at] = add(black, l.black);
+    let drawn = a.cells.0 == b.count.0 && is_track(&list, o, first(), a.cells.0);
+    if !(drawn && as_promised(b.class, odd, o, l)) {
+        next.wrong = add(t.wrong, 1);
+    }
+    next
+}
+
+// The order of number `code`: sides from 3 to 6, entry and exit anywhere in 6 by 6 cells.
+fn order_of(code: u32) -> Order {
+    Order {
+        panel: panel_of(code % 4 + 3, code / 4 % 4 + 3, PITCH),
+        entry: nth(code / 16 % 36),
+        exit: nth(code / 576 % 36),
+    }
+}
+
+// One order more, where both terminals are on the panel.
+fn count_one(t: Totals, code: u32) -> Totals {
+    let o = order_of(code);
+    if on(o.panel, first(), o.entry) && on(o.panel, first(), o.exit) {
+        return add_order(t, o);
+    }
+    t
+}
+
+fn every_order() -> Totals {
+    let mut t = Totals {
+        orders: [0; 16],
+        white: [0; 16],
+        black: [0; 16],
+        wrong: 0,
+    };
+    for code in 0..20736 {
+        t = count_one(t, code);
+    }
+    t
+}
+
+// ---- the lines
+
+fn show_area(odd: u32) {
+    if odd == 0 {
+        text(b", mn even");
+    } else {
+        text(b", mn odd");
+    }
+}
+
+fn show_entry(colour: u32) {
+    if colour == 0 {
+        text(b", entry white");
+    } else {
+        text(b", entry black");
+    }
+}
+
+// The line of that number, where there are such orders.
+fn show(t: Totals, i: u32) {
+    let at = (i % 16) as usize;
+    if t.orders[at] == 0 {
+        return;
+    }
+    named(b"class ", i / 4 + 3);
+    show_area(i / 2 % 2);
+    show_entry(i % 2);
+    named(b": orders ", t.orders[at]);
+    named(b", left white ", t.white[at]);
+    named(b", black ", t.black[at]);
+    text(b"\n");
+}
+
+fn show_lines(t: Totals) {
+    for i in 0..16 {
+        show(t, i);
+    }
+}
+
+fn main() {
+    let t = every_order();
+    show_lines(t);
+    named(b"wrong ", t.wrong);
+    text(b"\n");
+}
