@@ -282,14 +282,14 @@ static void cold(struct order o, uint32_t class, uint32_t count)
         for (uint32_t y = 1; y <= o.n; y++)
             left[(x + y) % 2] += !covered[x][y];
 
-    uint32_t entry = (o.sx + o.sy) % 2, exit = (o.tx + o.ty) % 2, odd = o.m * o.n % 2;
+    uint32_t at_entry = (o.sx + o.sy) % 2, at_exit = (o.tx + o.ty) % 2, odd = o.m * o.n % 2;
     EXPECT(class >= 3 && class <= 5);
     if (class == 3)
         EXPECT(left[0] == 0 && left[1] == 0);
     if (class == 4 && odd)
         EXPECT(left[0] == 1 && left[1] == 0);
     if (class == 4 && !odd)
-        EXPECT(entry == exit && left[entry] == 0 && left[1 - entry] == 1);
+        EXPECT(at_entry == at_exit && left[at_entry] == 0 && left[1 - at_entry] == 1);
     if (class == 5 && odd)
         EXPECT(left[0] == 2 && left[1] == 0);
     if (class == 5 && !odd)

@@ -1,13 +1,12 @@
 //! Which cells a drawn track leaves uncovered, by class and colour, told without either implementation: of both
 //! kinds of Draw, for every pair on panels of 3 to 8 by 3 to 8, and at random on larger ones.
 
-mod common;
-
 use std::collections::HashSet;
 
-use common::USUAL;
 use compare::archive::{self, Answer};
 use compare::{every_pair, random::Random, Cell, Order};
+
+const USUAL: u32 = 4_000;
 
 fn black((x, y): Cell) -> bool {
     (x + y) % 2 == 1
