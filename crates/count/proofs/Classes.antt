@@ -1,29 +1,24 @@
--- What a class says of the count and of the terminals' colours: from class 3 on the count is mn but for class − 3 cells, and class 5 on a panel of an
--- odd number of cells has black terminals.
+-- What a class says of the count and of the terminals' colours, on a panel with both sides 3 or more: the classes are 3 to 5, the count is mn but for
+-- class − 3 cells, and class 5 on a panel with an odd number of cells has black terminals.
 use Prim.Native.Nat.{ℕ, _-_, _*_, _/_, _%_, _≤_}
-use mathlib.Core.Path.{_≡_, refl, ap, _∙_}
+use mathlib.Core.Path.{_≡_, refl, sym, ap, _∙_}
 use mathlib.Core.Bool.{true}
 use mathlib.Core.Logic.{_≢_, ⊎-elim}
 use native.Mathlib.Omega.{arith}
-use native.Mathlib.Nat.{add-comm}
 use Rattle.grid.specs.declared.Panel.{Panel}
 use Rattle.grid.specs.declared.Cell.{Cell}
-use Rattle.grid.specs.Panel.{turned, turnedCell}
+use Rattle.grid.specs.Panel.{black}
+use Rattle.grid.proofs.Moves.{black-turned}
 use Rattle.grid.proofs.Tests.{both-branches}
 use Rattle.count.specs.declared.ClassCount.{ClassCount}
-use Rattle.count.specs.Count.{area, f1, f2, c2, c0, decided, classCount, class, count}
-use Rattle.count.specs.Longest.{ifBlack}
+use Rattle.count.specs.Count.{area, c2, c0, decided, classCount}
 use Rattle.count.proofs.Lines.{over-lines}
-use Rattle.count.proofs.Colour.{bit, black-bit}
-use Rattle.count.proofs.Laws.{area-turned, c2-cases}
+use Rattle.count.proofs.Laws.{area-turned, c2-cases, not-f1, not-f2}
 
--- a panel of 3 rows and an even number of columns has an even number of cells
-c2-black : (p : Panel) (s t : Cell) → c2 p s t ≡ true → area p % 2 ≡ 1 → (ifBlack s ≡ 1) × (ifBlack t ≡ 1)
+-- F3 has an even number of cells
+c2-black : (p : Panel) (s t : Cell) → c2 p s t ≡ true → area p % 2 ≡ 1 → (black s ≡ true) × (black t ≡ true)
 c2-black p s t e o =
-    ⊎-elim
-    (λ h. (black-bit s ∙ ap bit (h .1), black-bit t ∙ ap bit (h .2)))
-    (λ h. absurd (three-rows (p .width / 2) (area p) (λ i. even (p .width) (h .1) i * h .0 i) o))
-    (c2-cases p s t e)
+    ⊎-elim (λ h. (h .1, h .2)) (λ h. absurd (three-rows (p .width / 2) (area p) (λ i. even (p .width) (h .1) i * h .0 i) o)) (c2-cases p s t e)
   where
     even : (m : ℕ) → m % 2 ≢ 1 → m ≡ 2 * (m / 2)
     even m h = omega arith
@@ -31,35 +26,31 @@ c2-black p s t e o =
     three-rows : (k a : ℕ) → a ≡ 2 * k * 3 → a % 2 ≢ 1
     three-rows k a q = omega arith
 
-abbrev Told : Panel → Cell → Cell → ClassCount → Type 0
-Told p s t f = (3 ≤ f .class → f .count .0 ≡ area p - (f .class - 3)) × (f .class ≡ 5 → area p % 2 ≡ 1 → (ifBlack s ≡ 1) × (ifBlack t ≡ 1))
+pub record Told (p : Panel) (s t : Cell) (f : ClassCount) : Type 0 where
+  pub from-three : 3 ≤ f .class
+  pub counted : f .count .0 ≡ area p - (f .class - 3)
+  pub five-black : f .class ≡ 5 → area p % 2 ≡ 1 → (black s ≡ true) × (black t ≡ true)
 
-lines-told : (p : Panel) (s t : Cell) → Told p s t (decided p s t)
+lines-told : (p : Panel) (s t : Cell) → 3 ≤ p .height → Told p s t (decided p s t)
 unfolding decided
-lines-told p s t =
-    both-branches (Told p s t) (f1 p s t) _ _ (λ _. omega arith)
-    (λ _. both-branches (Told p s t) (f2 p s t) _ _ (λ _. omega arith)
-    (λ _. both-branches (Told p s t) (c2 p s t) _ _ (λ e. ((λ _. refl), (λ _. c2-black p s t e)))
-    (λ _. both-branches (Told p s t) (c0 p s t) _ _ (λ _. omega arith) (λ _. omega arith))))
+lines-told p s t h =
+    rw (not-f1 p s t (omega arith), not-f2 p s t (omega arith))
+    (both-branches (Told p s t) (c2 p s t) _ _ (λ e. record { from-three = omega arith; counted = refl; five-black = λ _. c2-black p s t e })
+    (λ _. both-branches (Told p s t) (c0 p s t) _ _
+    (λ _. record { from-three = omega arith; counted = omega arith; five-black = λ e. absurd (omega arith) })
+    (λ _. record { from-three = omega arith; counted = refl; five-black = λ e. absurd (omega arith) })))
 
-turned-black : (c : Cell) → ifBlack (turnedCell c) ≡ ifBlack c
-unfolding ifBlack
-turned-black c = ap (λ (k : ℕ). k % 2) (add-comm (c .y) (c .x))
-
-told : (p : Panel) (s t : Cell) → Told p s t (classCount p s t)
+pub told : (p : Panel) (s t : Cell) → 3 ≤ p .width → 3 ≤ p .height → Told p s t (classCount p s t)
 told =
-    over-lines Told
-    (λ p s t _ _. lines-told p s t)
-    (λ p s t f h. (h .0, λ e o. omega (arith, h .1 e o)))
-    (λ p s t f h. (
-      (λ e. h .0 e ∙ ap (λ (k : ℕ). k - (f .class - 3)) (area-turned p)),
-      (λ e o. omega (arith, h .1 e (omega (arith, area-turned p)), turned-black s, turned-black t)),
-    ))
-
--- from class 3 on: mn but for class − 3 cells
-pub class-count : (p : Panel) (s t : Cell) → 3 ≤ class p s t → count p s t ≡ area p - (class p s t - 3)
-class-count p s t = (told p s t) .0
-
--- class 5, mn odd: black terminals
-pub five-black : (p : Panel) (s t : Cell) → class p s t ≡ 5 → area p % 2 ≡ 1 → (ifBlack s ≡ 1) × (ifBlack t ≡ 1)
-five-black p s t = (told p s t) .1
+    over-lines (λ p s t f. 3 ≤ p .width → 3 ≤ p .height → Told p s t f)
+    (λ p s t _ _ w h. lines-told p s t h)
+    (λ p s t f k w h. let k = k w h in record {
+      from-three = k .from-three;
+      counted = k .counted;
+      five-black = λ e o. let (a, b) = k .five-black e o in (b, a);
+    })
+    (λ p s t f k w h. let k = k h w in record {
+      from-three = k .from-three;
+      counted = k .counted ∙ ap (λ (a : ℕ). a - (f .class - 3)) (area-turned p);
+      five-black = λ e o. let (a, b) = k .five-black e (ap (λ (a : ℕ). a % 2) (area-turned p) ∙ o) in (sym (black-turned s) ∙ a, sym (black-turned t) ∙ b);
+    })
