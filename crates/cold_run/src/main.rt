@@ -8,6 +8,7 @@ use grid::Cell;
 use grid::Panel;
 use grid::cells_values;
 use grid::panel_of;
+use std::num::wrapping_add_u32 as add;
 use trial::PITCH;
 use trial::cells::Order;
 use trial::cells::is_track;
@@ -28,10 +29,6 @@ struct Totals {
     white: [u32; 16],
     black: [u32; 16],
     wrong: u32,
-}
-
-fn add(a: u32, b: u32) -> u32 {
-    std::num::wrapping_add_u32(a, b)
 }
 
 // The first cell of a panel.
@@ -191,19 +188,11 @@ fn every_order() -> Totals {
 
 // ---- the lines
 
-fn show_area(odd: u32) {
-    if odd == 0 {
-        text(b", mn even");
+fn either(flag: u32, zero: &[u8], one: &[u8]) {
+    if flag == 0 {
+        text(zero);
     } else {
-        text(b", mn odd");
-    }
-}
-
-fn show_entry(colour: u32) {
-    if colour == 0 {
-        text(b", entry white");
-    } else {
-        text(b", entry black");
+        text(one);
     }
 }
 
@@ -214,8 +203,8 @@ fn show(t: Totals, i: u32) {
         return;
     }
     named(b"class ", i / 4 + 3);
-    show_area(i / 2 % 2);
-    show_entry(i % 2);
+    either(i / 2 % 2, b", mn even", b", mn odd");
+    either(i % 2, b", entry white", b", entry black");
     named(b": orders ", t.orders[at]);
     named(b", left white ", t.white[at]);
     named(b", black ", t.black[at]);
