@@ -9,18 +9,18 @@ use mathlib.Core.Bool.{Bool, true, false, cond, not, _&&_, _||_}
 use mathlib.Core.List.{List, reverse, map}
 use native.Mathlib.Omega.{arith}
 use lib.ListN.{length, length-reverse, length-map}
-use lib.Dec.{leb, ltb, eqb}
-use borrow.Author.Tests.{eqb-true, eqb-false, leb-true, ltb-true, ltb-false, not-true}
+use lib.Dec.{leb, eqb}
+use borrow.Author.Tests.{eqb-true, eqb-false, leb-true, not-true}
 use Rattle.grid.specs.declared.Panel.{Panel}
 use Rattle.grid.specs.declared.Cell.{Cell}
-use Rattle.grid.specs.Panel.{OnPanel, black, turned, turnedCell}
+use Rattle.grid.specs.Panel.{OnPanel, black, turnedCell}
 use Rattle.grid.specs.Track.{All, Track}
 use Rattle.grid.proofs.Facts.{and-left, and-parts, or-cases, cell-eq}
 use Rattle.grid.proofs.Tests.{both-branches}
 use Rattle.grid.proofs.Track.{all-map, backwards, first-in, last-in, some-cell}
 use Rattle.grid.proofs.Moves.{turning, moved}
 use Rattle.count.specs.declared.ClassCount.{ClassCount}
-use Rattle.count.specs.Count.{area, odd, f1, f2, f2Count, f3Apart, f3, c2, c0, decided, named, classCount, count}
+use Rattle.count.specs.Count.{area, odd, f1, f2, f2Count, f3Apart, f3, c2, c0, decided, classCount, count}
 use Rattle.count.specs.Longest.{NoLonger, ifBlack, weight}
 use Rattle.count.proofs.Lines.{over-lines}
 use Rattle.count.proofs.Pigeon.{InColumns, at-most-area}

@@ -1,7 +1,7 @@
 -- Laws of class and count: classes 1 to 5, the terminals in either order, the panel turned, the colours alone, and 2 ≤ count ≤ mn.
 -- Each test of the definition has its law first; the laws of `decided`, `named` and `classCount` put them together.
 use Prim.Native.Nat.{ℕ, suc, zero, _+_, _-_, _*_, _%_, _≤_, _<_}
-use mathlib.Core.Path.{_≡_, refl, sym, ap, _∙_, subst, subst₂}
+use mathlib.Core.Path.{_≡_, refl, sym, ap, _∙_, subst}
 use mathlib.Core.Logic.{_≢_, _⊎_, inl, inr, ⊎-elim}
 use mathlib.Core.Bool.{Bool, true, false, cond, not, _&&_, _||_, and-true, and-false, and-comm, or-true, or-false, true≢false}
 use native.Mathlib.Omega.{arith}

@@ -1,6 +1,7 @@
--- The pigeonhole, with weights: if no cell stands twice in a list and all lie in some columns, the list weighs at most what the columns weigh.
+-- The pigeonhole, with weights: if no cell stands twice in a list and all lie in some columns, the list weighs at most what the columns weigh, and
+-- exactly so much less do the columns weigh without its cells.
 -- By induction over the list: the weight of its first cell is put to 0, which takes that much from the columns and nothing from the rest of the list.
-use Prim.Native.Nat.{ℕ, zero, suc, _+_, _*_, _≤_, _<_, zero-le}
+use Prim.Native.Nat.{ℕ, zero, suc, _+_, _*_, _≤_, _<_}
 use mathlib.Core.Path.{_≡_, refl, sym, ap, _∙_}
 use mathlib.Core.Logic.{_≢_}
 use mathlib.Core.Bool.{Bool, true, false, cond}
