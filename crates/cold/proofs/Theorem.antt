@@ -1,12 +1,12 @@
 -- R-10: every track of the count's cells between two different cells leaves what its class says. The panel has mn / 2 black cells, rounded down,
 -- and the track, along which colours alternate, as many as its length and its ends say; class by class the difference is what document 02 promises.
 use Prim.Native.Nat.{ℕ, _+_, _-_, _*_, _/_, _≤_}
-use mathlib.Core.Path.{_≡_, refl, sym, ap, subst, _∙_}
+use mathlib.Core.Path.{_≡_, sym, ap, subst, _∙_}
 use mathlib.Core.Logic.{_≢_}
-use mathlib.Core.List.{List, [], _∷_}
+use mathlib.Core.List.{List}
 use native.Mathlib.Omega.{arith}
 use native.Mathlib.Nat.{mul-le-mul}
-use lib.ListN.{length}
+use lib.ListN.{length, drop-of-length-le}
 use Rattle.grid.specs.declared.Panel.{Panel}
 use Rattle.grid.specs.declared.Cell.{Cell}
 use Rattle.grid.specs.Panel.{panel, area}
@@ -19,12 +19,8 @@ use Rattle.count.proofs.Classes.{Told, told}
 use Rattle.count.proofs.Laws.{class-small}
 use Rattle.count.proofs.Sides.{order-by-sides}
 use Rattle.count.proofs.Terminals.{differing}
-use Rattle.cold.specs.Cold.{uncovered, Colours, ColdByClass, StaysCold}
+use Rattle.cold.specs.Cold.{uncovered, ColdByClass, StaysCold}
 use Rattle.cold.proofs.Uncovered.{left-over}
-
-empty : (l : List Cell) → length l ≡ 0 → l ≡ []
-empty [] e = refl
-empty (c ∷ l) e = absurd (omega arith)
 
 module _ (p : Panel) (s t : Cell) (wide : 3 ≤ p .width) (high : 3 ≤ p .height) (d : s ≢ t)
     {l : List Cell} (r : Track p s t l) (size : length l ≡ orderCount p s t) where
@@ -59,16 +55,13 @@ module _ (p : Panel) (s t : Cell) (wide : 3 ≤ p .width) (high : 3 ≤ p .heigh
         class-told .counted,
       )
 
-  coloured : {w b : ℕ} → (whites ≡ w) × (blacks ≡ b) → Colours w b cold
-  coloured h = record { whites = h .0; blacks = h .1 }
-
   by-class : ColdByClass (orderClass p s t) (area p) s t cold
   by-class = record {
-    four-even = λ c e. (coloured (omega (arith, balance)), coloured (omega (arith, balance)));
-    four-odd = λ c e. coloured (omega (arith, balance));
-    five-odd = λ c e. let (a, b) = class-told .five-black c e in coloured (omega (arith, balance, black-bit s ∙ ap bit a, black-bit t ∙ ap bit b));
-    five-even = λ c e. coloured (omega (arith, balance));
-    three = λ c. empty cold (omega (arith, balance, list-colours cold));
+    four-even = omega (arith, balance);
+    four-odd = omega (arith, balance);
+    five-odd = λ c e. let (a, b) = class-told .five-black c e in omega (arith, balance, black-bit s ∙ ap bit a, black-bit t ∙ ap bit b);
+    five-even = omega (arith, balance);
+    three = λ c. drop-of-length-le cold {i = 0} (omega (arith, balance, list-colours cold));
   }
 
 -- the theorem

@@ -9,8 +9,8 @@ use mathlib.Core.Bool.{Bool, true, false, cond, not, _&&_, _||_}
 use mathlib.Core.List.{List, reverse, map}
 use native.Mathlib.Omega.{arith}
 use lib.ListN.{length, length-reverse, length-map}
-use lib.Dec.{leb, eqb}
-use borrow.Author.Tests.{eqb-true, eqb-false, leb-true, not-true}
+use lib.Dec.{eqb}
+use borrow.Author.Tests.{eqb-true, eqb-false, not-true}
 use Rattle.grid.specs.declared.Panel.{Panel}
 use Rattle.grid.specs.declared.Cell.{Cell}
 use Rattle.grid.specs.Panel.{OnPanel, black, turnedCell}
@@ -20,11 +20,12 @@ use Rattle.grid.proofs.Tests.{both-branches}
 use Rattle.grid.proofs.Track.{all-map, backwards, first-in, last-in, some-cell}
 use Rattle.grid.proofs.Moves.{turning, moved}
 use Rattle.count.specs.declared.ClassCount.{ClassCount}
-use Rattle.count.specs.Count.{area, odd, f1, f2, f2Count, f3Apart, f3, c2, c0, decided, classCount, count}
+use Rattle.count.specs.Count.{area, odd, f1, f2, f2Count, f3, c2, c0, decided, classCount, count}
 use Rattle.count.specs.Longest.{NoLonger, ifBlack, weight}
 use Rattle.count.proofs.Lines.{over-lines}
+use Rattle.count.proofs.F3.{ThreeApart, f3-facts}
 use Rattle.count.proofs.Pigeon.{InColumns, at-most-area}
-use Rattle.count.proofs.Colour.{bit, row-two, mod-bit, black-bit, walk-black, at-most-black}
+use Rattle.count.proofs.Colour.{bit, mod-bit, black-bit, walk-black, at-most-black}
 use Rattle.count.proofs.Strip.{strip}
 use Rattle.count.proofs.Rows.{one-row, two-rows}
 
@@ -113,32 +114,16 @@ module _ (p : Panel) (s t : Cell) (ne : s ≢ t) {l : List Cell} (r : Track p s 
       next n q d = bound n d (omega arith) (omega arith)
 
   f3-bound : f3 p s t ≡ true → Fits l (area p - 2)
-  unfolding f3
+  unfolding ifBlack
   f3-bound e =
-      let (n, e1) = and-parts (eqb (p .height) 3) _ e in
-      let (even, e2) = and-parts (not (odd (p .width))) _ e1 in
-      let (bs, e3) = and-parts (black s) _ e2 in
-      let (wt, x) = and-parts (not (black t)) _ e3 in
-      let h : p .height ≡ 3 = eqb-true _ _ n in
-      let o : p .width % 2 ≢ 1 = eqb-false _ _ (not-true _ even) in
-      let d : ifBlack s ≡ 1 = black-bit s ∙ ap bit bs in
-      let g : ifBlack t ≡ 0 = black-bit t ∙ ap bit (not-true (black t) wt) in
-      let a : area p ≡ p .width * 3 = ap (λ (k : ℕ). p .width * k) h in
-      let k = strip (s .x + (s .x + 1) % 2) (p .width) (omega arith) (omega arith) (omega arith) (column d x) d g (r .walk) (r .once) (rows 3 h) in
+      let f = f3-facts p s t e in
+      let a : area p ≡ p .width * 3 = ap (λ (k : ℕ). p .width * k) (f .rows) in
+      let k = strip (s .x + (s .x + 1) % 2) (p .width) (omega arith) (omega arith) (omega arith) (column f) (f .dark) (f .light) (r .walk) (r .once) (rows 3 (f .rows)) in
       two-less (p .width / 2) (area p) (length l) (weight ifBlack l) (omega arith) (omega arith) (omega (arith, ends))
     where
-      far : s .x + 2 ≤ t .x → s .x + (s .x + 1) % 2 < t .x
-      far h = omega arith
-
-      near : ifBlack s ≡ 1 → s .x + 1 ≡ t .x → s .y ≡ 2 → s .x + (s .x + 1) % 2 < t .x
-      near d h two = omega (arith, row-two s two)
-
       -- the first odd column from s on is left of t
-      column : ifBlack s ≡ 1 → f3Apart s t ≡ true → s .x + (s .x + 1) % 2 < t .x
-      column d x = elim (or-cases (leb (s .x + 2) (t .x)) _ x) [
-        | inl y ↦ far (leb-true _ _ y)
-        | inr y ↦ let (q, z) = and-parts _ _ y in near d (eqb-true _ _ q) (eqb-true _ _ (and-parts _ _ z .0))
-      ]
+      column : ThreeApart p s t → s .x + (s .x + 1) % 2 < t .x
+      column f = ⊎-elim (λ far. omega arith) (λ near. omega arith) (f .columns)
 
       two-less : (m a k w : ℕ) → a ≡ 2 * m * 3 → k + 2 ≤ a → 2 * w ≡ k → (k ≤ a - 2) × ((k + (a - 2)) % 2 ≡ 0)
       two-less m a k w e h i = omega arith

@@ -3,7 +3,7 @@
 use Prim.Native.Nat.{ℕ, _-_, _*_, _/_, _%_, _≤_}
 use mathlib.Core.Path.{_≡_, refl, sym, ap, _∙_}
 use mathlib.Core.Bool.{true}
-use mathlib.Core.Logic.{_≢_, ⊎-elim}
+use mathlib.Core.Logic.{⊎-elim}
 use native.Mathlib.Omega.{arith}
 use Rattle.grid.specs.declared.Panel.{Panel}
 use Rattle.grid.specs.declared.Cell.{Cell}
@@ -14,17 +14,17 @@ use Rattle.count.specs.declared.ClassCount.{ClassCount}
 use Rattle.count.specs.Count.{area, c2, c0, decided, classCount}
 use Rattle.count.proofs.Lines.{over-lines}
 use Rattle.count.proofs.Laws.{area-turned, c2-cases, not-f1, not-f2}
+use Rattle.count.proofs.F3.{ThreeApart}
 
 -- F3 has an even number of cells
 c2-black : (p : Panel) (s t : Cell) → c2 p s t ≡ true → area p % 2 ≡ 1 → (black s ≡ true) × (black t ≡ true)
-c2-black p s t e o =
-    ⊎-elim (λ h. (h .1, h .2)) (λ h. absurd (three-rows (p .width / 2) (area p) (λ i. even (p .width) (h .1) i * h .0 i) o)) (c2-cases p s t e)
+c2-black p s t e o = ⊎-elim (λ h. (h .1, h .2)) (λ f. absurd (even f)) (c2-cases p s t e)
   where
-    even : (m : ℕ) → m % 2 ≢ 1 → m ≡ 2 * (m / 2)
-    even m h = omega arith
-
-    three-rows : (k a : ℕ) → a ≡ 2 * k * 3 → a % 2 ≢ 1
-    three-rows k a q = omega arith
+    even : ThreeApart p s t → ⊥
+    even f =
+        let w : p .width ≡ 2 * (p .width / 2) = omega (arith, f .even) in
+        let a : area p ≡ 2 * (p .width / 2) * 3 = λ i. w i * f .rows i in
+        omega arith
 
 pub record Told (p : Panel) (s t : Cell) (f : ClassCount) : Type 0 where
   pub from-three : 3 ≤ f .class

@@ -11,13 +11,14 @@ use borrow.Author.Tests.{ltb-true, ltb-false, lt-ltb, le-ltb, lt-leb, leb-true, 
 use Rattle.grid.specs.declared.Panel.{Panel}
 use Rattle.grid.specs.declared.Cell.{Cell}
 use Rattle.grid.specs.Panel.{OnPanel, black, turned, turnedCell}
-use Rattle.grid.proofs.Facts.{and-left, and-right, and-parts, or-cases, cell-eq}
+use Rattle.grid.proofs.Facts.{and-left, and-right, or-cases, cell-eq}
 use Rattle.grid.proofs.Moves.{turn-on, black-turned}
 use Rattle.grid.proofs.Tests.{and-no, both-branches, cond-yes, cond-no}
 use Rattle.count.specs.declared.ClassCount.{ClassCount}
 use Rattle.count.specs.Count.{area, odd, endCell, f1, f2, f2Count, f3, c2, c0, found, decided, named, classCount, class, count}
 use Rattle.count.specs.ByColour.{coloured, byColour}
-use Rattle.count.proofs.Lines.{over-names, over-lines}
+use Rattle.count.proofs.Lines.{over-lines}
+use Rattle.count.proofs.F3.{ThreeApart, f3-facts}
 
 -- ---- Boolean laws
 
@@ -59,16 +60,9 @@ sum-le-product (suc k) h p q = omega (arith, suc-mul k h, mul-le-mul-left k q, m
 pub area-of-cell : (p : Panel) (c : Cell) → OnPanel p c → c .x + c .y ≤ area p + 1
 area-of-cell p c o = omega (arith, sum-le-product (p .width) (p .height) (omega arith) (omega arith))
 
-f3-sides : (p : Panel) (s t : Cell) → f3 p s t ≡ true → (p .height ≡ 3) × (p .width % 2 ≢ 1)
-unfolding f3
-f3-sides p s t e =
-    let (three, rest) = and-parts (eqb (p .height) 3) _ e in
-    (eqb-true _ _ three, eqb-false _ _ (not-true _ (and-left (not (odd (p .width))) _ rest)))
-
-pub c2-cases : (p : Panel) (s t : Cell) → c2 p s t ≡ true
-    → ((odd (area p) ≡ true) × (black s ≡ true) × (black t ≡ true)) ⊎ ((p .height ≡ 3) × (p .width % 2 ≢ 1))
+pub c2-cases : (p : Panel) (s t : Cell) → c2 p s t ≡ true → ((odd (area p) ≡ true) × (black s ≡ true) × (black t ≡ true)) ⊎ ThreeApart p s t
 unfolding c2
-c2-cases p s t e = ⊎-elim (λ h. inl (three h)) (λ h. inr (f3-sides p s t h)) (or-cases _ _ e)
+c2-cases p s t e = ⊎-elim (λ h. inl (three h)) (λ h. inr (f3-facts p s t h)) (or-cases _ _ e)
   where
     three : (odd (area p) && (black s && black t)) ≡ true → (odd (area p) ≡ true) × (black s ≡ true) × (black t ≡ true)
     three h =
@@ -254,14 +248,6 @@ record Ordered (p : Panel) (s t : Cell) : Type 0 where
   differ : s ≢ t
   left : s .x ≤ t .x
 
--- what holds of either naming holds of the named terminals
-by-name : (P : ClassCount → Type 0) (p : Panel) (s t : Cell) → p .height ≤ p .width → OnPanel p s → OnPanel p t → s ≢ t
-    → (Ordered p s t → P (decided p s t)) → (Ordered p t s → P (decided p t s)) → P (named p s t)
-by-name P p s t h a b n f g =
-    over-names P p s t
-    (λ k. f (record { wide = h; on-s = a; on-t = b; differ = n; left = k }))
-    (λ k. g (record { wide = h; on-s = b; on-t = a; differ = λ r. n (sym r); left = k }))
-
 record Square (p : Panel) (s t : Cell) : Type 0 where
   order : Ordered p s t
   same : p .width ≡ p .height
@@ -290,11 +276,11 @@ decided-square {p} {s} {t} q n = decided-by-colour p s t (square-f1 q) (not-f2 p
 
 square-class : (p : Panel) (s t : Cell) → p .width ≡ p .height → p .height ≢ 2 → OnPanel p s → OnPanel p t → s ≢ t
     → classCount p s t ≡ byColour p s t
-square-class p s t e two a b n =
-    wide-class p s t (omega arith)
-    ∙ by-name (λ (r : ClassCount). r ≡ byColour p s t) p s t (omega arith) a b n
-    (λ q. decided-square (record { order = q; same = e }) two)
-    (λ q. decided-square (record { order = q; same = e }) two ∙ by-colour-swap p t s)
+square-class =
+    over-lines (λ p s t f. p .width ≡ p .height → p .height ≢ 2 → OnPanel p s → OnPanel p t → s ≢ t → f ≡ byColour p s t)
+    (λ p s t h k e two a b n. decided-square (record { order = record { wide = h; on-s = a; on-t = b; differ = n; left = k }; same = e }) two)
+    (λ p s t f q e two a b n. q e two b a (λ r. n (sym r)) ∙ by-colour-swap p t s)
+    (λ p s t f q e two a b n. q (sym e) (λ w. two (sym e ∙ w)) (turn-on a) (turn-on b) (λ r. n (ap turnedCell r)) ∙ by-colour-turned p s t)
 
 -- every panel but 2 by 2: the same class and count for the panel turned
 pub turned-class : (p : Panel) (s t : Cell) → OnPanel p s → OnPanel p t → s ≢ t → (p .width ≡ 2 → p .height ≢ 2)
@@ -360,11 +346,11 @@ square-decided {p} {s} {t} q =
     (λ e. ap (λ (r : ClassCount). r .count .0) (rest-by-colour p s t (square-f3 q))))
 
 square-count : (p : Panel) (s t : Cell) → p .width ≡ p .height → OnPanel p s → OnPanel p t → s ≢ t → count p s t ≡ colourCount p s t
-square-count p s t e a b n =
-    ap (λ (r : ClassCount). r .count .0) (wide-class p s t (omega arith))
-    ∙ by-name (λ (r : ClassCount). r .count .0 ≡ colourCount p s t) p s t (omega arith) a b n
-    (λ q. square-decided (record { order = q; same = e }))
-    (λ q. square-decided (record { order = q; same = e }) ∙ ap (λ (r : ClassCount). r .count .0) (by-colour-swap p t s))
+square-count =
+    over-lines (λ p s t f. p .width ≡ p .height → OnPanel p s → OnPanel p t → s ≢ t → f .count .0 ≡ colourCount p s t)
+    (λ p s t h k e a b n. square-decided (record { order = record { wide = h; on-s = a; on-t = b; differ = n; left = k }; same = e }))
+    (λ p s t f q e a b n. q e b a (λ r. n (sym r)) ∙ ap (λ (r : ClassCount). r .count .0) (by-colour-swap p t s))
+    (λ p s t f q e a b n. q (sym e) (turn-on a) (turn-on b) (λ r. n (ap turnedCell r)) ∙ ap (λ (r : ClassCount). r .count .0) (by-colour-turned p s t))
 
 -- the same count for the panel turned
 pub turned-count : (p : Panel) (s t : Cell) → OnPanel p s → OnPanel p t → s ≢ t → count (turned p) (turnedCell s) (turnedCell t) ≡ count p s t

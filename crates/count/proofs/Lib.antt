@@ -1,5 +1,6 @@
 pub mod Laws
 pub mod Lines
+pub mod F3
 pub mod Classes
 pub mod Table
 pub mod Examples

@@ -11,7 +11,7 @@ use Rattle.count.specs.declared.ClassCount.{ClassCount}
 use Rattle.count.specs.Count.{decided, named, classCount}
 
 -- what holds of the lines for the terminals under either naming holds of the named terminals
-pub over-names : (P : ClassCount → Type 0) (p : Panel) (s t : Cell)
+over-names : (P : ClassCount → Type 0) (p : Panel) (s t : Cell)
     → (s .x ≤ t .x → P (decided p s t)) → (t .x ≤ s .x → P (decided p t s)) → P (named p s t)
 unfolding named
 over-names P p s t f g =

@@ -25,11 +25,12 @@ use Rattle.list.proofs.Cells.{put-first}
 use Rattle.line.specs.Drawn.{written}
 use Rattle.line.proofs.Drawn.{written-front, written-behind}
 use Rattle.count.specs.Order.{orderCount}
-use Rattle.count.specs.Longest.{NoLonger}
+use Rattle.count.specs.Longest.{NoLonger, Longest}
 use Rattle.count.proofs.Terminals.{none-longer}
+use Rattle.cold.specs.Cold.{StaysCold}
 use Rattle.cold.proofs.Theorem.{stays-cold}
 use Rattle.draw.specs.Track.{trackBetween, drawnTrack}
-use Rattle.draw.specs.Draw.{drawCheck, Longest, LongestAtFront, Draws, drawBuffer}
+use Rattle.draw.specs.Draw.{drawCheck, LongestAtFront, Draws, drawBuffer}
 use Rattle.draw.proofs.Track.{drawn-track, length-drawn}
 
 -- ---- the check
@@ -57,28 +58,22 @@ module _ (m n : ℕ) (s t : Cell) (old : List ℕ) {new : List ℕ} where
   unfolding drawnTrack
   two-drawn d h = h ∙ ap (λ (l : List Cell). withCells l old) (cond-no _ _ (ne-same s t d) refl)
 
--- that track is a longest one
-longest : (p : Panel) (s t : Cell) → OnPanel p s → OnPanel p t → {k : ℕ} → k ≡ orderCount p s t
-    → Longest p s t k (drawnTrack (p .width) (p .height) s t)
-longest p s t os ot q =
-    let track = drawn-track p s t os ot in
-    let size = length-drawn p s t os ot in
-    record {
-      size = size ∙ sym q;
-      track = track;
-      none-longer = subst (NoLonger p s t) (sym q) (none-longer p s t);
-      cold = stays-cold p s t track size;
-    }
-
--- and so is what is at the front
+-- that track at the front is a longest one
 pub at-front : {p : Panel} {s t : Cell} {k : ℕ} {old new : List ℕ} → k ≡ orderCount p s t → OnPanel p s → OnPanel p t
     → new ≡ withCells (drawnTrack (p .width) (p .height) s t) old → LongestAtFront p s t k old new
 at-front {p} {s} {t} {k} {old} {new} q os ot w =
     let l = drawnTrack (p .width) (p .height) s t in
-    let e : length l ≡ k = length-drawn p s t os ot ∙ sym q in
+    let track = drawn-track p s t os ot in
+    let size = length-drawn p s t os ot in
+    let e : length l ≡ k = size ∙ sym q in
     let v : new ≡ written l k old = w ∙ ap (λ (n : ℕ). written l n old) e in
-    let there = written-front l old e v in
-    record { longest = subst (Longest p s t k) (sym there) (longest p s t os ot q); behind = written-behind l old e v }
+    let there = sym (written-front l old e v) in
+    let longest : Longest p s t k l = record { size = e; track = track; none-longer = subst (NoLonger p s t) (sym q) (none-longer p s t) } in
+    record {
+      longest = subst (Longest p s t k) there longest;
+      cold = subst (StaysCold p s t) there (stays-cold p s t track size);
+      behind = written-behind l old e v;
+    }
 
 -- ---- both promises of the call
 

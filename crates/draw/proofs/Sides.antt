@@ -14,28 +14,25 @@ use Rattle.grid.specs.declared.CellsAnswer.the-variants.{Refused, Given}
 use Rattle.grid.specs.Panel.{panel, goodPitch}
 use Rattle.grid.specs.Check.{after, expect, answer}
 use Rattle.grid.specs.Answer.{cellsAnswer, GivesCells}
-use Rattle.grid.proofs.Sides.{track-same, order-same}
+use Rattle.grid.specs.Bytes.{front}
+use Rattle.grid.proofs.Sides.{order-same}
 use Rattle.list.specs.List.{withCells}
-use Rattle.count.proofs.Sides.{order-count-same, no-longer-same}
+use Rattle.count.proofs.Sides.{order-count-same, longest-same}
 use Rattle.cold.proofs.Theorem.{cold-same}
 use Rattle.draw.specs.Track.{drawnTrack}
-use Rattle.draw.specs.Draw.{drawCheck, Longest, Leaves, Draws, drawBuffer}
+use Rattle.draw.specs.Draw.{drawCheck, Leaves, Draws, drawBuffer}
 
 module _ (m n a b : ℕ) (u : goodPitch (panel m n a) ≡ true) (v : goodPitch (panel m n b) ≡ true) (s t : Cell) where
   check-same : (size : ℕ) → drawCheck (panel m n a) s t size ≡ drawCheck (panel m n b) s t size
   check-same size = λ i. after (order-same m n a b u v s t i) (expect (leb (2 * order-count-same m n a b s t i) size) ShortBuffer Good)
 
-  longest-same : {k : ℕ} {l : List Cell} → Longest (panel m n a) s t k l → Longest (panel m n b) s t k l
-  longest-same {l = l} h = record {
-    size = h .size;
-    track = track-same (h .track);
-    none-longer = no-longer-same (h .none-longer);
-    cold = cold-same m n a b s t l (h .cold);
-  }
-
   leaves-same : (old new : List ℕ) (r : CellsAnswer) → Leaves (panel m n a) s t old new r → Leaves (panel m n b) s t old new r
   leaves-same old new (Refused r) e = e
-  leaves-same old new (Given k) f = record { longest = longest-same (f .longest); behind = f .behind }
+  leaves-same old new (Given k) f = record {
+    longest = longest-same (f .longest);
+    cold = cold-same m n a b s t (front (k .0) new) (f .cold);
+    behind = f .behind;
+  }
 
   -- what one call promises is what the other does
   pub draws-same : {old new : List ℕ} {r : CellsAnswer} → Draws (panel m n a) s t old new r → Draws (panel m n b) s t old new r

@@ -11,12 +11,11 @@ use Rattle.grid.specs.declared.Check.the-variants.{Good}
 use Rattle.grid.specs.declared.Refusal.the-variants.{ShortBuffer}
 use Rattle.grid.specs.declared.CellsAnswer.{CellsAnswer}
 use Rattle.grid.specs.declared.CellsAnswer.the-variants.{Refused, Given}
-use Rattle.grid.specs.Track.{Track}
 use Rattle.grid.specs.Bytes.{front}
 use Rattle.grid.specs.Check.{checkOrder, after, expect, answer}
 use Rattle.grid.specs.Answer.{GivesCells}
 use Rattle.count.specs.Order.{orderCount}
-use Rattle.count.specs.Longest.{NoLonger}
+use Rattle.count.specs.Longest.{Longest}
 use Rattle.list.specs.List.{withCells}
 use Rattle.cold.specs.Cold.{StaysCold}
 use Rattle.draw.specs.Track.{drawnTrack}
@@ -25,16 +24,11 @@ use Rattle.draw.specs.Track.{drawnTrack}
 abbrev pub drawCheck : Panel → Cell → Cell → ℕ → Check
 drawCheck p s t size = after (checkOrder p s t) (expect (leb (2 * orderCount p s t) size) ShortBuffer Good)
 
--- a list of k cells is a track from s to t, every list of cells that is such a track has at most k, and the cells left uncovered are as R-10 says
-pub record Longest (p : Panel) (s t : Cell) (k : ℕ) (l : List Cell) : Type 0 where
-  pub size : length l ≡ k
-  pub track : Track p s t l
-  pub none-longer : NoLonger p s t k
-  pub cold : StaysCold p s t l
-
--- the k cells read from the front of the buffer after the call are such a list, and the bytes behind the k cells are the old ones
+-- the k cells read from the front of the buffer after the call are a track from s to t, every list of cells that is such a track has at most k, the
+-- cells that the track leaves uncovered are as document 02, R-10, says, and the bytes behind the k cells are the old ones
 pub record LongestAtFront (p : Panel) (s t : Cell) (k : ℕ) (old new : List ℕ) : Type 0 where
   pub longest : Longest p s t k (front k new)
+  pub cold : StaysCold p s t (front k new)
   pub behind : drop (2 * k) new ≡ drop (2 * k) old
 
 -- a refusal changes no byte
@@ -42,7 +36,8 @@ abbrev pub Leaves : Panel → Cell → Cell → List ℕ → List ℕ → CellsA
 Leaves p s t old new (Refused r) = new ≡ old
 Leaves p s t old new (Given k) = LongestAtFront p s t (k .0) old new
 
--- Draw's promise: the count, or what the check refuses; and the buffer begins with a longest track and is otherwise as it was
+-- Draw's promise: the count, or what the check refuses; and the buffer begins with a longest track, which leaves what R-10 says, and is otherwise as
+-- it was
 pub record Draws (p : Panel) (s t : Cell) (old new : List ℕ) (r : CellsAnswer) : Type 0 where
   pub gives : GivesCells (drawCheck p s t (length old)) (orderCount p s t) r
   pub leaves : Leaves p s t old new r

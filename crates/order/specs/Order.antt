@@ -9,10 +9,11 @@ use Rattle.grid.specs.declared.Cell.{Cell}
 use Rattle.grid.specs.declared.Refusal.the-variants.{UnknownByte}
 use Rattle.grid.specs.Refusal.{number}
 use Rattle.grid.specs.Bytes.{front}
+use Rattle.count.specs.Longest.{Longest}
+use Rattle.cold.specs.Cold.{StaysCold}
 use Rattle.bound.specs.declared.BoundAnswer.{BoundAnswer}
 use Rattle.bound.specs.declared.BoundAnswer.the-variants as bound
 use Rattle.bound.specs.Bound.{boundOf}
-use Rattle.draw.specs.Draw.{Longest}
 use Rattle.printout.specs.Text.{refusedText, answerText}
 use Rattle.order.specs.declared.Line.{Line}
 use Rattle.order.specs.declared.Line.the-variants.{Other, Order}
@@ -37,7 +38,7 @@ drawingOf (Order p s t) = boundDrawing p (boundOf p s t)
 -- the track chosen is a longest one and has Bound's count of cells, where the line is an order that is not refused; else nothing is asked of it
 abbrev pub Chosen : BoundAnswer → Panel → Cell → Cell → List Cell → Type 0
 Chosen (bound.Refused r) p s t l = Unit {0}
-Chosen (bound.Given f) p s t l = Longest p s t (f .count .0) l
+Chosen (bound.Given f) p s t l = Longest p s t (f .count .0) l × StaysCold p s t l
 
 abbrev pub ChosenFor : Line → List Cell → Type 0
 ChosenFor Other l = Unit {0}
