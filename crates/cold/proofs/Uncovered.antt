@@ -1,5 +1,5 @@
--- What a list without repeats leaves uncovered weighs what the panel weighs more than the list, whatever a cell weighs: so it has the cells of
--- the panel that the list has not, of each colour and in all.
+-- What a list of the panel's cells without repeats leaves uncovered weighs what the panel weighs less the list, whatever a cell weighs: so many
+-- cells are left as the panel has more than the list, of each colour and in all.
 use Prim.Native.Nat.{ℕ, zero, suc, _+_}
 use mathlib.Core.Path.{_≡_, refl, sym, ap, _∙_}
 use mathlib.Core.Bool.{Bool, true, false, cond, _||_, Bool-discrete}
@@ -49,7 +49,9 @@ without-among [] w d = refl
 without-among (c ∷ l) w d = without-among l (put c 0 w) d ∙ step (sameCell d c) refl
   where
     step : (b : Bool) → sameCell d c ≡ b → cond (among d l) 0 (put c 0 w d) ≡ cond (b || among d l) 0 (w d)
-    step true e = ap (cond (among d l) 0) (put-here c 0 w d (sym (same-eq d c e))) ∙ both-branches (λ (k : ℕ). k ≡ 0) (among d l) 0 0 (λ _. refl) (λ _. refl)
+    step true e =
+        ap (cond (among d l) 0) (put-here c 0 w d (sym (same-eq d c e)))
+        ∙ both-branches (λ (k : ℕ). k ≡ 0) (among d l) 0 0 (λ _. refl) (λ _. refl)
     step false e = ap (cond (among d l) 0) (put-there c 0 w d (λ q. same-ne d c e (sym q)))
 
 left-weight : (w : Cell → ℕ) (l k : List Cell) → weight w (filter (λ c. Bool-discrete (among c l) false) k) ≡ weight (without l w) k

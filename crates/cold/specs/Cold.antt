@@ -16,7 +16,7 @@ use Rattle.list.specs.List.{among}
 abbrev pub uncovered : Panel → List Cell → List Cell
 uncovered p l = filter (λ c. Bool-discrete (among c l) false) (reading p)
 
--- so many cells of a list are white and so many black, which are all
+-- so many cells of a list are white and so many black; each is one or the other
 pub record Colours (white black : ℕ) (l : List Cell) : Type 0 where
   pub whites : weight ifWhite l ≡ white
   pub blacks : weight ifBlack l ≡ black

@@ -1,8 +1,8 @@
 // Draws every order on the panels of 3 to 6 by 3 to 6 cells and looks at each cell of the panel, whether it
 // stands in the list. A line gives the class, whether mn is even or odd and the entry's colour and, behind the
 // colon, the number of such orders and how many white and how many black cells their tracks leave in all. The
-// last line says how many orders left other cells than document 02 promises, or no track of Bound's count. Of
-// spot heaters (class 6) nothing is promised.
+// last line says how many orders left other cells than document 02 promises, or were not drawn as a track of
+// Bound's count. Of spot heaters (class 6) nothing is promised.
 use bound::bound_values;
 use grid::Cell;
 use grid::Panel;
@@ -31,11 +31,6 @@ struct Totals {
     wrong: u32,
 }
 
-// The first cell of a panel.
-fn first() -> Cell {
-    Cell { x: 1, y: 1 }
-}
-
 // The cells from (1, 1) on, in rows of six.
 fn nth(i: u32) -> Cell {
     Cell {
@@ -51,9 +46,9 @@ fn colour(c: Cell) -> u32 {
 
 // ---- a plain look
 
-// Whether a cell of the panel stands in the list. The buffer is 0 behind it.
+// Whether a cell stands in the list, behind which the buffer is 0, or is not on the panel.
 fn covered(p: Panel, list: &[u8], c: Cell) -> bool {
-    if on(p, first(), c) {
+    if on(p, nth(0), c) {
         return position_of(list, c) != 0;
     }
     true
@@ -148,7 +143,7 @@ fn add_order(t: Totals, o: Order) -> Totals {
     next.orders[at] = add(orders, 1);
     next.white[at] = add(white, l.white);
     next.black[at] = add(black, l.black);
-    let drawn = a.cells.0 == b.count.0 && is_track(&list, o, first(), a.cells.0);
+    let drawn = a.cells.0 == b.count.0 && is_track(&list, o, nth(0), a.cells.0);
     if !(drawn && as_promised(b.class, odd, o, l)) {
         next.wrong = add(t.wrong, 1);
     }
@@ -167,7 +162,7 @@ fn order_of(code: u32) -> Order {
 // One order more, where both terminals are on the panel.
 fn count_one(t: Totals, code: u32) -> Totals {
     let o = order_of(code);
-    if on(o.panel, first(), o.entry) && on(o.panel, first(), o.exit) {
+    if on(o.panel, nth(0), o.entry) && on(o.panel, nth(0), o.exit) {
         return add_order(t, o);
     }
     t

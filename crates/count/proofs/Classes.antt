@@ -52,5 +52,7 @@ told =
     (λ p s t f k w h. let k = k h w in record {
       from-three = k .from-three;
       counted = k .counted ∙ ap (λ (a : ℕ). a - (f .class - 3)) (area-turned p);
-      five-black = λ e o. let (a, b) = k .five-black e (ap (λ (a : ℕ). a % 2) (area-turned p) ∙ o) in (sym (black-turned s) ∙ a, sym (black-turned t) ∙ b);
+      five-black = λ e o.
+          let (a, b) = k .five-black e (ap (λ (a : ℕ). a % 2) (area-turned p) ∙ o) in
+          (sym (black-turned s) ∙ a, sym (black-turned t) ∙ b);
     })

@@ -1,4 +1,5 @@
--- Document 01, "Operations": Draw writes a longest track at the front of a lent buffer and gives its cell count, or refuses.
+-- Document 01, "Operations", and document 02, R-10: Draw writes a longest track at the front of a lent buffer and gives its cell count, or refuses;
+-- the cells that the track leaves uncovered are known by class and colour.
 use Prim.Native.Nat.{ℕ, _*_}
 use mathlib.Core.Path.{_≡_}
 use mathlib.Core.List.{List}

@@ -14,6 +14,6 @@ run g x (suc k) = g x ++ run g (suc x) k
 abbrev pub row : Panel → ℕ → List Cell
 row p y = run (λ x. cell x y ∷ []) 1 (p .width)
 
--- the cells of the panel, rows from the top, each from the left (row-major order)
+-- the cells of the panel, row by row
 abbrev pub reading : Panel → List Cell
 reading p = run (row p) 1 (p .height)

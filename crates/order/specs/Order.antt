@@ -1,5 +1,5 @@
 -- Document 01, "Program foil": what a line comes to, the track that is drawn for it, and what is printed for every input. The counts and the
--- letters are those of one track, and of that track only a property is promised: it is a longest one.
+-- letters are those of one track, and of that track only properties are promised: it is a longest one, and leaves uncovered what R-10 says.
 use Prim.Native.Nat.{ℕ}
 use mathlib.Core.Path.{_≡_}
 use mathlib.Core.List.{List, _++_}
@@ -35,7 +35,8 @@ drawingOf (Order p s t) = boundDrawing p (boundOf p s t)
 
 -- ---- the track that is drawn
 
--- the track chosen is a longest one and has Bound's count of cells, where the line is an order that is not refused; else nothing is asked of it
+-- the track chosen is a longest one with Bound's count of cells and leaves what R-10 says, where the line is an order that is not refused; else
+-- nothing is asked of it
 abbrev pub Chosen : BoundAnswer → Panel → Cell → Cell → List Cell → Type 0
 Chosen (bound.Refused r) p s t l = Unit {0}
 Chosen (bound.Given f) p s t l = Longest p s t (f .count .0) l × StaysCold p s t l

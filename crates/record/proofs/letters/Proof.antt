@@ -8,7 +8,7 @@ use Rattle.grid.proofs.Answers.{cells-good}
 use Rattle.grid.proofs.Tests.{answer-good, answer-refused}
 use Rattle.grid.specs.declared.Check.the-variants.{Good}
 use Rattle.record_head.specs.Head.{headLength}
-use Rattle.record.specs.Read.{cellsRead, checkRecord, lettersPlace}
+use Rattle.record.specs.Read.{checkRecord, lettersPlace}
 use Rattle.record.proofs.Answers.{record-refused, record-good}
 use borrow.Author.Needs.{needs}
 use Rattle.record.proofs.letters.Statement.{statement}
