@@ -16,11 +16,14 @@ use Rattle.count.specs.Order.{orderClassCount, orderClass, orderCount}
 use Rattle.count.specs.Longest.{weight, ifBlack, ifWhite}
 use Rattle.count.proofs.Colour.{bit, black-bit, black-white, walk-black, list-colours, panel-black, panel-colours}
 use Rattle.count.proofs.Classes.{Told, told}
-use Rattle.count.proofs.Laws.{class-small}
 use Rattle.count.proofs.Sides.{order-by-sides}
 use Rattle.count.proofs.Terminals.{differing}
 use Rattle.cold.specs.Cold.{uncovered, ColdByClass, StaysCold}
 use Rattle.cold.proofs.Uncovered.{left-over}
+
+-- what the class says, of different terminals' order
+order-told : (p : Panel) (s t : Cell) → 3 ≤ p .width → 3 ≤ p .height → s ≢ t → Told p s t (orderClassCount p s t)
+order-told p s t wide high d = subst (Told p s t) (sym (differing p d)) (told p s t wide high)
 
 module _ (p : Panel) (s t : Cell) (wide : 3 ≤ p .width) (high : 3 ≤ p .height) (d : s ≢ t)
     {l : List Cell} (r : Track p s t l) (size : length l ≡ orderCount p s t) where
@@ -33,9 +36,8 @@ module _ (p : Panel) (s t : Cell) (wide : 3 ≤ p .width) (high : 3 ≤ p .heigh
   abbrev blacks : ℕ
   blacks = weight ifBlack cold
 
-  -- what the class says
   class-told : Told p s t (orderClassCount p s t)
-  class-told = subst (Told p s t) (sym (differing p d)) (told p s t wide high)
+  class-told = order-told p s t wide high d
 
   -- how many are left, and how many of them are black, by the count and the ends
   balance : (whites + blacks + orderCount p s t ≡ area p)
@@ -70,8 +72,7 @@ stays-cold p s t r size wide high d = by-class p s t wide high d r size
 
 -- no order of such a panel is without its line: the class of different terminals is 3, 4 or 5
 pub line-for-each : (p : Panel) (s t : Cell) → 3 ≤ p .width → 3 ≤ p .height → s ≢ t → (3 ≤ orderClass p s t) × (orderClass p s t ≤ 5)
-line-for-each p s t wide high d =
-    subst (λ (f : ClassCount). (3 ≤ f .class) × (f .class ≤ 5)) (sym (differing p d)) (told p s t wide high .from-three, class-small p s t)
+line-for-each p s t wide high d = let k = order-told p s t wide high d in (k .from-three, k .to-five)
 
 -- the pitch changes nothing of it
 pub cold-same : (m n a b : ℕ) (s t : Cell) (l : List Cell) → StaysCold (panel m n a) s t l → StaysCold (panel m n b) s t l

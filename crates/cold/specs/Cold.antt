@@ -25,7 +25,8 @@ pub record Colours (white black : ℕ) (l : List Cell) : Type 0 where
 abbrev pub OneOpposite : Cell → List Cell → Type 0
 OneOpposite c l = Colours (ifBlack c) (ifWhite c) l
 
--- the cells that a track from s to t leaves on a panel of mn cells, class by class
+-- class 4 leaves one cell, of the colour opposite to the terminals where mn is even, white where mn is odd; class 5 leaves two white cells where
+-- mn is odd, and one of each colour where it is even; class 3 leaves none
 pub record ColdByClass (class mn : ℕ) (s t : Cell) (cold : List Cell) : Type 0 where
   pub four-even : class ≡ 4 → mn % 2 ≡ 0 → OneOpposite s cold × OneOpposite t cold
   pub four-odd : class ≡ 4 → mn % 2 ≡ 1 → Colours 1 0 cold

@@ -3,11 +3,11 @@
 use Prim.Native.Nat.{ℕ, suc, zero, _+_, _-_, _*_, _%_, _≤_, _<_}
 use mathlib.Core.Path.{_≡_, refl, sym, ap, _∙_, subst}
 use mathlib.Core.Logic.{_≢_, _⊎_, inl, inr, ⊎-elim}
-use mathlib.Core.Bool.{Bool, true, false, cond, not, _&&_, _||_, and-true, and-false, and-comm, or-true, or-false, true≢false}
+use mathlib.Core.Bool.{Bool, true, false, cond, not, _&&_, _||_, and-true, and-comm, or-true, or-false, true≢false}
 use native.Mathlib.Omega.{arith}
 use native.Mathlib.Nat.{suc-mul, mul-one, mul-comm, mul-le-mul, mul-le-mul-left}
 use lib.Dec.{leb, ltb, eqb}
-use borrow.Author.Tests.{ltb-true, ltb-false, lt-ltb, le-ltb, lt-leb, leb-true, leb-false, eqb-true, eqb-false, eq-eqb, ne-eqb, not-true, not-false}
+use borrow.Author.Tests.{ltb-true, ltb-false, lt-ltb, le-ltb, leb-true, leb-false, eqb-true, eqb-false, eq-eqb, ne-eqb, not-true, not-false}
 use Rattle.grid.specs.declared.Panel.{Panel}
 use Rattle.grid.specs.declared.Cell.{Cell}
 use Rattle.grid.specs.Panel.{OnPanel, black, turned, turnedCell}
@@ -18,7 +18,7 @@ use Rattle.count.specs.declared.ClassCount.{ClassCount}
 use Rattle.count.specs.Count.{area, odd, endCell, f1, f2, f2Count, f3, c2, c0, found, decided, named, classCount, class, count}
 use Rattle.count.specs.ByColour.{coloured, byColour}
 use Rattle.count.proofs.Lines.{over-lines}
-use Rattle.count.proofs.F3.{ThreeApart, f3-facts}
+use Rattle.count.proofs.F3.{no-f3, c2-cases}
 
 -- ---- Boolean laws
 
@@ -59,15 +59,6 @@ sum-le-product (suc k) h p q = omega (arith, suc-mul k h, mul-le-mul-left k q, m
 -- a panel with a cell (x, y) has at least x + y - 1 cells
 pub area-of-cell : (p : Panel) (c : Cell) → OnPanel p c → c .x + c .y ≤ area p + 1
 area-of-cell p c o = omega (arith, sum-le-product (p .width) (p .height) (omega arith) (omega arith))
-
-pub c2-cases : (p : Panel) (s t : Cell) → c2 p s t ≡ true → ((odd (area p) ≡ true) × (black s ≡ true) × (black t ≡ true)) ⊎ ThreeApart p s t
-unfolding c2
-c2-cases p s t e = ⊎-elim (λ h. inl (three h)) (λ h. inr (f3-facts p s t h)) (or-cases _ _ e)
-  where
-    three : (odd (area p) && (black s && black t)) ≡ true → (odd (area p) ≡ true) × (black s ≡ true) × (black t ≡ true)
-    three h =
-        let r = and-right (odd (area p)) (black s && black t) h in
-        (and-left (odd (area p)) (black s && black t) h, and-left (black s) (black t) r, and-right (black s) (black t) r)
 
 f2-cases : (p : Panel) (s t : Cell) → f2 p s t ≡ true → (p .height ≡ 2) × ((s .x ≡ t .x) ⊎ ((s .x + 1 ≡ t .x) × (s .y ≢ t .y)))
 unfolding f2
@@ -124,13 +115,7 @@ f2-column p s t e = always (eqb (p .height) 2) _ (eq-eqb _ _ e)
 
 -- F3 wants the other terminal to the right
 f3-right : (p : Panel) (s t : Cell) → t .x ≤ s .x → f3 p s t ≡ false
-unfolding f3
-f3-right p s t h =
-    none (eqb (p .height) 3) (not (odd (p .width))) (black s) (not (black t)) (eqb (s .y) 2 && eqb (t .y) 2)
-    (lt-leb (s .x + 2) (t .x) (omega arith)) (ne-eqb (s .x + 1) (t .x) (omega arith))
-  where
-    none : (h e b w : Bool) {f n : Bool} (r : Bool) → f ≡ false → n ≡ false → (h && (e && (b && (w && (f || (n && r)))))) ≡ false
-    none h e b w r p q = simp (p, q, and-false)
+f3-right p s t h = no-f3 p s t (λ f. omega (arith, f .odd-column))
 
 c0-swap : (p : Panel) (s t : Cell) → c0 p s t ≡ c0 p t s
 unfolding c0
@@ -203,8 +188,7 @@ unfolding f2
 not-f2 p s t n = sym (and-no _ (ne-eqb (p .height) 2 n))
 
 pub not-f3 : (p : Panel) (s t : Cell) → p .height ≢ 3 → f3 p s t ≡ false
-unfolding f3
-not-f3 p s t n = sym (and-no _ (ne-eqb (p .height) 3 n))
+not-f3 p s t n = no-f3 p s t (λ f. n (f .rows))
 
 -- more than 3 rows and columns: none of them fits
 high : (p : Panel) (s t : Cell) → 3 < p .height → decided p s t ≡ byColour p s t
@@ -263,12 +247,7 @@ square-f1 : {p : Panel} {s t : Cell} → Square p s t → f1 p s t ≡ false
 square-f1 {p} {s} {t} q = not-f1 p s t (omega (arith, square-high q))
 
 square-f3 : {p : Panel} {s t : Cell} → Square p s t → f3 p s t ≡ false
-unfolding f3
-square-f3 {p} {s} {t} q = go (eqb (p .height) 3) refl _
-  where
-    go : (b : Bool) → eqb (p .height) 3 ≡ b → (r : Bool) → (b && (not (odd (p .width)) && r)) ≡ false
-    go true e r = let h = eqb-true (p .height) 3 e in sym (and-no r (ap not (eq-eqb (p .width % 2) 1 (omega (arith, q .same)))))
-    go false e r = refl
+square-f3 {p} {s} {t} q = no-f3 p s t (λ f. omega (arith, q .same, f .rows, f .even))
 
 -- a square of another side than 2: the colours decide
 decided-square : {p : Panel} {s t : Cell} → Square p s t → p .height ≢ 2 → decided p s t ≡ byColour p s t

@@ -141,7 +141,7 @@ module _ (p : Panel) (m : 3 ≤ p .width) (n : 3 ≤ p .height) where
 f3-from : (p : Panel) (s t : Cell) → OnPanel p t → Corner p s → f3 p s t ≡ false
 f3-from p s t ot k =
     no-f3 p s t λ f.
-    ⊎-elim (λ (q : s .x ≡ 1). level f q (k .level)) (λ (q : s .x ≡ p .width). omega (arith, f .apart, ot .right)) (k .side)
+    ⊎-elim (λ (q : s .x ≡ 1). level f q (k .level)) (λ (q : s .x ≡ p .width). omega (arith, f .odd-column, ot .right)) (k .side)
   where
     level : ThreeApart p s t → s .x ≡ 1 → (s .y ≡ 1) ⊎ (s .y ≡ p .height) → ⊥
     level f q (inl r) = omega (arith, f .dark)
@@ -150,7 +150,7 @@ f3-from p s t ot k =
 f3-to : (p : Panel) (s t : Cell) → OnPanel p s → Corner p t → f3 p s t ≡ false
 f3-to p s t os k =
     no-f3 p s t λ f.
-    ⊎-elim (λ (q : t .x ≡ 1). omega (arith, f .apart, os .left)) (λ (q : t .x ≡ p .width). level f q (k .level)) (k .side)
+    ⊎-elim (λ (q : t .x ≡ 1). omega (arith, f .odd-column, os .left)) (λ (q : t .x ≡ p .width). level f q (k .level)) (k .side)
   where
     level : ThreeApart p s t → t .x ≡ p .width → (t .y ≡ 1) ⊎ (t .y ≡ p .height) → ⊥
     level f q (inl r) = omega (arith, f .light, f .even)
