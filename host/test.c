@@ -267,23 +267,33 @@ static void good_at_every_pitch(struct order o, uint32_t class, uint32_t count)
     }
 }
 
-/* The cells that the last track leaves uncovered, counted by colour (white is 0, black 1), where both sides are 3 or
- * more and the terminals differ. */
-static void cold(struct order o, uint32_t class, uint32_t count)
+/* How many cells of each colour the last track leaves uncovered: white, black. */
+static void count_left(struct order o, uint32_t count, uint32_t left[2])
 {
-    if (o.m < 3 || o.n < 3 || (o.sx == o.tx && o.sy == o.ty))
-        return;
     static uint8_t covered[256][256];
     memset(covered, 0, sizeof covered);
     for (size_t i = 0; i < count; i++)
         covered[drawn[2 * i]][drawn[2 * i + 1]] = 1;
-    uint32_t left[2] = {0, 0};
+    left[0] = left[1] = 0;
     for (uint32_t x = 1; x <= o.m; x++)
         for (uint32_t y = 1; y <= o.n; y++)
             left[(x + y) % 2] += !covered[x][y];
+}
 
-    uint32_t at_entry = (o.sx + o.sy) % 2, at_exit = (o.tx + o.ty) % 2, odd = o.m * o.n % 2;
+/* How often each line was met: classes 3, 4 and 5, m * n being even and odd. */
+static unsigned long lines_met[3][2];
+
+/* What the last track leaves, where both sides are 3 or more and the terminals differ. */
+static void cold(struct order o, uint32_t class, uint32_t count)
+{
+    if (o.m < 3 || o.n < 3 || (o.sx == o.tx && o.sy == o.ty))
+        return;
     EXPECT(class >= 3 && class <= 5);
+    if (class < 3 || class > 5)
+        return;
+    uint32_t left[2], odd = o.m * o.n % 2, at_entry = (o.sx + o.sy) % 2, at_exit = (o.tx + o.ty) % 2;
+    count_left(o, count, left);
+    lines_met[class - 3][odd]++;
     if (class == 3)
         EXPECT(left[0] == 0 && left[1] == 0);
     if (class == 4 && odd)
@@ -605,6 +615,8 @@ int main(void)
     pairs();
     sides_of_both();
     refusals_of_both();
+    for (int i = 0; i < 6; i++)
+        EXPECT(lines_met[i / 2][i % 2] > 0);
     printf("%lu checks, %lu faults\n", checks, faults);
     return faults != 0;
 }

@@ -5,6 +5,9 @@ use std::ops::RangeInclusive;
 /// A cell: column from the left and row from the top, both from 1.
 pub type Cell = (u32, u32);
 
+/// The usual pitch, in micrometres: for orders whose pitch does not matter.
+pub const USUAL: u32 = 4_000;
+
 /// A panel of `width` columns and `height` rows, its cells' pitch in micrometres, and its two terminals.
 #[derive(Clone, Copy, Debug, PartialEq, Eq)]
 pub struct Order {

@@ -4,9 +4,9 @@
 
 mod common;
 
-use common::{buffer_for, dirty, list_for, number, order_on, scratch_for, Met, PITCHES, USUAL};
+use common::{buffer_for, dirty, list_for, number, order_on, scratch_for, Met, PITCHES};
 use compare::archive::{self, Answer, Judge};
-use compare::{bound, cells, draw, every_pair, judge, judge_once, pairs, random::Random, Cell, Order, Refusal};
+use compare::{bound, cells, draw, every_pair, judge, judge_once, pairs, random::Random, Cell, Order, Refusal, USUAL};
 
 fn packed<T>(answer: &Result<T, Refusal>, class_count: impl Fn(&T) -> (u32, u32)) -> Answer {
     match answer {

@@ -5,9 +5,7 @@
 use std::collections::HashSet;
 
 use compare::archive::{self, Answer};
-use compare::{bound, cells, every_pair, random::Random, Cell, Order};
-
-const USUAL: u32 = 4_000;
+use compare::{bound, cells, every_pair, random::Random, Cell, Order, USUAL};
 
 fn black((x, y): Cell) -> bool {
     (x + y) % 2 == 1
@@ -36,10 +34,10 @@ fn as_promised(order: &Order, class: u32, cold: &[Cell]) -> bool {
 
 /// How often each line was met: classes 3, 4 and 5, mn being even and odd. A test that never meets one tests less
 /// than it says.
-type Met = [[u32; 2]; 3];
+type Lines = [[u32; 2]; 3];
 
 /// What either Draw leaves of an order with different terminals and both sides 3 or more.
-fn stays_cold(order: &Order, met: &mut Met) {
+fn stays_cold(order: &Order, met: &mut Lines) {
     let class = bound(order).unwrap().class;
     let mut calls: Vec<fn(&Order, &mut [u8]) -> Answer> = vec![archive::draw];
     if order.check_bench().is_ok() {
@@ -56,7 +54,7 @@ fn stays_cold(order: &Order, met: &mut Met) {
 
 #[test]
 fn every_pair_on_panels_of_three_to_eight() {
-    let mut met = Met::default();
+    let mut met = Lines::default();
     let has_line = |order: &Order| order.width >= 3 && order.height >= 3 && order.entry != order.exit;
     every_pair(8, USUAL).filter(has_line).for_each(|order| stays_cold(&order, &mut met));
     assert!(met.iter().flatten().all(|&times| times > 100), "{met:?}");
@@ -66,7 +64,7 @@ fn every_pair_on_panels_of_three_to_eight() {
 #[test]
 fn random_orders() {
     let mut random = Random::new(0x5EED_0012);
-    let mut met = Met::default();
+    let mut met = Lines::default();
     for _ in 0..4_000 {
         let (width, height) = (random.within(3, 128), random.within(3, 128));
         let order = match random.below(4) {

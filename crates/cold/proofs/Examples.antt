@@ -1,4 +1,4 @@
--- What some longest tracks leave, computed for every pitch. A wrong definition shows here by its numbers.
+-- What some lists leave, computed for every pitch. A wrong definition shows here by its numbers.
 use Prim.Native.Nat.{ℕ}
 use mathlib.Core.Path.{_≡_, refl}
 use mathlib.Core.List.{List, [], _∷_}

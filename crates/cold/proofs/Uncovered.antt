@@ -1,5 +1,5 @@
--- What a list of the panel's cells without repeats leaves uncovered weighs what the panel weighs less the list, whatever a cell weighs: so many
--- cells are left as the panel has more than the list, of each colour and in all.
+-- The cells that a list of the panel's cells without repeats leaves uncovered weigh what the panel weighs less what the list weighs, whatever the
+-- weights: so many are left as the panel has more than the list, of each colour and in all.
 use Prim.Native.Nat.{ℕ, zero, suc, _+_}
 use mathlib.Core.Path.{_≡_, refl, sym, ap, _∙_}
 use mathlib.Core.Bool.{Bool, true, false, cond, _||_, Bool-discrete}

@@ -1,4 +1,5 @@
--- Document 02, R-10: the cells that a list leaves uncovered (cold patches), and how many of them are white and how many black, by class.
+-- Document 02, R-10: the cells that a list leaves uncovered, which stay cold (vertices that the path misses), and how many of them are white and
+-- how many black, by class.
 use Prim.Native.Nat.{ℕ, _%_, _≤_}
 use mathlib.Core.Path.{_≡_}
 use mathlib.Core.Bool.{false, Bool-discrete}

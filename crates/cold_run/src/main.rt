@@ -46,7 +46,7 @@ fn colour(c: Cell) -> u32 {
 
 // ---- a plain look
 
-// Whether a cell stands in the list, behind which the buffer is 0, or is not on the panel.
+// Whether a cell is off the panel or in the list. Behind the list the buffer is 0, so all of it is searched.
 fn covered(p: Panel, list: &[u8], c: Cell) -> bool {
     if on(p, nth(0), c) {
         return position_of(list, c) != 0;
@@ -55,7 +55,7 @@ fn covered(p: Panel, list: &[u8], c: Cell) -> bool {
 }
 
 // The cells left, with c if it is one of them.
-fn with(l: Left, p: Panel, list: &[u8], c: Cell) -> Left {
+fn counted_in(l: Left, p: Panel, list: &[u8], c: Cell) -> Left {
     if covered(p, list, c) {
         return l;
     }
@@ -75,40 +75,40 @@ fn with(l: Left, p: Panel, list: &[u8], c: Cell) -> Left {
 fn look(p: Panel, list: &[u8]) -> Left {
     let mut l = Left { white: 0, black: 0 };
     for i in 0..36 {
-        l = with(l, p, list, nth(i));
+        l = counted_in(l, p, list, nth(i));
     }
     l
 }
 
 // ---- what document 02 says of a class
 
-fn is(l: Left, white: u32, black: u32) -> bool {
+fn has(l: Left, white: u32, black: u32) -> bool {
     l.white == white && l.black == black
 }
 
 fn one_opposite(l: Left, c: Cell) -> bool {
     if colour(c) == 0 {
-        is(l, 0, 1)
+        has(l, 0, 1)
     } else {
-        is(l, 1, 0)
+        has(l, 1, 0)
     }
 }
 
 fn as_promised(class: u32, odd: u32, o: Order, l: Left) -> bool {
     if class == 3 {
-        return is(l, 0, 0);
+        return has(l, 0, 0);
     }
     if class == 4 && odd == 0 {
         return one_opposite(l, o.entry) && one_opposite(l, o.exit);
     }
     if class == 4 {
-        return is(l, 1, 0);
+        return has(l, 1, 0);
     }
     if class == 5 && odd == 0 {
-        return is(l, 1, 1);
+        return has(l, 1, 1);
     }
     if class == 5 {
-        return is(l, 2, 0);
+        return has(l, 2, 0);
     }
     class == 6
 }
@@ -123,9 +123,23 @@ fn area_parity(p: Panel) -> u32 {
     p.height % 2
 }
 
-// The number of an order's line: classes 3 to 6, mn even or odd, the entry white or black.
+// The number of an order's line: classes 3 to 6, mn even or odd, the entry white or black. Another class falls
+// on one of these lines, and its order counts as wrong.
 fn line_of(class: u32, odd: u32, entry: Cell) -> u32 {
     add(add(class, 1) % 4 * 4 + odd % 2 * 2, colour(entry))
+}
+
+// An order of that line more, and what its track leaves.
+fn add_to(t: Totals, line: u32, l: Left) -> Totals {
+    let at = (line % 16) as usize;
+    let mut next = t;
+    let orders = next.orders[at];
+    let white = next.white[at];
+    let black = next.black[at];
+    next.orders[at] = add(orders, 1);
+    next.white[at] = add(white, l.white);
+    next.black[at] = add(black, l.black);
+    next
 }
 
 fn add_order(t: Totals, o: Order) -> Totals {
@@ -135,17 +149,10 @@ fn add_order(t: Totals, o: Order) -> Totals {
     let a = cells_values(draw::draw(p, o.entry, o.exit, &mut list));
     let l = look(p, &list);
     let odd = area_parity(p);
-    let at = (line_of(b.class, odd, o.entry) % 16) as usize;
-    let mut next = t;
-    let orders = next.orders[at];
-    let white = next.white[at];
-    let black = next.black[at];
-    next.orders[at] = add(orders, 1);
-    next.white[at] = add(white, l.white);
-    next.black[at] = add(black, l.black);
+    let mut next = add_to(t, line_of(b.class, odd, o.entry), l);
     let drawn = a.cells.0 == b.count.0 && is_track(&list, o, nth(0), a.cells.0);
     if !(drawn && as_promised(b.class, odd, o, l)) {
-        next.wrong = add(t.wrong, 1);
+        next.wrong = add(next.wrong, 1);
     }
     next
 }

@@ -1,5 +1,5 @@
--- The pigeonhole, with weights: if no cell stands twice in a list and all lie in some columns, then with the weights of its cells put to 0 the columns
--- weigh less by exactly what the list weighs. So the list weighs at most what they do.
+-- The pigeonhole, with weights: if no cell stands twice in a list and all lie in some columns, then with the weights of its cells put to 0 the
+-- columns weigh less by exactly what the list weighs. So the list weighs at most what they do.
 -- By induction over the list: the weight of its first cell is put to 0, which takes that much from the columns and nothing from the rest of the list.
 use Prim.Native.Nat.{ℕ, zero, suc, _+_, _*_, _≤_, _<_}
 use mathlib.Core.Path.{_≡_, refl, sym, ap, _∙_}

@@ -1,4 +1,5 @@
--- No track is longer: the statement; longest tracks; closed tracks; and how the cells of a list and of a panel are counted, by colour or by any weight.
+-- No track is longer: the statement; longest tracks; closed tracks; and how the cells of a list and of a panel are counted, by colour or by any
+-- weight.
 use Prim.Native.Nat.{ℕ, zero, suc, _+_, _%_, _≤_}
 use mathlib.Core.Path.{_≡_}
 use mathlib.Core.List.{List, [], _∷_}

@@ -16,8 +16,8 @@ loop-holds c = search needs
 nth-requires : tie.Need-nth-requires Inv-loop μ-loop
 nth-requires c κs = search needs
 
-with-requires : tie.Need-with-requires Inv-loop μ-loop
-with-requires c κs = search needs
+counted-in-requires : tie.Need-counted-in-requires Inv-loop μ-loop
+counted-in-requires c κs = search needs
 
 add-i : tie.Need-add-i Inv-loop μ-loop
 add-i c = search needs
@@ -34,4 +34,4 @@ returns c = search needs
 pub look-spec : {M : Type 1} → statement M
 look-spec =
     tie.close
-    (tie.spec Inv-loop μ-loop loop-holds nth-requires with-requires add-i loop-less loop-again returns)
+    (tie.spec Inv-loop μ-loop loop-holds nth-requires counted-in-requires add-i loop-less loop-again returns)
