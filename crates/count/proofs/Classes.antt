@@ -31,7 +31,8 @@ lines-told : (p : Panel) (s t : Cell) → 3 ≤ p .height → Told p s t (decide
 unfolding decided
 lines-told p s t h =
     rw (not-f1 p s t (omega arith), not-f2 p s t (omega arith))
-    (both-branches (Told p s t) (c2 p s t) _ _ (λ e. record { from-three = omega arith; to-five = omega arith; counted = refl; five-black = λ _. c2-black p s t e })
+    (both-branches (Told p s t) (c2 p s t) _ _
+    (λ e. record { from-three = omega arith; to-five = omega arith; counted = refl; five-black = λ _. c2-black p s t e })
     (λ _. both-branches (Told p s t) (c0 p s t) _ _
     (λ _. record { from-three = omega arith; to-five = omega arith; counted = omega arith; five-black = λ e. absurd (omega arith) })
     (λ _. record { from-three = omega arith; to-five = omega arith; counted = refl; five-black = λ e. absurd (omega arith) })))

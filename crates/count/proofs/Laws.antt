@@ -329,7 +329,8 @@ square-count =
     over-lines (λ p s t f. p .width ≡ p .height → OnPanel p s → OnPanel p t → s ≢ t → f .count .0 ≡ colourCount p s t)
     (λ p s t h k e a b n. square-decided (record { order = record { wide = h; on-s = a; on-t = b; differ = n; left = k }; same = e }))
     (λ p s t f q e a b n. q e b a (λ r. n (sym r)) ∙ ap (λ (r : ClassCount). r .count .0) (by-colour-swap p t s))
-    (λ p s t f q e a b n. q (sym e) (turn-on a) (turn-on b) (λ r. n (ap turnedCell r)) ∙ ap (λ (r : ClassCount). r .count .0) (by-colour-turned p s t))
+    (λ p s t f q e a b n.
+    q (sym e) (turn-on a) (turn-on b) (λ r. n (ap turnedCell r)) ∙ ap (λ (r : ClassCount). r .count .0) (by-colour-turned p s t))
 
 -- the same count for the panel turned
 pub turned-count : (p : Panel) (s t : Cell) → OnPanel p s → OnPanel p t → s ≢ t → count (turned p) (turnedCell s) (turnedCell t) ≡ count p s t
