@@ -21,7 +21,7 @@ pub record ThreeApart (p : Panel) (s t : Cell) : Type 0 where
   pub light : (t .x + t .y) % 2 ≡ 0
   pub odd-column : s .x + (s .x + 1) % 2 < t .x
 
--- a black terminal that is in an even row where the other is in the next column
+-- (x, y) is black, and z is two columns further or more, or one where y is a row that is even
 odd-column : (x y z row : ℕ) (b : Bool) → (x + y) % 2 ≡ 1 → (leb (x + 2) z || (eqb (x + 1) z && (eqb y row && b))) ≡ true → row % 2 ≡ 0
     → x + (x + 1) % 2 < z
 odd-column x y z row b dark e even = ⊎-elim far near (or-cases (leb (x + 2) z) _ e)
