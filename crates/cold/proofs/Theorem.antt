@@ -17,7 +17,7 @@ use Rattle.count.specs.Longest.{weight, ifBlack, ifWhite}
 use Rattle.count.proofs.Colour.{bit, black-bit, black-white, walk-black, list-colours, panel-black, panel-colours}
 use Rattle.count.proofs.Classes.{Told, told}
 use Rattle.count.proofs.Sides.{order-by-sides}
-use Rattle.count.proofs.Terminals.{differing}
+use Rattle.count.proofs.Terminals.{differing, order-class-small, spot-class}
 use Rattle.cold.specs.Cold.{uncovered, ColdByClass, StaysCold}
 use Rattle.cold.proofs.Uncovered.{left-over}
 
@@ -72,7 +72,9 @@ stays-cold p s t r size wide high d = by-class p s t wide high d r size
 
 -- no order of such a panel is without its line: the class of different terminals is 3, 4 or 5
 pub line-for-each : (p : Panel) (s t : Cell) → 3 ≤ p .width → 3 ≤ p .height → s ≢ t → (3 ≤ orderClass p s t) × (orderClass p s t ≤ 5)
-line-for-each p s t wide high d = let k = order-told p s t wide high d in (k .from-three, k .to-five)
+line-for-each p s t wide high d =
+    let no-spot : orderClass p s t ≢ 6 = λ e. d ((spot-class p s t) .0 e) in
+    (order-told p s t wide high d .from-three, omega (arith, order-class-small p s t))
 
 -- the pitch changes nothing of it
 pub cold-same : (m n a b : ℕ) (s t : Cell) (l : List Cell) → StaysCold (panel m n a) s t l → StaysCold (panel m n b) s t l

@@ -1,5 +1,5 @@
--- What a class says of the count and of the terminals' colours, on a panel with both sides 3 or more: the classes are 3 to 5, the count is mn but for
--- class − 3 cells, and class 5 on a panel with an odd number of cells has black terminals.
+-- What a class says of the count and of the terminals' colours, on a panel with both sides 3 or more: the class is 3 or more, the count is mn but
+-- for class − 3 cells, and class 5 on a panel with an odd number of cells has black terminals.
 use Prim.Native.Nat.{ℕ, _-_, _%_, _≤_}
 use mathlib.Core.Path.{_≡_, refl, sym, ap, _∙_}
 use mathlib.Core.Bool.{true}
@@ -23,7 +23,6 @@ c2-black p s t e o = ⊎-elim (λ h. (h .1, h .2)) (λ f. absurd (omega (arith, 
 -- what the class of such a panel says
 pub record Told (p : Panel) (s t : Cell) (f : ClassCount) : Type 0 where
   pub from-three : 3 ≤ f .class
-  pub to-five : f .class ≤ 5
   pub counted : f .count .0 ≡ area p - (f .class - 3)
   pub five-black : f .class ≡ 5 → area p % 2 ≡ 1 → (black s ≡ true) × (black t ≡ true)
 
@@ -32,10 +31,10 @@ unfolding decided
 lines-told p s t h =
     rw (not-f1 p s t (omega arith), not-f2 p s t (omega arith))
     (both-branches (Told p s t) (c2 p s t) _ _
-    (λ e. record { from-three = omega arith; to-five = omega arith; counted = refl; five-black = λ _. c2-black p s t e })
+    (λ e. record { from-three = omega arith; counted = refl; five-black = λ _. c2-black p s t e })
     (λ _. both-branches (Told p s t) (c0 p s t) _ _
-    (λ _. record { from-three = omega arith; to-five = omega arith; counted = omega arith; five-black = λ e. absurd (omega arith) })
-    (λ _. record { from-three = omega arith; to-five = omega arith; counted = refl; five-black = λ e. absurd (omega arith) })))
+    (λ _. record { from-three = omega arith; counted = omega arith; five-black = λ e. absurd (omega arith) })
+    (λ _. record { from-three = omega arith; counted = refl; five-black = λ e. absurd (omega arith) })))
 
 pub told : (p : Panel) (s t : Cell) → 3 ≤ p .width → 3 ≤ p .height → Told p s t (classCount p s t)
 told =
@@ -43,13 +42,11 @@ told =
     (λ p s t _ _ w h. lines-told p s t h)
     (λ p s t f k w h. let k = k w h in record {
       from-three = k .from-three;
-      to-five = k .to-five;
       counted = k .counted;
       five-black = λ e o. let (a, b) = k .five-black e o in (b, a);
     })
     (λ p s t f k w h. let k = k h w in record {
       from-three = k .from-three;
-      to-five = k .to-five;
       counted = k .counted ∙ ap (λ (a : ℕ). a - (f .class - 3)) (area-turned p);
       five-black = λ e o.
           let (a, b) = k .five-black e (ap (λ (a : ℕ). a % 2) (area-turned p) ∙ o) in
