@@ -75,6 +75,10 @@ uint64_t foil_bound(uint32_t m, uint32_t n, uint32_t pitch,
 /* Draw: writes a longest track from entry to exit at the front of the buffer and gives its number of
  * cells, the count of foil_bound. It takes 2 bytes for each cell; FOIL_MAX_BYTES are always enough. For
  * equal terminals it writes that cell. For the same sides and terminals it is always the same track.
+ * Where both sides are 3 or more and the terminals differ, the class of foil_bound says how many cells of
+ * which colour the track leaves uncovered (a cell is white if x + y is even, else black): class 3 leaves
+ * none; class 4 leaves one cell, of the colour opposite to the terminals where m * n is even, white where
+ * it is odd; class 5 leaves two white cells where m * n is odd, and one of each colour where it is even.
  * Refused, in order: 1, 18, 2, 3; 5, the buffer is shorter than 2 bytes for each cell of the count.
  * After: the bytes behind the track are as before; a refusal changes no byte. The class is 0. */
 uint64_t foil_draw(uint32_t m, uint32_t n, uint32_t pitch,
@@ -93,9 +97,9 @@ uint64_t foil_judge(uint32_t m, uint32_t n, uint32_t pitch,
 
 /* The bench cutter's calls. Where both sides are at most FOIL_BENCH_MAX_SIDE, equal numbers and equal buffers
  * get the answer of the call above and are left with the same bytes; so what foil_bench_draw writes is a
- * longest track, the one that foil_draw writes. Otherwise: a side of 0 or above 128 is 1, whatever the other
- * side is, and with both good a pitch outside its range is 18, as above; then a side above
- * FOIL_BENCH_MAX_SIDE is 19, which no call above gives, whatever is wrong besides. */
+ * longest track, the one that foil_draw writes, and leaves the same cells uncovered. Otherwise: a side of 0
+ * or above 128 is 1, whatever the other side is, and with both good a pitch outside its range is 18, as
+ * above; then a side above FOIL_BENCH_MAX_SIDE is 19, which no call above gives, whatever is wrong besides. */
 
 /* Bound for the bench.
  * Refused, in order: 1, 18, 19, 2, 3. */

@@ -1,5 +1,5 @@
 /* Tests the calls from C: the table of orders, the cases that are only run, equal terminals, hostile
- * numbers, pitches, and sides around the bench cutter's 32.
+ * numbers, pitches, sides around the bench cutter's 32, and the colours of the cells that a track leaves.
  *
  * `bound`, `draw` and `judge` make the large call and the bench cutter's on equal buffers, and compare the two;
  * they give the large one's answer. So every case is one for the bench too.
@@ -267,6 +267,45 @@ static void good_at_every_pitch(struct order o, uint32_t class, uint32_t count)
     }
 }
 
+/* How many cells of each colour the last track leaves uncovered: white, black. */
+static void count_left(struct order o, uint32_t count, uint32_t left[2])
+{
+    static uint8_t covered[256][256];
+    memset(covered, 0, sizeof covered);
+    for (size_t i = 0; i < count; i++)
+        covered[drawn[2 * i]][drawn[2 * i + 1]] = 1;
+    left[0] = left[1] = 0;
+    for (uint32_t x = 1; x <= o.m; x++)
+        for (uint32_t y = 1; y <= o.n; y++)
+            left[(x + y) % 2] += !covered[x][y];
+}
+
+/* How often each line was met: classes 3, 4 and 5, m * n being even and odd. */
+static unsigned long lines_met[3][2];
+
+/* What the last track leaves, where both sides are 3 or more and the terminals differ. */
+static void cold(struct order o, uint32_t class, uint32_t count)
+{
+    if (o.m < 3 || o.n < 3 || (o.sx == o.tx && o.sy == o.ty))
+        return;
+    EXPECT(class >= 3 && class <= 5);
+    if (class < 3 || class > 5)
+        return;
+    uint32_t left[2], odd = o.m * o.n % 2, at_entry = (o.sx + o.sy) % 2, at_exit = (o.tx + o.ty) % 2;
+    count_left(o, count, left);
+    lines_met[class - 3][odd]++;
+    if (class == 3)
+        EXPECT(left[0] == 0 && left[1] == 0);
+    if (class == 4 && odd)
+        EXPECT(left[0] == 1 && left[1] == 0);
+    if (class == 4 && !odd)
+        EXPECT(at_entry == at_exit && left[at_entry] == 0 && left[1 - at_entry] == 1);
+    if (class == 5 && odd)
+        EXPECT(left[0] == 2 && left[1] == 0);
+    if (class == 5 && !odd)
+        EXPECT(left[0] == 1 && left[1] == 1);
+}
+
 /* An order that no large call refuses: the three agree with class and count. */
 static void good(struct order o, uint32_t class, uint32_t count)
 {
@@ -276,6 +315,7 @@ static void good(struct order o, uint32_t class, uint32_t count)
     EXPECT(draw(o, enough - 1) == answer(FOIL_SHORT_BUFFER, 0, 0));
     EXPECT(draw(o, 0) == answer(FOIL_SHORT_BUFFER, 0, 0));
     EXPECT(draw(o, enough) == answer(0, 0, count));
+    cold(o, class, count);
 
     EXPECT(judge(o, drawn, enough, area) == answer(0, 0, count));
     EXPECT(judge(o, drawn, enough, area + 17) == answer(0, 0, count));
@@ -575,6 +615,8 @@ int main(void)
     pairs();
     sides_of_both();
     refusals_of_both();
+    for (int i = 0; i < 6; i++)
+        EXPECT(lines_met[i / 2][i % 2] > 0);
     printf("%lu checks, %lu faults\n", checks, faults);
     return faults != 0;
 }

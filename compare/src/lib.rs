@@ -14,5 +14,5 @@ pub mod search;
 
 pub use bound::bound;
 pub use judge::{judge, judge_once};
-pub use order::{every_pair, pairs, Bounded, Cell, Order, Refusal};
+pub use order::{cells, every_pair, pairs, Bounded, Cell, Order, Refusal, USUAL};
 pub use router::draw;

@@ -5,6 +5,9 @@ use std::ops::RangeInclusive;
 /// A cell: column from the left and row from the top, both from 1.
 pub type Cell = (u32, u32);
 
+/// The usual pitch, in micrometres: for orders whose pitch does not matter.
+pub const USUAL: u32 = 4_000;
+
 /// A panel of `width` columns and `height` rows, its cells' pitch in micrometres, and its two terminals.
 #[derive(Clone, Copy, Debug, PartialEq, Eq)]
 pub struct Order {
@@ -95,10 +98,15 @@ impl Order {
     }
 }
 
+/// The cells of a panel, rows from the top, each from the left.
+pub fn cells(width: u32, height: u32) -> impl Iterator<Item = Cell> {
+    (1..=height).flat_map(move |y| (1..=width).map(move |x| (x, y)))
+}
+
 /// An order for every two cells, equal or not, of a panel.
 pub fn pairs(width: u32, height: u32, pitch: u32) -> impl Iterator<Item = Order> {
-    let cells = move || (1..=height).flat_map(move |y| (1..=width).map(move |x| (x, y)));
-    cells().flat_map(move |entry| cells().map(move |exit| Order::new(width, height, pitch, entry, exit)))
+    let all = move || cells(width, height);
+    all().flat_map(move |entry| all().map(move |exit| Order::new(width, height, pitch, entry, exit)))
 }
 
 /// The same for every panel up to `side` by `side`.

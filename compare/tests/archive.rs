@@ -4,9 +4,9 @@
 
 mod common;
 
-use common::{buffer_for, dirty, list_for, number, order_on, scratch_for, Met, PITCHES, USUAL};
+use common::{buffer_for, dirty, list_for, number, order_on, scratch_for, Met, PITCHES};
 use compare::archive::{self, Answer, Judge};
-use compare::{bound, draw, every_pair, judge, judge_once, pairs, random::Random, Cell, Order, Refusal};
+use compare::{bound, cells, draw, every_pair, judge, judge_once, pairs, random::Random, Cell, Order, Refusal, USUAL};
 
 fn packed<T>(answer: &Result<T, Refusal>, class_count: impl Fn(&T) -> (u32, u32)) -> Answer {
     match answer {
@@ -96,8 +96,7 @@ fn is_a_spot(order: &Order) {
 #[test]
 fn every_cell_is_a_spot() {
     for (width, height) in [(1, 1), (9, 1), (1, 128), (17, 2), (3, 3), (4, 3), (7, 11), (128, 128)] {
-        let cells = (1..=width).flat_map(|x| (1..=height).map(move |y| (x, y)));
-        cells.for_each(|cell| is_a_spot(&Order::new(width, height, USUAL, cell, cell)));
+        cells(width, height).for_each(|cell| is_a_spot(&Order::new(width, height, USUAL, cell, cell)));
     }
 }
 
@@ -300,8 +299,7 @@ fn every_short_list() {
 fn every_list_of_a_cell_more_than_the_panel() {
     let mut met = Met::new();
     for (width, height) in [(1, 1), (2, 1), (1, 3), (2, 2)] {
-        let panel = (1..=width).flat_map(|x| (1..=height).map(move |y| (x, y)));
-        let cells: Vec<Cell> = panel.chain([(0, 1), (1, height + 1)]).collect();
+        let cells: Vec<Cell> = cells(width, height).chain([(0, 1), (1, height + 1)]).collect();
         let longer = |lists: Vec<Vec<Cell>>| -> Vec<Vec<Cell>> {
             lists.iter().flat_map(|list| cells.iter().map(|&cell| [&list[..], &[cell]].concat())).collect()
         };

@@ -4,9 +4,9 @@
 
 mod common;
 
-use common::{any_of, buffer_for, dirty, list_for, number, order_on, scratch_for, Met, HOSTILE, PITCHES, USUAL};
+use common::{any_of, buffer_for, dirty, list_for, number, order_on, scratch_for, Met, HOSTILE, PITCHES};
 use compare::archive::{self, Answer};
-use compare::{every_pair, random::Random, Cell, Order};
+use compare::{every_pair, random::Random, Cell, Order, USUAL};
 
 /// Makes the large call and the bench's on equal bytes, and gives the bench's answer.
 fn both(

@@ -3,9 +3,7 @@
 //! track, and the pitch is refused where it must be and changes nothing elsewhere.
 
 use compare::random::Random;
-use compare::{bound, draw, every_pair, judge, judge_once, pairs, search, Bounded, Order, Refusal};
-
-const USUAL: u32 = 4_000;
+use compare::{bound, draw, every_pair, judge, judge_once, pairs, search, Bounded, Order, Refusal, USUAL};
 
 fn orders(width: u32, height: u32) -> impl Iterator<Item = Order> {
     pairs(width, height, USUAL)

@@ -1,9 +1,7 @@
 //! What the tests of the archive share: random and hostile input, and a tally of the refusals met.
 
 use compare::archive::{self, Answer};
-use compare::{bound, random::Random, Cell, Order};
-
-pub const USUAL: u32 = 4_000;
+use compare::{bound, random::Random, Cell, Order, USUAL};
 
 /// The ends of the pitch's range and of the type, the numbers just outside the range, and the usual pitch.
 pub const PITCHES: [u32; 7] = [0, 999, 1_000, USUAL, 10_000, 10_001, u32::MAX];

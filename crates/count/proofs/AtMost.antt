@@ -2,28 +2,30 @@
 -- and F3 have their own files; a track has at most mn cells, with two black ends on an odd panel two fewer (one black cell more than white ones,
 -- where the panel has one fewer), and one fewer where the parity of its length is not that of mn.
 -- A track reversed or turned is a track, which gives the other names and the tall panels.
-use Prim.Native.Nat.{ℕ, _+_, _-_, _*_, _/_, _%_, _≤_, _<_}
+use Prim.Native.Nat.{ℕ, _+_, _-_, _*_, _/_, _%_, _≤_}
 use mathlib.Core.Path.{_≡_, refl, sym, ap, _∙_}
 use mathlib.Core.Logic.{_≢_, inl, inr, ⊎-elim}
 use mathlib.Core.Bool.{Bool, true, false, cond, not, _&&_, _||_}
 use mathlib.Core.List.{List, reverse, map}
 use native.Mathlib.Omega.{arith}
 use lib.ListN.{length, length-reverse, length-map}
-use lib.Dec.{leb, ltb, eqb}
-use borrow.Author.Tests.{eqb-true, eqb-false, leb-true, ltb-true, ltb-false, not-true}
+use lib.Dec.{eqb}
+use borrow.Author.Tests.{eqb-true, eqb-false, not-true}
 use Rattle.grid.specs.declared.Panel.{Panel}
 use Rattle.grid.specs.declared.Cell.{Cell}
-use Rattle.grid.specs.Panel.{OnPanel, black, turned, turnedCell}
+use Rattle.grid.specs.Panel.{OnPanel, black, turnedCell}
 use Rattle.grid.specs.Track.{All, Track}
 use Rattle.grid.proofs.Facts.{and-left, and-parts, or-cases, cell-eq}
 use Rattle.grid.proofs.Tests.{both-branches}
 use Rattle.grid.proofs.Track.{all-map, backwards, first-in, last-in, some-cell}
 use Rattle.grid.proofs.Moves.{turning, moved}
 use Rattle.count.specs.declared.ClassCount.{ClassCount}
-use Rattle.count.specs.Count.{area, odd, f1, f2, f2Count, f3Apart, f3, c2, c0, decided, named, classCount, count}
+use Rattle.count.specs.Count.{area, odd, f1, f2, f2Count, c2, c0, decided, classCount, count}
 use Rattle.count.specs.Longest.{NoLonger, ifBlack, weight}
+use Rattle.count.proofs.Lines.{over-lines}
+use Rattle.count.proofs.F3.{ThreeApart, even-area, c2-cases}
 use Rattle.count.proofs.Pigeon.{InColumns, at-most-area}
-use Rattle.count.proofs.Colour.{bit, row-two, mod-bit, black-bit, walk-black, at-most-black}
+use Rattle.count.proofs.Colour.{bit, mod-bit, is-odd, black-bit, walk-black, at-most-black}
 use Rattle.count.proofs.Strip.{strip}
 use Rattle.count.proofs.Rows.{one-row, two-rows}
 
@@ -51,9 +53,9 @@ two-rows-black s t h = go (s .x) (s .y) (t .x) (t .y) h
     go : (a b c d : ℕ) → b + d ≡ 3 → ((a + b) % 2 + (c + d) % 2 + (a + c)) % 2 ≡ 1
     go a b c d h = omega arith
 
-or-false : (a b : Bool) → (a || b) ≡ false → a ≡ false
-or-false true b e = e
-or-false false b e = refl
+neither-left : (a b : Bool) → (a || b) ≡ false → a ≡ false
+neither-left true b e = e
+neither-left false b e = refl
 
 -- ---- class by class
 
@@ -111,42 +113,21 @@ module _ (p : Panel) (s t : Cell) (ne : s ≢ t) {l : List Cell} (r : Track p s 
       next : p .height ≡ 2 → s .x + 1 ≡ t .x → s .y ≢ t .y → Fits l (f2Count (p .width) (s .x + t .x))
       next n q d = bound n d (omega arith) (omega arith)
 
-  f3-bound : f3 p s t ≡ true → Fits l (area p - 2)
-  unfolding f3
-  f3-bound e =
-      let (n, e1) = and-parts (eqb (p .height) 3) _ e in
-      let (even, e2) = and-parts (not (odd (p .width))) _ e1 in
-      let (bs, e3) = and-parts (black s) _ e2 in
-      let (wt, x) = and-parts (not (black t)) _ e3 in
-      let h : p .height ≡ 3 = eqb-true _ _ n in
-      let o : p .width % 2 ≢ 1 = eqb-false _ _ (not-true _ even) in
-      let d : ifBlack s ≡ 1 = black-bit s ∙ ap bit bs in
-      let g : ifBlack t ≡ 0 = black-bit t ∙ ap bit (not-true (black t) wt) in
-      let a : area p ≡ p .width * 3 = ap (λ (k : ℕ). p .width * k) h in
-      let k = strip (s .x + (s .x + 1) % 2) (p .width) (omega arith) (omega arith) (omega arith) (column d x) d g (r .walk) (r .once) (rows 3 h) in
-      two-less (p .width / 2) (area p) (length l) (weight ifBlack l) (omega arith) (omega arith) (omega (arith, ends))
+  f3-bound : ThreeApart p s t → Fits l (area p - 2)
+  unfolding ifBlack
+  f3-bound f =
+      let a : area p ≡ p .width * 3 = ap (λ (k : ℕ). p .width * k) (f .rows) in
+      let k =
+      strip (s .x + (s .x + 1) % 2) (p .width) (omega arith) (omega arith) (omega arith) (f .odd-column)
+      (f .dark) (f .light) (r .walk) (r .once) (rows 3 (f .rows)) in
+      two-less (area p) (length l) (weight ifBlack l) (even-area f) (omega arith) (omega (arith, ends))
     where
-      far : s .x + 2 ≤ t .x → s .x + (s .x + 1) % 2 < t .x
-      far h = omega arith
+      two-less : (a k w : ℕ) → a % 2 ≡ 0 → k + 2 ≤ a → 2 * w ≡ k → (k ≤ a - 2) × ((k + (a - 2)) % 2 ≡ 0)
+      two-less a k w e h i = omega arith
 
-      near : ifBlack s ≡ 1 → s .x + 1 ≡ t .x → s .y ≡ 2 → s .x + (s .x + 1) % 2 < t .x
-      near d h two = omega (arith, row-two s two)
-
-      -- the first odd column from s on is left of t
-      column : ifBlack s ≡ 1 → f3Apart s t ≡ true → s .x + (s .x + 1) % 2 < t .x
-      column d x = elim (or-cases (leb (s .x + 2) (t .x)) _ x) [
-        | inl y ↦ far (leb-true _ _ y)
-        | inr y ↦ let (q, z) = and-parts _ _ y in near d (eqb-true _ _ q) (eqb-true _ _ (and-parts _ _ z .0))
-      ]
-
-      two-less : (m a k w : ℕ) → a ≡ 2 * m * 3 → k + 2 ≤ a → 2 * w ≡ k → (k ≤ a - 2) × ((k + (a - 2)) % 2 ≡ 0)
-      two-less m a k w e h i = omega arith
-
-  odd-bound : (odd (area p) && (black s && black t)) ≡ true → Fits l (area p - 2)
-  odd-bound e =
-      let (o, c) = and-parts (odd (area p)) _ e in
-      let (bs, bt) = and-parts (black s) (black t) c in
-      two-less (area p) (length l) (weight ifBlack l) _ _ (eqb-true _ _ o) (black-bit s ∙ ap bit bs) (black-bit t ∙ ap bit bt) ends
+  odd-bound : (odd (area p) ≡ true) × (black s ≡ true) × (black t ≡ true) → Fits l (area p - 2)
+  odd-bound (o, bs, bt) =
+      two-less (area p) (length l) (weight ifBlack l) _ _ (is-odd _ o) (black-bit s ∙ ap bit bs) (black-bit t ∙ ap bit bt) ends
       (at-most-black p (r .once) (r .within))
     where
       two-less : (a k w d e : ℕ) → a % 2 ≡ 1 → d ≡ 1 → e ≡ 1 → 2 * w + 1 ≡ k + d + e → w ≤ a / 2
@@ -154,13 +135,12 @@ module _ (p : Panel) (s t : Cell) (ne : s ≢ t) {l : List Cell} (r : Track p s 
       two-less a k w d e o p q h i = omega arith
 
   c2-bound : c2 p s t ≡ true → Fits l (area p - 2)
-  unfolding c2
-  c2-bound e = ⊎-elim odd-bound f3-bound (or-cases _ _ e)
+  c2-bound e = ⊎-elim odd-bound f3-bound (c2-cases p s t e)
 
   -- the other classes: C0 decides the parity of the length
   rest-parity : c2 p s t ≡ false → (area p % 2 + (ifBlack s + ifBlack t)) % 2 ≡ bit (c0 p s t)
   unfolding c2 c0
-  rest-parity e = (λ i. (mod-bit (area p) i + (black-bit s i + black-bit t i)) % 2) ∙ (c0-parity (odd (area p)) (black s) (black t) (or-false _ _ e))
+  rest-parity e = (λ i. (mod-bit (area p) i + (black-bit s i + black-bit t i)) % 2) ∙ (c0-parity (odd (area p)) (black s) (black t) (neither-left _ _ e))
 
   c0-bound : c2 p s t ≡ false → c0 p s t ≡ true → Fits l (area p)
   c0-bound e f = (at-most-area p (r .once) (r .within), parity (area p) (length l) _ _ _ (rest-parity e ∙ ap bit f) ends)
@@ -190,23 +170,12 @@ decided-bound p s t ne h =
     (λ e. both-branches (AllFit p s t) (c0 p s t) _ _ (λ f l r. omega (arith, c0-bound p s t ne r e f))
     (λ f l r. omega (arith, c1-bound p s t ne r e f)))))
 
-named-bound : (p : Panel) (s t : Cell) → s ≢ t → AllFit p s t (named p s t)
-unfolding named
-named-bound p s t ne =
-    both-branches (AllFit p s t) (ltb (t .x) (s .x)) _ _
-    (λ e l r.
-    let h : t .x < s .x = ltb-true _ _ e in
-    omega (arith, decided-bound p t s (λ q. ne (sym q)) (omega arith) (reverse l) (backwards r), length-reverse l))
-    (λ e. decided-bound p s t ne (ltb-false _ _ e))
-
 count-bound : (p : Panel) (s t : Cell) → s ≢ t → AllFit p s t (classCount p s t)
-unfolding classCount
-count-bound p s t ne =
-    both-branches (AllFit p s t) (ltb (p .width) (p .height)) _ _
-    (λ e l r.
-    let q = named-bound (turned p) (turnedCell s) (turnedCell t) (λ q. ne (ap turnedCell q)) (map turnedCell l) (moved (turning p) r) in
-    omega (arith, q, length-map l turnedCell))
-    (λ e. named-bound p s t ne)
+count-bound =
+    over-lines (λ p s t f. s ≢ t → AllFit p s t f)
+    (λ p s t _ h ne. decided-bound p s t ne h)
+    (λ p s t f b ne l r. omega (arith, b (λ q. ne (sym q)) (reverse l) (backwards r), length-reverse l))
+    (λ p s t f b ne l r. omega (arith, b (λ q. ne (ap turnedCell q)) (map turnedCell l) (moved (turning p) r), length-map l turnedCell))
 
 -- every track between two different cells has at most the count's cells
 pub no-longer : (p : Panel) (s t : Cell) → s ≢ t → NoLonger p s t (count p s t)

@@ -1,7 +1,7 @@
 -- Colours alternate along a walk, so its length and its ends say how many of its cells are black: 2 * black + 1 = length + black ends.
 -- A panel of mn cells has mn / 2 black ones, rounded down: a column x of n rows has (n + (x + 1) % 2) / 2.
 use Prim.Native.Nat.{ℕ, zero, suc, _+_, _-_, _*_, _/_, _%_, _≤_}
-use mathlib.Core.Path.{_≡_, refl, _∙_}
+use mathlib.Core.Path.{_≡_, refl, ap, _∙_}
 use mathlib.Core.Logic.{_≢_, _↔_}
 use mathlib.Core.Bool.{Bool, true, false}
 use mathlib.Core.List.{List, [], _∷_}
@@ -32,6 +32,12 @@ mod-bit k = go (odd k) refl
     go : (b : Bool) → odd k ≡ b → k % 2 ≡ bit b
     go true e = eqb-true _ _ e
     go false e = let h : k % 2 ≢ 1 = eqb-false _ _ e in omega arith
+
+pub is-odd : (k : ℕ) → odd k ≡ true → k % 2 ≡ 1
+is-odd k e = mod-bit k ∙ ap bit e
+
+pub is-even : (k : ℕ) → odd k ≡ false → k % 2 ≡ 0
+is-even k e = mod-bit k ∙ ap bit e
 
 pub black-bit : (c : Cell) → ifBlack c ≡ bit (black c)
 unfolding ifBlack

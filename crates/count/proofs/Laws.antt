@@ -1,13 +1,13 @@
 -- Laws of class and count: classes 1 to 5, the terminals in either order, the panel turned, the colours alone, and 2 ≤ count ≤ mn.
 -- Each test of the definition has its law first; the laws of `decided`, `named` and `classCount` put them together.
 use Prim.Native.Nat.{ℕ, suc, zero, _+_, _-_, _*_, _%_, _≤_, _<_}
-use mathlib.Core.Path.{_≡_, refl, sym, ap, _∙_, subst, subst₂}
+use mathlib.Core.Path.{_≡_, refl, sym, ap, _∙_, subst}
 use mathlib.Core.Logic.{_≢_, _⊎_, inl, inr, ⊎-elim}
-use mathlib.Core.Bool.{Bool, true, false, cond, not, _&&_, _||_, and-true, and-false, and-comm, or-true, or-false, true≢false}
+use mathlib.Core.Bool.{Bool, true, false, cond, not, _&&_, _||_, and-true, and-comm, or-true, or-false, true≢false}
 use native.Mathlib.Omega.{arith}
 use native.Mathlib.Nat.{suc-mul, mul-one, mul-comm, mul-le-mul, mul-le-mul-left}
 use lib.Dec.{leb, ltb, eqb}
-use borrow.Author.Tests.{ltb-true, ltb-false, lt-ltb, le-ltb, lt-leb, leb-true, leb-false, eqb-true, eqb-false, eq-eqb, ne-eqb, not-true, not-false}
+use borrow.Author.Tests.{ltb-true, ltb-false, lt-ltb, le-ltb, leb-true, leb-false, eqb-true, eqb-false, eq-eqb, ne-eqb, not-true, not-false}
 use Rattle.grid.specs.declared.Panel.{Panel}
 use Rattle.grid.specs.declared.Cell.{Cell}
 use Rattle.grid.specs.Panel.{OnPanel, black, turned, turnedCell}
@@ -17,6 +17,8 @@ use Rattle.grid.proofs.Tests.{and-no, both-branches, cond-yes, cond-no}
 use Rattle.count.specs.declared.ClassCount.{ClassCount}
 use Rattle.count.specs.Count.{area, odd, endCell, f1, f2, f2Count, f3, c2, c0, found, decided, named, classCount, class, count}
 use Rattle.count.specs.ByColour.{coloured, byColour}
+use Rattle.count.proofs.Lines.{over-lines}
+use Rattle.count.proofs.F3.{no-f3, c2-cases}
 
 -- ---- Boolean laws
 
@@ -42,17 +44,12 @@ decided-small p s t =
     (λ _. both-branches Small (c2 p s t) _ _ (λ _. omega arith)
     (λ _. both-branches Small (c0 p s t) _ _ (λ _. omega arith) (λ _. omega arith))))
 
-named-small : (p : Panel) (s t : Cell) → Small (named p s t)
-unfolding named
-named-small p s t = both-branches Small (ltb (t .x) (s .x)) _ _ (λ _. decided-small p t s) (λ _. decided-small p s t)
-
 pub class-small : (p : Panel) (s t : Cell) → class p s t ≤ 5
-unfolding classCount
-class-small p s t = both-branches Small (ltb (p .width) (p .height)) _ _ (λ _. named-small _ _ _) (λ _. named-small p s t)
+class-small = over-lines (λ p s t. Small) (λ p s t _ _. decided-small p s t) (λ p s t f h. h) (λ p s t f h. h)
 
 -- ---- areas
 
-area-turned : (p : Panel) → area (turned p) ≡ area p
+pub area-turned : (p : Panel) → area (turned p) ≡ area p
 area-turned p = mul-comm (p .height) (p .width)
 
 pub sum-le-product : (w h : ℕ) → 1 ≤ w → 1 ≤ h → w + h ≤ w * h + 1
@@ -62,19 +59,6 @@ sum-le-product (suc k) h p q = omega (arith, suc-mul k h, mul-le-mul-left k q, m
 -- a panel with a cell (x, y) has at least x + y - 1 cells
 pub area-of-cell : (p : Panel) (c : Cell) → OnPanel p c → c .x + c .y ≤ area p + 1
 area-of-cell p c o = omega (arith, sum-le-product (p .width) (p .height) (omega arith) (omega arith))
-
-f3-height : (p : Panel) (s t : Cell) → f3 p s t ≡ true → p .height ≡ 3
-unfolding f3
-f3-height p s t e = eqb-true _ _ (and-left (eqb (p .height) 3) _ e)
-
-c2-cases : (p : Panel) (s t : Cell) → c2 p s t ≡ true → ((odd (area p) ≡ true) × (black s ≡ true) × (black t ≡ true)) ⊎ (p .height ≡ 3)
-unfolding c2
-c2-cases p s t e = ⊎-elim (λ h. inl (three h)) (λ h. inr (f3-height p s t h)) (or-cases _ _ e)
-  where
-    three : (odd (area p) && (black s && black t)) ≡ true → (odd (area p) ≡ true) × (black s ≡ true) × (black t ≡ true)
-    three h =
-        let r = and-right (odd (area p)) (black s && black t) h in
-        (and-left (odd (area p)) (black s && black t) h, and-left (black s) (black t) r, and-right (black s) (black t) r)
 
 f2-cases : (p : Panel) (s t : Cell) → f2 p s t ≡ true → (p .height ≡ 2) × ((s .x ≡ t .x) ⊎ ((s .x + 1 ≡ t .x) × (s .y ≢ t .y)))
 unfolding f2
@@ -131,13 +115,7 @@ f2-column p s t e = always (eqb (p .height) 2) _ (eq-eqb _ _ e)
 
 -- F3 wants the other terminal to the right
 f3-right : (p : Panel) (s t : Cell) → t .x ≤ s .x → f3 p s t ≡ false
-unfolding f3
-f3-right p s t h =
-    none (eqb (p .height) 3) (not (odd (p .width))) (black s) (not (black t)) (eqb (s .y) 2 && eqb (t .y) 2)
-    (lt-leb (s .x + 2) (t .x) (omega arith)) (ne-eqb (s .x + 1) (t .x) (omega arith))
-  where
-    none : (h e b w : Bool) {f n : Bool} (r : Bool) → f ≡ false → n ≡ false → (h && (e && (b && (w && (f || (n && r)))))) ≡ false
-    none h e b w r p q = simp (p, q, and-false)
+f3-right p s t h = no-f3 p s t (λ f. omega (arith, f .odd-column))
 
 c0-swap : (p : Panel) (s t : Cell) → c0 p s t ≡ c0 p t s
 unfolding c0
@@ -210,24 +188,18 @@ unfolding f2
 not-f2 p s t n = sym (and-no _ (ne-eqb (p .height) 2 n))
 
 pub not-f3 : (p : Panel) (s t : Cell) → p .height ≢ 3 → f3 p s t ≡ false
-unfolding f3
-not-f3 p s t n = sym (and-no _ (ne-eqb (p .height) 3 n))
+not-f3 p s t n = no-f3 p s t (λ f. n (f .rows))
 
 -- more than 3 rows and columns: none of them fits
 high : (p : Panel) (s t : Cell) → 3 < p .height → decided p s t ≡ byColour p s t
 high p s t h = decided-by-colour p s t (not-f1 p s t (omega arith)) (not-f2 p s t (omega arith)) (not-f3 p s t (omega arith))
 
-high-named : (p : Panel) (s t : Cell) → 3 < p .height → named p s t ≡ byColour p s t
-unfolding named
-high-named p s t h =
-    both-branches (λ (r : ClassCount). r ≡ byColour p s t) (ltb (t .x) (s .x)) _ _
-    (λ _. high p t s h ∙ by-colour-swap p t s) (λ _. high p s t h)
-
 pub class-by-colour : (p : Panel) (s t : Cell) → 3 < p .width → 3 < p .height → classCount p s t ≡ byColour p s t
-unfolding classCount
-class-by-colour p s t w h =
-    both-branches (λ (r : ClassCount). r ≡ byColour p s t) (ltb (p .width) (p .height)) _ _
-    (λ _. high-named (turned p) (turnedCell s) (turnedCell t) w ∙ by-colour-turned p s t) (λ _. high-named p s t h)
+class-by-colour =
+    over-lines (λ p s t f. 3 < p .width → 3 < p .height → f ≡ byColour p s t)
+    (λ p s t _ _ w h. high p s t h)
+    (λ p s t f e w h. e w h ∙ by-colour-swap p t s)
+    (λ p s t f e w h. e h w ∙ by-colour-turned p s t)
 
 -- ---- the panel turned
 
@@ -260,15 +232,6 @@ record Ordered (p : Panel) (s t : Cell) : Type 0 where
   differ : s ≢ t
   left : s .x ≤ t .x
 
--- what holds of either naming holds of the named terminals
-by-name : (P : ClassCount → Type 0) (p : Panel) (s t : Cell) → p .height ≤ p .width → OnPanel p s → OnPanel p t → s ≢ t
-    → (Ordered p s t → P (decided p s t)) → (Ordered p t s → P (decided p t s)) → P (named p s t)
-unfolding named
-by-name P p s t h a b n f g =
-    both-branches P (ltb (t .x) (s .x)) _ _
-    (λ e. let k = ltb-true (t .x) (s .x) e in g (record { wide = h; on-s = b; on-t = a; differ = λ r. n (sym r); left = omega arith }))
-    (λ e. f (record { wide = h; on-s = a; on-t = b; differ = n; left = ltb-false (t .x) (s .x) e }))
-
 record Square (p : Panel) (s t : Cell) : Type 0 where
   order : Ordered p s t
   same : p .width ≡ p .height
@@ -284,12 +247,7 @@ square-f1 : {p : Panel} {s t : Cell} → Square p s t → f1 p s t ≡ false
 square-f1 {p} {s} {t} q = not-f1 p s t (omega (arith, square-high q))
 
 square-f3 : {p : Panel} {s t : Cell} → Square p s t → f3 p s t ≡ false
-unfolding f3
-square-f3 {p} {s} {t} q = go (eqb (p .height) 3) refl _
-  where
-    go : (b : Bool) → eqb (p .height) 3 ≡ b → (r : Bool) → (b && (not (odd (p .width)) && r)) ≡ false
-    go true e r = let h = eqb-true (p .height) 3 e in sym (and-no r (ap not (eq-eqb (p .width % 2) 1 (omega (arith, q .same)))))
-    go false e r = refl
+square-f3 {p} {s} {t} q = no-f3 p s t (λ f. omega (arith, q .same, f .rows, f .even))
 
 -- a square of another side than 2: the colours decide
 decided-square : {p : Panel} {s t : Cell} → Square p s t → p .height ≢ 2 → decided p s t ≡ byColour p s t
@@ -297,11 +255,11 @@ decided-square {p} {s} {t} q n = decided-by-colour p s t (square-f1 q) (not-f2 p
 
 square-class : (p : Panel) (s t : Cell) → p .width ≡ p .height → p .height ≢ 2 → OnPanel p s → OnPanel p t → s ≢ t
     → classCount p s t ≡ byColour p s t
-square-class p s t e two a b n =
-    wide-class p s t (omega arith)
-    ∙ by-name (λ (r : ClassCount). r ≡ byColour p s t) p s t (omega arith) a b n
-    (λ q. decided-square (record { order = q; same = e }) two)
-    (λ q. decided-square (record { order = q; same = e }) two ∙ by-colour-swap p t s)
+square-class =
+    over-lines (λ p s t f. p .width ≡ p .height → p .height ≢ 2 → OnPanel p s → OnPanel p t → s ≢ t → f ≡ byColour p s t)
+    (λ p s t h k e two a b n. decided-square (record { order = record { wide = h; on-s = a; on-t = b; differ = n; left = k }; same = e }) two)
+    (λ p s t f q e two a b n. q e two b a (λ r. n (sym r)) ∙ by-colour-swap p t s)
+    (λ p s t f q e two a b n. q (sym e) (λ w. two (sym e ∙ w)) (turn-on a) (turn-on b) (λ r. n (ap turnedCell r)) ∙ by-colour-turned p s t)
 
 -- every panel but 2 by 2: the same class and count for the panel turned
 pub turned-class : (p : Panel) (s t : Cell) → OnPanel p s → OnPanel p t → s ≢ t → (p .width ≡ 2 → p .height ≢ 2)
@@ -367,11 +325,12 @@ square-decided {p} {s} {t} q =
     (λ e. ap (λ (r : ClassCount). r .count .0) (rest-by-colour p s t (square-f3 q))))
 
 square-count : (p : Panel) (s t : Cell) → p .width ≡ p .height → OnPanel p s → OnPanel p t → s ≢ t → count p s t ≡ colourCount p s t
-square-count p s t e a b n =
-    ap (λ (r : ClassCount). r .count .0) (wide-class p s t (omega arith))
-    ∙ by-name (λ (r : ClassCount). r .count .0 ≡ colourCount p s t) p s t (omega arith) a b n
-    (λ q. square-decided (record { order = q; same = e }))
-    (λ q. square-decided (record { order = q; same = e }) ∙ ap (λ (r : ClassCount). r .count .0) (by-colour-swap p t s))
+square-count =
+    over-lines (λ p s t f. p .width ≡ p .height → OnPanel p s → OnPanel p t → s ≢ t → f .count .0 ≡ colourCount p s t)
+    (λ p s t h k e a b n. square-decided (record { order = record { wide = h; on-s = a; on-t = b; differ = n; left = k }; same = e }))
+    (λ p s t f q e a b n. q e b a (λ r. n (sym r)) ∙ ap (λ (r : ClassCount). r .count .0) (by-colour-swap p t s))
+    (λ p s t f q e a b n.
+    q (sym e) (turn-on a) (turn-on b) (λ r. n (ap turnedCell r)) ∙ ap (λ (r : ClassCount). r .count .0) (by-colour-turned p s t))
 
 -- the same count for the panel turned
 pub turned-count : (p : Panel) (s t : Cell) → OnPanel p s → OnPanel p t → s ≢ t → count (turned p) (turnedCell s) (turnedCell t) ≡ count p s t
@@ -486,16 +445,8 @@ module _ {p : Panel} {s t : Cell} (q : Ordered p s t) where
       (λ _. both-branches (Within (area p)) (c0 p s t) _ _ (λ _. within-3) (within-4 e))))
 
 pub bounds : (p : Panel) (s t : Cell) → OnPanel p s → OnPanel p t → s ≢ t → (2 ≤ count p s t) × (count p s t ≤ area p)
-bounds p s t a b n = go (ltb (p .width) (p .height)) refl
-  where
-    wide : (p : Panel) (s t : Cell) → p .height ≤ p .width → OnPanel p s → OnPanel p t → s ≢ t → Within (area p) (named p s t)
-    wide p s t h a b n = by-name (Within (area p)) p s t h a b n within within
-
-    go : (r : Bool) → ltb (p .width) (p .height) ≡ r → Within (area p) (classCount p s t)
-    go true e =
-        let h = ltb-true (p .width) (p .height) e in
-        subst₂ Within (area-turned p) (sym (tall-class p s t h))
-        (wide (turned p) (turnedCell s) (turnedCell t) (omega arith) (turn-on a) (turn-on b) (λ r. n (ap turnedCell r)))
-    go false e =
-        let h = ltb-false (p .width) (p .height) e in
-        subst (Within (area p)) (sym (wide-class p s t h)) (wide p s t h a b n)
+bounds =
+    over-lines (λ p s t f. OnPanel p s → OnPanel p t → s ≢ t → Within (area p) f)
+    (λ p s t h k a b n. within (record { wide = h; on-s = a; on-t = b; differ = n; left = k }))
+    (λ p s t f w a b n. w b a (λ r. n (sym r)))
+    (λ p s t f w a b n. subst (λ (k : ℕ). Within k f) (area-turned p) (w (turn-on a) (turn-on b) (λ r. n (ap turnedCell r))))

@@ -1,4 +1,7 @@
 pub mod Laws
+pub mod Lines
+pub mod F3
+pub mod Classes
 pub mod Table
 pub mod Examples
 pub mod Sides

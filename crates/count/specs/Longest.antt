@@ -1,5 +1,7 @@
--- No track is longer: the statement; closed tracks; and how the cells of a list and of a panel are counted, by colour or by any weight.
+-- No track is longer: the statement; longest tracks; closed tracks; and how the cells of a list and of a panel are counted, by colour or by any
+-- weight.
 use Prim.Native.Nat.{ℕ, zero, suc, _+_, _%_, _≤_}
+use mathlib.Core.Path.{_≡_}
 use mathlib.Core.List.{List, [], _∷_}
 use lib.ListN.{length}
 use Rattle.grid.specs.declared.Panel.{Panel}
@@ -10,6 +12,12 @@ use Rattle.grid.specs.Track.{Track}
 -- every list of cells that is a track from s to t, however made, has at most k cells
 abbrev pub NoLonger : Panel → Cell → Cell → ℕ → Type 0
 NoLonger p s t k = (l : List Cell) → Track p s t l → length l ≤ k
+
+-- a list of k cells is a track from s to t, and no track is longer
+pub record Longest (p : Panel) (s t : Cell) (k : ℕ) (l : List Cell) : Type 0 where
+  pub size : length l ≡ k
+  pub track : Track p s t l
+  pub none-longer : NoLonger p s t k
 
 -- a closed track from s: a track whose last cell is a neighbour of its first, 4 cells or more (a cycle of the grid graph)
 pub record Closed (p : Panel) (s : Cell) (l : List Cell) : Type 0 where

@@ -14,7 +14,6 @@ use Rattle.grid.specs.declared.Refusal.the-variants.{ShortBuffer}
 use Rattle.grid.specs.declared.Check.the-variants.{Good, Refused}
 use Rattle.grid.specs.declared.CellsAnswer.{CellsAnswer}
 use Rattle.grid.specs.Panel.{OnPanel}
-use Rattle.grid.specs.Track.{Track}
 use Rattle.grid.specs.Bytes.{front}
 use Rattle.grid.specs.Check.{checkOrder}
 use Rattle.grid.proofs.Facts.{eq-same, ne-same}
@@ -26,8 +25,10 @@ use Rattle.list.proofs.Cells.{put-first}
 use Rattle.line.specs.Drawn.{written}
 use Rattle.line.proofs.Drawn.{written-front, written-behind}
 use Rattle.count.specs.Order.{orderCount}
-use Rattle.count.specs.Longest.{NoLonger}
+use Rattle.count.specs.Longest.{NoLonger, Longest}
 use Rattle.count.proofs.Terminals.{none-longer}
+use Rattle.cold.specs.Cold.{StaysCold}
+use Rattle.cold.proofs.Theorem.{stays-cold}
 use Rattle.draw.specs.Track.{trackBetween, drawnTrack}
 use Rattle.draw.specs.Draw.{drawCheck, LongestAtFront, Draws, drawBuffer}
 use Rattle.draw.proofs.Track.{drawn-track, length-drawn}
@@ -62,13 +63,15 @@ pub at-front : {p : Panel} {s t : Cell} {k : ℕ} {old new : List ℕ} → k ≡
     → new ≡ withCells (drawnTrack (p .width) (p .height) s t) old → LongestAtFront p s t k old new
 at-front {p} {s} {t} {k} {old} {new} q os ot w =
     let l = drawnTrack (p .width) (p .height) s t in
-    let e : length l ≡ k = length-drawn p s t os ot ∙ sym q in
+    let track = drawn-track p s t os ot in
+    let size = length-drawn p s t os ot in
+    let e : length l ≡ k = size ∙ sym q in
     let v : new ≡ written l k old = w ∙ ap (λ (n : ℕ). written l n old) e in
-    let there = written-front l old e v in
+    let there = sym (written-front l old e v) in
+    let longest : Longest p s t k l = record { size = e; track = track; none-longer = subst (NoLonger p s t) (sym q) (none-longer p s t) } in
     record {
-      size = ap length there ∙ e;
-      track = subst (λ (l : List Cell). Track p s t l) (sym there) (drawn-track p s t os ot);
-      none-longer = subst (λ (n : ℕ). NoLonger p s t n) (sym q) (none-longer p s t);
+      longest = subst (Longest p s t k) there longest;
+      cold = subst (StaysCold p s t) there (stays-cold p s t track size);
       behind = written-behind l old e v;
     }
 
@@ -93,4 +96,4 @@ module _ {p : Panel} {s t : Cell} {old new : List ℕ} where
 
 -- between equal terminals the property leaves no choice: that one cell is at the front
 pub spot-at-front : {p : Panel} {s : Cell} {k : ℕ} {old new : List ℕ} → LongestAtFront p s s k old new → front k new ≡ s ∷ []
-spot-at-front f = one-cell (f .track)
+spot-at-front f = one-cell (f .longest .track)

@@ -14,9 +14,11 @@ use Rattle.grid.specs.declared.CellsAnswer.the-variants.{Refused, Given}
 use Rattle.grid.specs.Panel.{panel, goodPitch}
 use Rattle.grid.specs.Check.{after, expect, answer}
 use Rattle.grid.specs.Answer.{cellsAnswer, GivesCells}
-use Rattle.grid.proofs.Sides.{track-same, order-same}
+use Rattle.grid.specs.Bytes.{front}
+use Rattle.grid.proofs.Sides.{order-same}
 use Rattle.list.specs.List.{withCells}
-use Rattle.count.proofs.Sides.{order-count-same, no-longer-same}
+use Rattle.count.proofs.Sides.{order-count-same, longest-same}
+use Rattle.cold.proofs.Theorem.{cold-same}
 use Rattle.draw.specs.Track.{drawnTrack}
 use Rattle.draw.specs.Draw.{drawCheck, Leaves, Draws, drawBuffer}
 
@@ -27,9 +29,8 @@ module _ (m n a b : ℕ) (u : goodPitch (panel m n a) ≡ true) (v : goodPitch (
   leaves-same : (old new : List ℕ) (r : CellsAnswer) → Leaves (panel m n a) s t old new r → Leaves (panel m n b) s t old new r
   leaves-same old new (Refused r) e = e
   leaves-same old new (Given k) f = record {
-    size = f .size;
-    track = track-same (f .track);
-    none-longer = no-longer-same (f .none-longer);
+    longest = longest-same (f .longest);
+    cold = cold-same m n a b s t (front (k .0) new) (f .cold);
     behind = f .behind;
   }
 

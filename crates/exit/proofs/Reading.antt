@@ -9,11 +9,12 @@ use native.Mathlib.Decide.{ℕ-discrete}
 use Rattle.grid.specs.declared.Panel.{Panel}
 use Rattle.grid.specs.declared.Cell.{Cell}
 use Rattle.grid.specs.Panel.{OnPanel, cell}
+use Rattle.grid.specs.Reading.{run, row, reading}
 use Rattle.grid.proofs.Facts.{clash, cell-eq}
 use Rattle.grid.proofs.Tests.{cond-no}
 use Rattle.exit.specs.declared.Search.{Search}
 use Rattle.exit.specs.declared.Search.the-variants.{At, Nothing}
-use Rattle.exit.specs.Exit.{run, row, reading, isFound, first}
+use Rattle.exit.specs.Exit.{isFound, first}
 use Rattle.exit.specs.First.{Before}
 
 -- k is x, or another

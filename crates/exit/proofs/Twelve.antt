@@ -23,9 +23,9 @@ use Rattle.grid.proofs.Tests.{cond-no, both-branches}
 use Rattle.count.specs.declared.ClassCount.{ClassCount}
 use Rattle.count.specs.Count.{f2, f3, named, count}
 use Rattle.count.proofs.Laws.{sum-le-product, either-order, not-f1, not-f2, not-f3, wide-class, turned-count}
+use Rattle.count.proofs.F3.{no-f3}
 use Rattle.plan.proofs.Decided.{decidedCount, decided-odd, decided-even}
 use Rattle.plan.proofs.Rows.{f2-row}
-use Rattle.plan.proofs.CornerLeg.{no-f3}
 use Rattle.exit.specs.declared.ExitAnswer.the-variants.{Refused}
 use Rattle.exit.specs.declared.Search.the-variants.{Nothing}
 use Rattle.exit.specs.Exit.{exitOf}

@@ -1,9 +1,9 @@
 -- Document 02, R-5: Exit gives the first cell, reading rows from the top and each from the left, that is not the entry and to which some track has at
 -- least the wanted number of cells. A refusal gives 0 for all.
-use Prim.Native.Nat.{ℕ, zero, suc}
+use Prim.Native.Nat.{ℕ}
 use mathlib.Core.Path.{_≡_}
 use mathlib.Core.Bool.{Bool, true, false, cond, not, _&&_}
-use mathlib.Core.List.{List, [], _∷_, _++_}
+use mathlib.Core.List.{List, [], _∷_}
 use lib.Dec.{leb}
 use Rattle.grid.specs.declared.Panel.{Panel}
 use Rattle.grid.specs.declared.Cell.{Cell}
@@ -12,6 +12,7 @@ use Rattle.grid.specs.declared.Refusal.the-variants.{NoExit}
 use Rattle.grid.specs.declared.Check.{Check}
 use Rattle.grid.specs.declared.Check.the-variants.{Good}
 use Rattle.grid.specs.Panel.{cell, sameCell}
+use Rattle.grid.specs.Reading.{reading}
 use Rattle.grid.specs.Refusal.{number}
 use Rattle.grid.specs.Check.{expect, after, checkEntry, answer}
 use Rattle.grid.specs.Answer.{refusalNumber}
@@ -20,19 +21,6 @@ use Rattle.exit.specs.declared.ExitAnswer.{ExitAnswer}
 use Rattle.exit.specs.declared.ExitAnswer.the-variants.{Refused, Given}
 use Rattle.exit.specs.declared.Search.{Search}
 use Rattle.exit.specs.declared.Search.the-variants.{At, Nothing}
-
--- the lists g x, g (x + 1), .., k of them, one behind the other
-abbrev pub run : (ℕ → List Cell) → ℕ → ℕ → List Cell
-run g x zero = []
-run g x (suc k) = g x ++ run g (suc x) k
-
--- the cells of row y, from the left
-abbrev pub row : Panel → ℕ → List Cell
-row p y = run (λ x. cell x y ∷ []) 1 (p .width)
-
--- the cells of the panel, rows from the top, each from the left (row-major order)
-abbrev pub reading : Panel → List Cell
-reading p = run (row p) 1 (p .height)
 
 -- not the entry, and the count of a track to it is at least the wanted one
 abbrev pub fits : Panel → Cell → Cells → Cell → Bool

@@ -10,7 +10,8 @@ use grid::area_of;
 ghost use mathlib.Core.Path.{_≡_};
 ghost use Prim.Native.Nat.{_≤_};
 ghost use Rattle.grid.specs.Panel.{OnPanel, GoodSides};
-ghost use Rattle.exit.specs.Exit.{row, reading, fits, first, firstFit, Exits};
+ghost use Rattle.grid.specs.Reading.{row, reading};
+ghost use Rattle.exit.specs.Exit.{fits, first, firstFit, Exits};
 ghost use Rattle.exit.specs.Most.{most};
 
 // What Exit answers.

@@ -1,5 +1,6 @@
 pub mod Panel
 pub mod Track
+pub mod Reading
 pub mod Bytes
 pub mod Refusal
 pub mod Check

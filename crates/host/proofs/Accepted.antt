@@ -27,5 +27,5 @@ pub drawn-accepted : (p : Panel) (s t : Cell) (old new : List ℕ) (k : Cells) (
 drawn-accepted p s t old new k room d h =
     let c = cells-good (drawCheck p s t (length old)) (orderCount p s t) k (sym (d .gives .answers)) .0 in
     let g = good-order p s t (after-passed (checkOrder p s t) (expect (leb (2 * orderCount p s t) (length old)) ShortBuffer check.Good) c) in
-    let n : 2 * k .0 ≤ length new = omega (arith, d .leaves .size, length-cells (take (2 * k .0) new), length-take (2 * k .0) new) in
-    drawn p s t (k .0) new room (is-good (g .panel)) n (d .leaves .track) h
+    let n : 2 * k .0 ≤ length new = omega (arith, d .leaves .longest .size, length-cells (take (2 * k .0) new), length-take (2 * k .0) new) in
+    drawn p s t (k .0) new room (is-good (g .panel)) n (d .leaves .longest .track) h

@@ -33,7 +33,7 @@ use Rattle.order.specs.declared.Line.{Line}
 use Rattle.order.specs.declared.Line.the-variants.{Other, Order}
 use Rattle.order.specs.declared.Drawing.{Drawing}
 use Rattle.order.specs.declared.Drawing.the-variants.{Given}
-use Rattle.order.specs.Order.{boundDrawing, drawingOf, Longest, Chosen, ChosenFor, drawnCells, DrawsLine, Printed}
+use Rattle.order.specs.Order.{boundDrawing, drawingOf, Chosen, ChosenFor, drawnCells, DrawsLine, Printed}
 
 -- ---- an order
 
@@ -78,7 +78,7 @@ module _ (p : Panel) (s t : Cell) (f : ClassCount) (e : boundOf p s t ≡ bound.
     pub draws-given : DrawsLine (Order p s t) (Given p f) new
     draws-given =
         let left : LongestAtFront p s t n old new = subst (Leaves p s t old new) answered (d .leaves) in
-        draws-bound p s t (bound.Given f) e (record { size = left .size; track = left .track; none-longer = left .none-longer })
+        draws-bound p s t (bound.Given f) e (left .longest, left .cold)
 
 -- ---- the track drawn for a line
 
@@ -103,7 +103,8 @@ drawn Other h = clash (cc (h .answers))
 drawn (Order q s t) {f = f} {buffer} h =
     let n = f .count .0 in
     let (same, e) = is-given q (boundOf q s t) (sym (h .answers)) in
-    let longest : Longest q s t n (front n buffer) = subst (λ (b : BoundAnswer). Chosen b q s t (front n buffer)) e (h .chosen) in
+    let chosen : Chosen (bound.Given f) q s t (front n buffer) = subst (λ (b : BoundAnswer). Chosen b q s t (front n buffer)) e (h .chosen) in
+    let longest = chosen .0 in
     let (some, few) = count-bounds q s t f e in
     let list = take (2 * n) buffer in
     let behind = drop (2 * n) buffer in

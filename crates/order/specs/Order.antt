@@ -1,5 +1,5 @@
 -- Document 01, "Program foil": what a line comes to, the track that is drawn for it, and what is printed for every input. The counts and the
--- letters are those of one track, and of that track only a property is promised: it is a longest one.
+-- letters are those of one track, and of that track only properties are promised: it is a longest one, and leaves uncovered what R-10 says.
 use Prim.Native.Nat.{ℕ}
 use mathlib.Core.Path.{_≡_}
 use mathlib.Core.List.{List, _++_}
@@ -8,9 +8,9 @@ use Rattle.grid.specs.declared.Panel.{Panel}
 use Rattle.grid.specs.declared.Cell.{Cell}
 use Rattle.grid.specs.declared.Refusal.the-variants.{UnknownByte}
 use Rattle.grid.specs.Refusal.{number}
-use Rattle.grid.specs.Track.{Track}
 use Rattle.grid.specs.Bytes.{front}
-use Rattle.count.specs.Longest.{NoLonger}
+use Rattle.count.specs.Longest.{Longest}
+use Rattle.cold.specs.Cold.{StaysCold}
 use Rattle.bound.specs.declared.BoundAnswer.{BoundAnswer}
 use Rattle.bound.specs.declared.BoundAnswer.the-variants as bound
 use Rattle.bound.specs.Bound.{boundOf}
@@ -35,16 +35,11 @@ drawingOf (Order p s t) = boundDrawing p (boundOf p s t)
 
 -- ---- the track that is drawn
 
--- a list of k cells is a track from s to t, and no track is longer
-pub record Longest (p : Panel) (s t : Cell) (k : ℕ) (l : List Cell) : Type 0 where
-  pub size : length l ≡ k
-  pub track : Track p s t l
-  pub none-longer : NoLonger p s t k
-
--- the track chosen is a longest one and has Bound's count of cells, where the line is an order that is not refused; else nothing is asked of it
+-- the track chosen is a longest one with Bound's count of cells and leaves what R-10 says, where the line is an order that is not refused; else
+-- nothing is asked of it
 abbrev pub Chosen : BoundAnswer → Panel → Cell → Cell → List Cell → Type 0
 Chosen (bound.Refused r) p s t l = Unit {0}
-Chosen (bound.Given f) p s t l = Longest p s t (f .count .0) l
+Chosen (bound.Given f) p s t l = Longest p s t (f .count .0) l × StaysCold p s t l
 
 abbrev pub ChosenFor : Line → List Cell → Type 0
 ChosenFor Other l = Unit {0}

@@ -1,24 +1,25 @@
 -- A terminal in a corner of the panel: one leg over the whole panel. It leaves out what a longest track does, since a corner of a panel with odd
 -- sides is white, and F3 never holds with a terminal in a corner.
-use Prim.Native.Nat.{ℕ, _+_, _-_, _%_, _≤_, _<_, min, max}
+use Prim.Native.Nat.{ℕ, _+_, _-_, _≤_, min, max}
 use mathlib.Core.Path.{_≡_, refl, sym, ap, _∙_}
 use mathlib.Core.Logic.{_⊎_, inl, inr, ⊎-elim}
 use mathlib.Core.Bool.{Bool, true, false, not, _&&_, _||_, true≢false}
 use native.Mathlib.Omega.{arith}
-use lib.Dec.{eqb, leb}
-use borrow.Author.Tests.{eq-eqb, eqb-true, leb-true, not-true}
+use lib.Dec.{eqb}
+use borrow.Author.Tests.{eq-eqb, eqb-true}
 use Rattle.grid.specs.declared.Panel.{Panel}
 use Rattle.grid.specs.declared.Cell.{Cell}
 use Rattle.grid.specs.Panel.{OnPanel, dist, black}
-use Rattle.grid.proofs.Facts.{test-fails, and-left, and-right, and-parts}
+use Rattle.grid.proofs.Facts.{and-parts}
 use Rattle.line.specs.Rectangle.{Inside}
 use Rattle.corner.specs.Corner.{trackCount}
 use Rattle.count.specs.Count.{odd, f3}
+use Rattle.count.proofs.F3.{ThreeApart, no-f3}
 use Rattle.plan.specs.Leg.{cell, forth, back}
 use Rattle.plan.specs.Plan.{corner, differ}
 use Rattle.plan.specs.declared.Plan.the-variants.{One}
 use Rattle.plan.proofs.Cases.{one-of, or-left, or-right}
-use Rattle.plan.proofs.Parity.{four, implies, apply, bit, is-even, colour}
+use Rattle.plan.proofs.Parity.{four, implies, apply, bit, colour}
 use Rattle.plan.proofs.Decided.{decidedCount}
 use Rattle.plan.proofs.Defect.{loss, block-size, defect, Fits, fits-exchanged, fits-decided}
 use Rattle.plan.proofs.Chain.{Plans, forth-leg, back-leg, one-leg}
@@ -65,37 +66,6 @@ module _ (p : Panel) (c : Cell) where
 
       bottom : c .y ≡ p .height → outer-row ≡ true
       bottom a = or-right (eqb (c .y) 1) (eq-eqb (c .y) (p .height) a)
-
--- ---- F3 says where the terminals are
-
-pub record ThreeApart (p : Panel) (s t : Cell) : Type 0 where
-  pub rows : p .height ≡ 3
-  pub even : p .width % 2 ≡ 0
-  pub dark : (s .x + s .y) % 2 ≡ 1
-  pub light : (t .x + t .y) % 2 ≡ 0
-  pub apart : s .x < t .x
-
-pub f3-facts : (p : Panel) (s t : Cell) → f3 p s t ≡ true → ThreeApart p s t
-unfolding f3
-f3-facts p s t e =
-    let r1 = and-right (eqb (p .height) 3) _ e in
-    let r2 = and-right (not (odd (p .width))) _ r1 in
-    let r3 = and-right (black s) _ r2 in
-    let r4 = and-right (not (black t)) _ r3 in
-    record {
-      rows = eqb-true _ _ (and-left (eqb (p .height) 3) _ e);
-      even = is-even (p .width) (not-true _ (and-left (not (odd (p .width))) _ r1));
-      dark = eqb-true _ _ (and-left (black s) _ r2);
-      light = is-even (t .x + t .y) (not-true _ (and-left (not (black t)) _ r3));
-      apart = far (leb (s .x + 2) (t .x)) refl r4;
-    }
-  where
-    far : (b : Bool) → leb (s .x + 2) (t .x) ≡ b → (b || (eqb (s .x + 1) (t .x) && (eqb (s .y) 2 && eqb (t .y) 2))) ≡ true → s .x < t .x
-    far true q h = let z : s .x + 2 ≤ t .x = leb-true _ _ q in omega arith
-    far false q h = let z : s .x + 1 ≡ t .x = eqb-true _ _ (and-left (eqb (s .x + 1) (t .x)) _ h) in omega arith
-
-pub no-f3 : (p : Panel) (s t : Cell) → (ThreeApart p s t → ⊥) → f3 p s t ≡ false
-no-f3 p s t n = test-fails (f3 p s t) (λ e. n (f3-facts p s t e))
 
 -- ---- the leg
 
@@ -171,7 +141,7 @@ module _ (p : Panel) (m : 3 ≤ p .width) (n : 3 ≤ p .height) where
 f3-from : (p : Panel) (s t : Cell) → OnPanel p t → Corner p s → f3 p s t ≡ false
 f3-from p s t ot k =
     no-f3 p s t λ f.
-    ⊎-elim (λ (q : s .x ≡ 1). level f q (k .level)) (λ (q : s .x ≡ p .width). omega (arith, f .apart, ot .right)) (k .side)
+    ⊎-elim (λ (q : s .x ≡ 1). level f q (k .level)) (λ (q : s .x ≡ p .width). omega (arith, f .odd-column, ot .right)) (k .side)
   where
     level : ThreeApart p s t → s .x ≡ 1 → (s .y ≡ 1) ⊎ (s .y ≡ p .height) → ⊥
     level f q (inl r) = omega (arith, f .dark)
@@ -180,7 +150,7 @@ f3-from p s t ot k =
 f3-to : (p : Panel) (s t : Cell) → OnPanel p s → Corner p t → f3 p s t ≡ false
 f3-to p s t os k =
     no-f3 p s t λ f.
-    ⊎-elim (λ (q : t .x ≡ 1). omega (arith, f .apart, os .left)) (λ (q : t .x ≡ p .width). level f q (k .level)) (k .side)
+    ⊎-elim (λ (q : t .x ≡ 1). omega (arith, f .odd-column, os .left)) (λ (q : t .x ≡ p .width). level f q (k .level)) (k .side)
   where
     level : ThreeApart p s t → t .x ≡ p .width → (t .y ≡ 1) ⊎ (t .y ≡ p .height) → ⊥
     level f q (inl r) = omega (arith, f .light, f .even)

@@ -10,7 +10,7 @@ use Rattle.grid.specs.declared.Cell.{Cell}
 use Rattle.grid.specs.Panel.{black, dist}
 use Rattle.grid.proofs.Facts.{and-left, and-right}
 use Rattle.count.specs.Count.{odd}
-pub use Rattle.count.proofs.Colour.{bit, mod-bit}
+pub use Rattle.count.proofs.Colour.{bit, mod-bit, is-odd, is-even}
 use Rattle.plan.specs.Plan.{differ}
 
 -- ---- a test over all values
@@ -62,12 +62,6 @@ odd-yes k e = odd-bit k true e
 
 pub odd-no : (k : ℕ) → k % 2 ≡ 0 → odd k ≡ false
 odd-no k e = odd-bit k false e
-
-pub is-odd : (k : ℕ) → odd k ≡ true → k % 2 ≡ 1
-is-odd k e = mod-bit k ∙ ap bit e
-
-pub is-even : (k : ℕ) → odd k ≡ false → k % 2 ≡ 0
-is-even k e = mod-bit k ∙ ap bit e
 
 sum-bit : (a b : ℕ) (p q : Bool) → a % 2 ≡ bit p → b % 2 ≡ bit q → (a + b) % 2 ≡ bit (differ p q)
 sum-bit a b true true e f = omega arith

@@ -9,7 +9,7 @@ use Rattle.grid.specs.declared.Cell.{Cell}
 use Rattle.grid.specs.Panel.{OnPanel}
 use Rattle.grid.specs.Track.{Track}
 use Rattle.count.specs.Count.{count}
-use Rattle.count.specs.Longest.{NoLonger}
+use Rattle.count.specs.Longest.{Longest}
 use Rattle.count.proofs.AtMost.{no-longer}
 use Rattle.plan.proofs.Wide.{plan-good}
 use Rattle.plan.proofs.Chain.{plan-track, length-plan}
@@ -18,13 +18,7 @@ pub reached : (p : Panel) (s t : Cell) → OnPanel p s → OnPanel p t → s ≢
 reached p s t os ot d = let h = plan-good p s t os ot d in (_, (plan-track h, length-plan h))
 
 -- the longest tracks from s to t have count p s t cells
-pub record Longest (p : Panel) (s t : Cell) : Type 0 where
-  pub cells : List Cell
-  pub track : Track p s t cells
-  pub size : length cells ≡ count p s t
-  pub none-longer : NoLonger p s t (count p s t)
-
-pub theorem-4-1 : (p : Panel) (s t : Cell) → OnPanel p s → OnPanel p t → s ≢ t → Longest p s t
+pub theorem-4-1 : (p : Panel) (s t : Cell) → OnPanel p s → OnPanel p t → s ≢ t → (l : List Cell) × Longest p s t (count p s t) l
 theorem-4-1 p s t os ot d =
-    let r = reached p s t os ot d in
-    record { cells = r .0; track = r .1 .0; size = r .1 .1; none-longer = no-longer p s t d }
+    let (l, (track, size)) = reached p s t os ot d in
+    (l, record { size = size; track = track; none-longer = no-longer p s t d })

@@ -10,21 +10,15 @@ use Rattle.grid.specs.Track.{Track}
 use Rattle.grid.proofs.Track.{single}
 use Rattle.count.specs.declared.ClassCount.{ClassCount}
 use Rattle.count.specs.Order.{orderCount}
-use Rattle.count.specs.Longest.{NoLonger}
+use Rattle.count.specs.Longest.{Longest}
 use Rattle.count.proofs.Terminals.{by-terminals, none-longer}
 use Rattle.plan.proofs.Theorem.{reached}
 
 -- the longest tracks from s to t have the order's count of cells
-pub record LongestOf (p : Panel) (s t : Cell) : Type 0 where
-  pub cells : List Cell
-  pub track : Track p s t cells
-  pub size : length cells ≡ orderCount p s t
-  pub none-longer : NoLonger p s t (orderCount p s t)
-
-pub any-two : (p : Panel) (s t : Cell) → OnPanel p s → OnPanel p t → LongestOf p s t
+pub any-two : (p : Panel) (s t : Cell) → OnPanel p s → OnPanel p t → (l : List Cell) × Longest p s t (orderCount p s t) l
 any-two p s t os ot =
-    let (cells, (track, size)) =
+    let (l, (track, size)) =
     by-terminals (λ (f : ClassCount). (l : List Cell) × (Track p s t l × (length l ≡ f .count .0))) p s t
     (λ e. (s ∷ [], (subst (λ (c : Cell). Track p s c (s ∷ [])) e (single os), refl)))
     (λ d. reached p s t os ot d) in
-    record { cells = cells; track = track; size = size; none-longer = none-longer p s t }
+    (l, record { size = size; track = track; none-longer = none-longer p s t })

@@ -1,5 +1,5 @@
 -- Document 02, R-2: what the program `layer` writes for every input. A refusal is told as `foil` tells it; else the layer is that of one
--- track, and of that track only a property is promised: it is a longest one.
+-- track, and of that track only properties are promised: it is a longest one, and leaves uncovered what R-10 says.
 use Prim.Native.Nat.{ℕ}
 use mathlib.Core.List.{List}
 use Rattle.grid.specs.declared.Cell.{Cell}

@@ -15,7 +15,7 @@ pub struct Sheet {
 }
 
 // The position of a cell in the list, counted from 1, or 0.
-fn position_of(list: &[u8], c: Cell) -> u32 {
+pub fn position_of(list: &[u8], c: Cell) -> u32 {
     let mut i = 0;
     while i + 1 < list.len() {
         if wide(list[i]) == c.x && wide(list[i + 1]) == c.y {

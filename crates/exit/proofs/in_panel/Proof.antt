@@ -3,7 +3,8 @@ use Prim.Native.Nat.{_+_, _-_}
 use mathlib.Core.Path.{sym, _∙_}
 use native.Mathlib.Omega.{arith}
 use borrow.Author.Needs.{needs}
-use Rattle.exit.specs.Exit.{fits, row}
+use Rattle.grid.specs.Reading.{row}
+use Rattle.exit.specs.Exit.{fits}
 use Rattle.exit.proofs.Reading.{NoneBefore, hit, miss, all-passed}
 use Rattle.exit.proofs.in_panel.Statement.{statement}
 use Rattle.exit.proofs.in_panel.Tie as tie

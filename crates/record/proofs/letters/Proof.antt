@@ -1,15 +1,14 @@
 -- What was found says whether the record is refused.
-use Prim.Native.Nat.{ℕ}
 use mathlib.Core.Path.{_≡_, refl, sym, _∙_}
-use mathlib.Core.List.{List, [], _∷_}
+use mathlib.Core.List.{[]}
 use native.Mathlib.Omega.{arith}
-use lib.ListN.{length}
+use lib.ListN.{drop-of-length-le}
 use denote.Ref.{now}
 use Rattle.grid.proofs.Answers.{cells-good}
 use Rattle.grid.proofs.Tests.{answer-good, answer-refused}
 use Rattle.grid.specs.declared.Check.the-variants.{Good}
 use Rattle.record_head.specs.Head.{headLength}
-use Rattle.record.specs.Read.{cellsRead, checkRecord, lettersPlace}
+use Rattle.record.specs.Read.{checkRecord, lettersPlace}
 use Rattle.record.proofs.Answers.{record-refused, record-good}
 use borrow.Author.Needs.{needs}
 use Rattle.record.proofs.letters.Statement.{statement}
@@ -33,11 +32,6 @@ part-result-start c = search needs
 part-result-end : tie.Need-part-result-end
 part-result-end c = search needs
 
--- an empty stretch has no bytes
-none-left : (l : List ℕ) → length l ≡ 0 → l ≡ []
-none-left [] e = refl
-none-left (x ∷ l) e = absurd (omega arith)
-
 returns : tie.Need-returns
 returns c =
     let told = c .before in
@@ -45,7 +39,7 @@ returns c =
     let f = now (call .before .before .args .file) in
     let e = record-refused f (sym (call .find-record .ensures) ∙ told .enum-told .given .1) in
     let front : 0 ≡ lettersPlace f = answer-refused (λ r. 0) _ e in
-    record { part = record { bytes = none-left _ (omega arith) ∙ answer-refused (λ r. []) _ e; block = refl; place = omega arith } }
+    record { part = record { bytes = drop-of-length-le _ {i = 0} (omega arith) ∙ answer-refused (λ r. []) _ e; block = refl; place = omega arith } }
 
 enum-told-2 : tie.Need-enum-told-2
 enum-told-2 c = search needs

@@ -1,0 +1,1 @@
+// Which cells a track leaves uncovered: a theorem, without code.
