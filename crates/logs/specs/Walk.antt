@@ -1,0 +1,44 @@
+-- The walk over both logs in the order of ticks: what it is given and what it passes. No public call's promise cites this.
+use Prim.Native.Nat.{ℕ, _+_, _≤_}
+use mathlib.Core.Path.{_≡_}
+use mathlib.Core.Bool.{true, cond}
+use mathlib.Core.List.{List, [], _∷_}
+use lib.Dec.{leb}
+use lib.ListN.{length, take, drop}
+use Rattle.grid.specs.declared.Panel.{Panel}
+use Rattle.grid.specs.declared.Cell.{Cell}
+use Rattle.grid.specs.Panel.{goodSides, area, OnPanel}
+use Rattle.list.specs.List.{allOn, among, noneTwice}
+use Rattle.scratch.specs.Scratch.{held}
+use Rattle.log_entries.specs.Log.{Entry, cellsOf, rises}
+use Rattle.log_entries.specs.Marks.{Changed}
+
+-- a log that passes its tests
+pub record GoodLog (p : Panel) (l : List Entry) : Type 0 where
+  pub on : allOn p (cellsOf l) ≡ true
+  pub once : noneTwice (cellsOf l) ≡ true
+  pub up : rises l ≡ true
+
+-- two such logs of a panel with good sides, and in scratch 1 at the places of the laser's cells, 2 at the camera's, 3 where both are
+pub record Marked (p : Panel) (burned seen : List Entry) (scratch : List ℕ) : Type 0 where
+  pub sides : goodSides p ≡ true
+  pub laser : GoodLog p burned
+  pub camera : GoodLog p seen
+  pub room : area p ≤ length scratch
+  pub marks : (c : Cell) → OnPanel p c
+      → held p scratch c ≡ cond (among c (cellsOf burned)) 1 0 + cond (among c (cellsOf seen)) 2 0
+
+-- the entries from the first on whose tick is above t
+abbrev pub ahead : ℕ → List Entry → List Entry
+ahead t [] = []
+ahead t (e ∷ l) = cond (leb (e .tick) t) (ahead t l) (e ∷ l)
+
+-- 0 for whatever was there
+abbrev pub erased : ℕ → ℕ
+erased k = 0
+
+-- of a log whose first entries, from in number, are passed: those with a tick up to t are passed too, which makes r, and where the places of
+-- all that were passed before were erased, those of all that are passed now are
+pub record Passes (p : Panel) (l : List Entry) (from t : ℕ) (old : List ℕ) (r : ℕ) (new : List ℕ) : Type 0 where
+  pub left : drop r l ≡ ahead t (drop from l)
+  pub gone : (base : List ℕ) → Changed p erased (take from (cellsOf l)) base old → Changed p erased (take r (cellsOf l)) base new
