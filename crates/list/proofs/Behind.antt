@@ -23,7 +23,7 @@ steps-behind d (e ∷ l) c =
     ap (λ (b : Bool). neighbours d e && b) (steps-behind e l c)
     ∙ sym (and-assoc (neighbours d e) (stepsFrom e l) (neighbours (lastFrom e l) c))
 
-same-sym : (a b : Cell) → sameCell a b ≡ sameCell b a
+pub same-sym : (a b : Cell) → sameCell a b ≡ sameCell b a
 same-sym a b = by-same (sameCell a b) refl
   where
     by-same : (r : Bool) → sameCell a b ≡ r → sameCell a b ≡ sameCell b a

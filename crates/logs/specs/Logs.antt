@@ -1,7 +1,6 @@
 -- Document 02, R-11, "Laser log and camera log": what the call answers and what it leaves in scratch, for every input. A refusal gives four zeros.
 use Prim.Native.Nat.{ℕ}
 use mathlib.Core.Path.{_≡_}
-use mathlib.Core.Bool.{_&&_}
 use mathlib.Core.List.{List}
 use lib.Dec.{leb}
 use lib.ListN.{length}
@@ -24,8 +23,9 @@ use Rattle.logs.specs.Counts.{inBoth, onlyIn, seenEarlier, countsOf}
 abbrev pub sizesCheck : Panel → ℕ → ℕ → ℕ → Check
 sizesCheck p burned seen room =
     after (checkPanel p)
-    (expect (wholeEntries burned && wholeEntries seen) ListLength
-    (expect (leb (area p) room) ShortBuffer Good))
+    (expect (wholeEntries burned) ListLength
+    (expect (wholeEntries seen) ListLength
+    (expect (leb (area p) room) ShortBuffer Good)))
 
 -- those of the entries: 7, 9, 21 of the laser's log, then of the camera's
 abbrev pub entriesCheck : Panel → List Entry → List Entry → Check

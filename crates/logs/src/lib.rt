@@ -88,8 +88,9 @@ fn check_sizes(p: Panel, burned: usize, seen: usize, room: usize) -> Check
     ensures { λ r. ⌜ r ≡ sizesCheck p burned seen room ⌝ }
 {
     let enough = expect(area_of(p) <= room, Refusal::ShortBuffer, Check::Good);
-    let whole = if whole_entries(burned) { whole_entries(seen) } else { false };
-    after(check_panel(p), expect(whole, Refusal::ListLength, enough))
+    let camera = expect(whole_entries(seen), Refusal::ListLength, enough);
+    let laser = expect(whole_entries(burned), Refusal::ListLength, camera);
+    after(check_panel(p), laser)
 }
 
 // Passes the laser's entries whose tick is at most this, behind the first ones, which are passed: what is
