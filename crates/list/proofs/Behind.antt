@@ -1,12 +1,13 @@
 -- The tests of a list with cells behind it: each is the test of the list and what the last cell adds. So a walk along the list need not
 -- look back at more than its last cell and at which cells it has met.
 use mathlib.Core.Path.{_≡_, refl, sym, ap, _∙_}
-use mathlib.Core.Bool.{Bool, true, false, not, _&&_, _||_, and-true, and-assoc}
+use mathlib.Core.Bool.{Bool, true, false, not, _&&_, _||_, and-true, and-assoc, or-assoc, true≢false}
 use mathlib.Core.List.{List, [], _∷_, _++_}
+use borrow.Author.Tests.{not-true}
 use Rattle.grid.specs.declared.Panel.{Panel}
 use Rattle.grid.specs.declared.Cell.{Cell}
 use Rattle.grid.specs.Panel.{onPanel, sameCell, neighbours}
-use Rattle.grid.proofs.Facts.{same-eq, eq-same, same-ne, ne-same}
+use Rattle.grid.proofs.Facts.{and-parts, same-eq, eq-same, same-ne, ne-same}
 use Rattle.list.specs.List.{allOn, stepsFrom, among, noneTwice, lastFrom}
 
 pub all-on-append : (p : Panel) (l k : List Cell) → allOn p (l ++ k) ≡ (allOn p l && allOn p k)
@@ -39,6 +40,28 @@ pub among-behind : (d : Cell) (l : List Cell) (c : Cell) → among d (l ++ c ∷
 among-behind d [] c = ap (λ (b : Bool). b || false) (same-sym d c)
 among-behind d (e ∷ l) c =
     ap (λ (b : Bool). sameCell d e || b) (among-behind d l c) ∙ or-swap (sameCell d e) (sameCell c d) (among d l)
+
+pub among-append : (c : Cell) (l k : List Cell) → among c (l ++ k) ≡ (among c l || among c k)
+among-append c [] k = refl
+among-append c (d ∷ l) k =
+    ap (λ (b : Bool). sameCell c d || b) (among-append c l k) ∙ sym (or-assoc (sameCell c d) (among c l) (among c k))
+
+-- where no cell stands twice, one that stands in front does not stand behind
+pub once-apart : (c : Cell) (l k : List Cell) → noneTwice (l ++ k) ≡ true → among c l ≡ true → among c k ≡ false
+once-apart c [] k o e = absurd (true≢false (sym e))
+once-apart c (d ∷ l) k o e =
+    let (fresh, rest) = and-parts (not (among d (l ++ k))) (noneTwice (l ++ k)) o in
+    by-same (sameCell c d) refl (not-true _ fresh) (once-apart c l k rest) e
+  where
+    behind : (a b : Bool) → (a || b) ≡ false → b ≡ false
+    behind true b f = absurd (true≢false f)
+    behind false b f = f
+
+    by-same : (b : Bool) → sameCell c d ≡ b → among d (l ++ k) ≡ false → (among c l ≡ true → among c k ≡ false) → (b || among c l) ≡ true
+        → among c k ≡ false
+    by-same true s fresh there f =
+        ap (λ (a : Cell). among a k) (same-eq c d s) ∙ behind (among d l) (among d k) (sym (among-append d l k) ∙ fresh)
+    by-same false s fresh there f = there f
 
 none-swap : (e a n f : Bool) → (not (e || a) && (n && not f)) ≡ ((not a && n) && not (e || f))
 none-swap true true n f = refl

@@ -1,3 +1,4 @@
 pub mod Ticks
 pub mod Tallies
+pub mod Passing
 pub mod Walks

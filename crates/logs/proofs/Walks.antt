@@ -1,69 +1,162 @@
--- What is known along the walk over both logs: which of the laser's entries are passed, what that leaves in scratch, and what the mark of a seen
--- cell tells.
-use Prim.Native.Nat.{ℕ, _+_, _≤_, _<_}
+-- What is known along the walk over both logs: what the mark of a seen cell tells, and what is counted.
+use Prim.Native.Nat.{ℕ, zero, suc, _+_, _≤_, _<_}
 use native.Mathlib.Omega.{arith}
-use native.Mathlib.Nat.{le-refl}
-use mathlib.Core.Path.{_≡_, refl, sym, ap, subst, _∙_}
-use mathlib.Core.Bool.{Bool, true, false, cond, not, _&&_, _||_, or-false}
-use mathlib.Core.List.{List, [], _∷_, _++_}
+use mathlib.Core.Path.{_≡_, refl, sym, ap, _∙_}
+use mathlib.Core.Bool.{Bool, true, false, cond, not, _||_, true≢false}
+use mathlib.Core.List.{List, [], _∷_}
 use lib.Dec.{leb, eqb}
-use lib.ListN.{length, take, drop, getD, set, length-set, length-map, take-append-drop, drop-of-length-le}
-use borrow.Author.Tests.{leb-true, le-leb, lt-leb}
+use lib.ListN.{length, take, drop, getD, length-map, take-append-drop, drop-of-length-le, List·getD-map}
+use borrow.Author.Tests.{leb-true}
 use Rattle.grid.specs.declared.Panel.{Panel}
 use Rattle.grid.specs.declared.Cell.{Cell}
-use Rattle.grid.specs.Panel.{cell, area, OnPanel}
-use Rattle.grid.proofs.Facts.{and-parts}
-use Rattle.grid.proofs.Lists.{take-next, drop-next}
+use Rattle.grid.specs.Panel.{cell, OnPanel}
+use Rattle.grid.proofs.Facts.{and-parts, sides, area-small}
+use Rattle.grid.proofs.Lists.{drop-next}
 use Rattle.list.specs.List.{nth, among, noneTwice}
-use Rattle.list.proofs.Indexed.{on-index, new-index, among-index}
-use Rattle.scratch.specs.Scratch.{place, held}
+use Rattle.list.proofs.Behind.{among-append, once-apart}
+use Rattle.list.proofs.Indexed.{on-index, among-index}
+use Rattle.pigeonhole.proofs.Long.{tested-few}
+use Rattle.scratch.specs.Scratch.{place}
 use Rattle.log_entries.specs.Log.{Entry, entry, nthEntry, cellsOf, risesFrom}
 use Rattle.log_entries.specs.Marks.{Changed}
-use Rattle.log_entries.proofs.Marks.{one-more}
+use Rattle.log_entries.proofs.Marks.{none-changed}
 use Rattle.logs.specs.Counts.{tally, logged, loggedLater, inBoth, seenEarlier}
-use Rattle.logs.specs.Walk.{GoodLog, Marked, ahead, erased, Passes}
+use Rattle.logs.specs.Walk.{Marked, ahead, erased, Passes}
 use Rattle.logs.proofs.Ticks.{ahead-on, later-is-ahead}
 use Rattle.logs.proofs.Tallies.{tally-most}
 
--- ---- passing the laser's entries
+-- ---- the mark of a seen cell
 
--- the entries from `from` up to i are passed: so many more, and the rest is to come
-pub record Passing (p : Panel) (l : List Entry) (from t : ℕ) (old new : List ℕ) (i : ℕ) : Type 0 where
-  pub to-come : ahead t (drop i l) ≡ ahead t (drop from l)
-  pub size : length new ≡ length old
-  pub gone : (base : List ℕ) → Changed p erased (take from (cellsOf l)) base old → Changed p erased (take i (cellsOf l)) base new
+-- what it holds where the cell stands among the laser's passed entries, or among those ahead, or in neither; never in both
+read-mark : (gone left : Bool) → (gone ≡ true → left ≡ false) → let mark = cond gone 0 (cond (gone || left) 1 0 + 2) in
+    (not (eqb mark 2) ≡ (gone || left)) × (eqb mark 3 ≡ left)
+read-mark true true h = absurd (true≢false (h refl))
+read-mark true false h = (refl, refl)
+read-mark false true h = (refl, refl)
+read-mark false false h = (refl, refl)
 
-pub none-passed : (p : Panel) (l : List Entry) (from t : ℕ) (s : List ℕ) → Passing p l from t s s from
-none-passed p l from t s = record { to-come = refl; size = refl; gone = λ base g. g }
+cells-drop : (i : ℕ) (l : List Entry) → cellsOf (drop i l) ≡ drop i (cellsOf l)
+cells-drop zero l = refl
+cells-drop (suc i) [] = refl
+cells-drop (suc i) (e ∷ l) = cells-drop i l
 
-module _ {p : Panel} (l : List Entry) {from t : ℕ} {old new : List ℕ} (i : ℕ) (k : Passing p l from t old new i) where
-  -- no entry is left
-  pub all-passed : length l ≤ i → Passes p l from t old i new
-  all-passed h =
-      let none : drop i l ≡ [] = drop-of-length-le l {i = i} h in
-      record { left = none ∙ sym (ap (ahead t) none) ∙ k .to-come; gone = k .gone }
+-- ---- the walk
 
-  module _ (h : i < length l) where
-    next : drop i l ≡ nthEntry l i ∷ drop (i + 1) l
-    next = drop-next (entry (cell 0 0) 0) l i h
+-- the first i of the camera's entries are looked at, and the laser's are passed up to the last one's tick: what is counted and what is to come
+-- make the whole
+pub record Walking (p : Panel) (b s : List Entry) (base new : List ℕ) (both earlier passed i : ℕ) : Type 0 where
+  pub last : ℕ
+  pub up : risesFrom last (drop i s) ≡ true
+  pub to-come : (t : ℕ) → last ≤ t → ahead t (drop passed b) ≡ ahead t b
+  pub gone : Changed p erased (take passed (cellsOf b)) base new
+  pub both-all : both + tally (logged b) (drop i s) ≡ inBoth s b
+  pub earlier-all : earlier + tally (loggedLater b) (drop i s) ≡ seenEarlier b s
 
-    -- the next one is ahead
-    pub stopped : t < nthEntry l i .tick → Passes p l from t old i new
-    stopped q =
-        let stays = ap (λ (b : Bool). cond b (ahead t (drop (i + 1) l)) (nthEntry l i ∷ drop (i + 1) l)) (lt-leb (nthEntry l i .tick) t q) in
-        record { left = next ∙ sym stays ∙ sym (ap (ahead t) next) ∙ k .to-come; gone = k .gone }
+module _ {p : Panel} (b s : List Entry) {base : List ℕ} (m : Marked p b s base) where
+  pub none-walked : Walking p b s base base 0 0 0 0
+  none-walked = record {
+    last = 0;
+    up = m .camera .up;
+    to-come = λ t h. refl;
+    gone = none-changed p erased base;
+    both-all = omega arith;
+    earlier-all = omega arith;
+  }
 
-    -- it is passed
-    pub passed-next : nthEntry l i .tick ≤ t → OnPanel p (nth (cellsOf l) i) → noneTwice (cellsOf l) ≡ true → area p ≤ length old
-        → {at : ℕ} → at ≡ place p (nth (cellsOf l) i) → Passing p l from t old (set new at 0) (i + 1)
-    passed-next q o once room {at} here =
-        let goes = ap (λ (b : Bool). cond b (ahead t (drop (i + 1) l)) (nthEntry l i ∷ drop (i + 1) l)) (le-leb (nthEntry l i .tick) t q) in
-        let there : i < length (cellsOf l) = omega (arith, length-map l (λ (e : Entry). e .cell)) in
-        record {
-          to-come = sym goes ∙ sym (ap (ahead t) next) ∙ k .to-come;
-          size = length-set new at 0 ∙ k .size;
-          gone = λ base g.
-              let done = k .gone base g in
-              subst (λ (c : List Cell). Changed p erased c base (set new at 0)) (sym (take-next (cell 0 0) (cellsOf l) i there))
-              (one-more done o (new-index (cellsOf l) i once there) (omega (arith, done .size, k .size)) here refl);
-        }
+  -- a log that passes its tests has at most 16,384 entries
+  few : length s ≤ 16384
+  few =
+      omega
+      (arith, length-map s (λ (e : Entry). e .cell), tested-few p (cellsOf s) (m .camera .on) (m .camera .once), area-small (sides p (m .sides)))
+
+  module _ {new : List ℕ} {both earlier passed : ℕ} (i : ℕ) (w : Walking p b s base new both earlier passed i) where
+    pub all-walked : length s ≤ i → (both ≡ inBoth s b) × (earlier ≡ seenEarlier b s)
+    all-walked h =
+        let none : drop i s ≡ [] = drop-of-length-le s {i = i} h in
+        let nothing : tally (logged b) (drop i s) ≡ 0 = ap (tally (logged b)) none in
+        let nothing-later : tally (loggedLater b) (drop i s) ≡ 0 = ap (tally (loggedLater b)) none in
+        (omega (arith, w .both-all), omega (arith, w .earlier-all))
+
+    -- what is counted is no more
+    pub most : (both ≤ 16384) × (earlier ≤ 16384)
+    most =
+        (omega (arith, w .both-all, tally-most (logged b) s, few), omega (arith, w .earlier-all, tally-most (loggedLater b) s, few))
+
+    -- the next entry, before which the laser's are passed up to its tick
+    module _ (h : i < length s) {r : ℕ} {now : List ℕ} (q : Passes p b passed (nthEntry s i .tick) new r now) where
+      abbrev e : Entry
+      e = nthEntry s i
+
+      abbrev c : Cell
+      c = nth (cellsOf s) i
+
+      next : drop i s ≡ e ∷ drop (i + 1) s
+      next = drop-next (entry (cell 0 0) 0) s i h
+
+      rising : (leb (w .last) (e .tick) ≡ true) × (risesFrom (e .tick) (drop (i + 1) s) ≡ true)
+      rising = and-parts (leb (w .last) (e .tick)) (risesFrom (e .tick) (drop (i + 1) s)) (sym (ap (risesFrom (w .last)) next) ∙ w .up)
+
+      there : i < length (cellsOf s)
+      there = omega (arith, length-map s (λ (f : Entry). f .cell))
+
+      same : c ≡ e .cell
+      same = List·getD-map (λ (f : Entry). f .cell) s i (entry (cell 0 0) 0)
+
+      pub inside : OnPanel p c
+      inside = on-index p (cellsOf s) i (m .camera .on) there
+
+      -- the laser's entries from r on are those above the tick
+      left : drop r b ≡ ahead (e .tick) b
+      left = q .left ∙ w .to-come (e .tick) (leb-true _ _ (rising .0))
+
+      pub erased-now : Changed p erased (take r (cellsOf b)) base now
+      erased-now = q .gone base (w .gone)
+
+      -- where its cell stands in the laser's log
+      abbrev passedBy : Bool
+      passedBy = among c (take r (cellsOf b))
+
+      abbrev leftIn : Bool
+      leftIn = among c (drop r (cellsOf b))
+
+      split : among c (cellsOf b) ≡ (passedBy || leftIn)
+      split = ap (among c) (sym (take-append-drop r (cellsOf b))) ∙ among-append c (take r (cellsOf b)) (drop r (cellsOf b))
+
+      in-log : logged b e ≡ (passedBy || leftIn)
+      in-log = ap (λ (d : Cell). among d (cellsOf b)) (sym same) ∙ split
+
+      later : loggedLater b e ≡ leftIn
+      later =
+          later-is-ahead e b (m .laser .up)
+          ∙ ap (λ (l : List Entry). logged l e) (sym left)
+          ∙ (λ j. among (sym same j) (cells-drop r b j))
+
+      -- what its place holds tells both
+      module _ {at : ℕ} (here : at ≡ place p c) where
+        holds : getD now at 0 ≡ cond passedBy 0 (cond (passedBy || leftIn) 1 0 + 2)
+        holds =
+            ap (λ (k : ℕ). getD now k 0) here
+            ∙ erased-now .holds c inside
+            ∙ ap (cond passedBy 0) (m .marks c inside ∙ (λ j. cond (split j) 1 0 + cond (among-index (cellsOf s) i there j) 2 0))
+
+        told : (not (eqb (getD now at 0) 2) ≡ logged b e) × (eqb (getD now at 0) 3 ≡ loggedLater b e)
+        told =
+            let once = ap noneTwice (take-append-drop r (cellsOf b)) ∙ m .laser .once in
+            let (is-in, is-later) = read-mark passedBy leftIn (once-apart c (take r (cellsOf b)) (drop r (cellsOf b)) once) in
+            (ap (λ (k : ℕ). not (eqb k 2)) holds ∙ is-in ∙ sym in-log, ap (λ (k : ℕ). eqb k 3) holds ∙ is-later ∙ sym later)
+
+        -- k and j are added to what is counted
+        module _ {k j : ℕ} (f : k ≡ cond (not (eqb (getD now at 0) 2)) 1 0) (g : j ≡ cond (eqb (getD now at 0) 3) 1 0) where
+          counted : (t : Entry → Bool) (n : ℕ) {a : ℕ} → a ≡ cond (t e) 1 0 → n + tally t (drop i s) ≡ tally t s
+              → n + a + tally t (drop (i + 1) s) ≡ tally t s
+          counted t n one all = let more : tally t (drop i s) ≡ cond (t e) 1 0 + tally t (drop (i + 1) s) = ap (tally t) next in omega arith
+
+          pub walked-next : Walking p b s base now (both + k) (earlier + j) r (i + 1)
+          walked-next = record {
+            last = e .tick;
+            up = rising .1;
+            to-come = λ t up. ap (ahead t) left ∙ ahead-on up b;
+            gone = erased-now;
+            both-all = counted (logged b) both (f ∙ ap (λ (a : Bool). cond a 1 0) (told .0)) (w .both-all);
+            earlier-all = counted (loggedLater b) earlier (g ∙ ap (λ (a : Bool). cond a 1 0) (told .1)) (w .earlier-all);
+          }

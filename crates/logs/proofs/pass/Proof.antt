@@ -10,7 +10,7 @@ use Rattle.scratch.proofs.Places.{place-below}
 use Rattle.log_entries.specs.Log.{Entry, entriesIn, cellsOf}
 use Rattle.log_entries.proofs.Entries.{length-entries, on-entry}
 use Rattle.log_entries.proofs.Turns.{below}
-use Rattle.logs.proofs.Walks.{Passing, none-passed, all-passed, stopped, passed-next}
+use Rattle.logs.proofs.Passing.{Passing, none-passed, all-passed, stopped, passed-next}
 use Rattle.logs.proofs.pass.Statement.{statement}
 use Rattle.logs.proofs.pass.Tie as tie
 
