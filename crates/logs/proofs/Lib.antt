@@ -2,3 +2,4 @@ pub mod Ticks
 pub mod Tallies
 pub mod Passing
 pub mod Walks
+pub mod Checks

@@ -44,7 +44,7 @@ above e t h (f ∷ l) r =
     let (first, rest) = and-parts (leb t (f .tick)) (risesFrom (f .tick) l) r in
     let more : e .tick < f .tick = omega (arith, leb-true t (f .tick) first) in
     λ i. (ap (λ (b : Bool). sameCell (e .cell) (f .cell) && b) (lt-ltb (e .tick) (f .tick) more) ∙ and-true (sameCell (e .cell) (f .cell))) i
-        || above e (f .tick) more l rest i
+    || above e (f .tick) more l rest i
 
 all-ahead : (e : Entry) (t : ℕ) (l : List Entry) → risesFrom t l ≡ true → loggedLater (ahead (e .tick) l) e ≡ logged (ahead (e .tick) l) e
 all-ahead e t [] r = refl

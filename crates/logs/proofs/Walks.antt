@@ -9,7 +9,7 @@ use lib.ListN.{length, take, drop, getD, length-map, take-append-drop, drop-of-l
 use borrow.Author.Tests.{leb-true}
 use Rattle.grid.specs.declared.Panel.{Panel}
 use Rattle.grid.specs.declared.Cell.{Cell}
-use Rattle.grid.specs.Panel.{cell, OnPanel}
+use Rattle.grid.specs.Panel.{goodSides, cell, OnPanel}
 use Rattle.grid.proofs.Facts.{and-parts, sides, area-small}
 use Rattle.grid.proofs.Lists.{drop-next}
 use Rattle.list.specs.List.{nth, among, noneTwice}
@@ -21,7 +21,7 @@ use Rattle.log_entries.specs.Log.{Entry, entry, nthEntry, cellsOf, risesFrom}
 use Rattle.log_entries.specs.Marks.{Changed}
 use Rattle.log_entries.proofs.Marks.{none-changed}
 use Rattle.logs.specs.Counts.{tally, logged, loggedLater, inBoth, seenEarlier}
-use Rattle.logs.specs.Walk.{Marked, ahead, erased, Passes}
+use Rattle.logs.specs.Walk.{GoodLog, Marked, ahead, erased, Passes}
 use Rattle.logs.proofs.Ticks.{ahead-on, later-is-ahead}
 use Rattle.logs.proofs.Tallies.{tally-most}
 
@@ -52,6 +52,10 @@ pub record Walking (p : Panel) (b s : List Entry) (base new : List ℕ) (both ea
   pub both-all : both + tally (logged b) (drop i s) ≡ inBoth s b
   pub earlier-all : earlier + tally (loggedLater b) (drop i s) ≡ seenEarlier b s
 
+-- a log that passes its tests has at most 16,384 entries
+pub few : {p : Panel} (l : List Entry) → goodSides p ≡ true → GoodLog p l → length l ≤ 16384
+few {p} l g q = omega (arith, length-map l (λ (e : Entry). e .cell), tested-few p (cellsOf l) (q .on) (q .once), area-small (sides p g))
+
 module _ {p : Panel} (b s : List Entry) {base : List ℕ} (m : Marked p b s base) where
   pub none-walked : Walking p b s base base 0 0 0 0
   none-walked = record {
@@ -62,12 +66,6 @@ module _ {p : Panel} (b s : List Entry) {base : List ℕ} (m : Marked p b s base
     both-all = omega arith;
     earlier-all = omega arith;
   }
-
-  -- a log that passes its tests has at most 16,384 entries
-  few : length s ≤ 16384
-  few =
-      omega
-      (arith, length-map s (λ (e : Entry). e .cell), tested-few p (cellsOf s) (m .camera .on) (m .camera .once), area-small (sides p (m .sides)))
 
   module _ {new : List ℕ} {both earlier passed : ℕ} (i : ℕ) (w : Walking p b s base new both earlier passed i) where
     pub all-walked : length s ≤ i → (both ≡ inBoth s b) × (earlier ≡ seenEarlier b s)
@@ -80,7 +78,8 @@ module _ {p : Panel} (b s : List Entry) {base : List ℕ} (m : Marked p b s base
     -- what is counted is no more
     pub most : (both ≤ 16384) × (earlier ≤ 16384)
     most =
-        (omega (arith, w .both-all, tally-most (logged b) s, few), omega (arith, w .earlier-all, tally-most (loggedLater b) s, few))
+        let small = few s (m .sides) (m .camera) in
+        (omega (arith, w .both-all, tally-most (logged b) s), omega (arith, w .earlier-all, tally-most (loggedLater b) s))
 
     -- the next entry, before which the laser's are passed up to its tick
     module _ (h : i < length s) {r : ℕ} {now : List ℕ} (q : Passes p b passed (nthEntry s i .tick) new r now) where

@@ -145,10 +145,7 @@ fn walk(p: Panel, burned: &[u8], seen: &[u8], scratch: &mut [u8]) -> Met
         earlier += one_if(mark == BOTH);
         i += 1;
     }
-    Met {
-        both,
-        earlier,
-    }
+    Met { both, earlier }
 }
 
 // The four numbers: what is in one log and not in both is only there.

@@ -1,0 +1,76 @@
+-- The totals: what a log has beside the cells in both is only there.
+use native.Mathlib.Omega.{arith}
+use borrow.Author.Needs.{needs}
+use Prim.Native.Nat.{_+_, _-_, _/_}
+use mathlib.Core.Path.{_≡_, sym, _∙_}
+use mathlib.Core.List.{List}
+use lib.ListN.{length}
+use Rattle.log_entries.specs.Log.{Entry, entriesIn}
+use Rattle.log_entries.proofs.Entries.{length-entries}
+use Rattle.logs.specs.Counts.{inBoth, onlyIn}
+use Rattle.logs.proofs.Tallies.{both-sides, lasers-total, cameras-total}
+use Rattle.logs.proofs.Walks.{few}
+use Rattle.logs.proofs.count_cells.Statement.{statement}
+use Rattle.logs.proofs.count_cells.Tie as tie
+
+walk-requires : tie.Need-walk-requires
+walk-requires c κs = search needs
+
+-- what the walk counted
+module _ (c : tie.After-walk) where
+  abbrev start : tie.Start
+  start = c .before .before .before .before .before
+
+  abbrev laser : List Entry
+  laser = entriesIn (start .args .burned .now)
+
+  abbrev camera : List Entry
+  camera = entriesIn (start .args .seen .now)
+
+  lasers : length laser ≡ length (start .args .burned .now) / 6
+  lasers = length-entries (start .args .burned .now)
+
+  cameras : length camera ≡ length (start .args .seen .now) / 6
+  cameras = length-entries (start .args .seen .now)
+
+  both : c .walk .result .both ≡ inBoth laser camera
+  both = c .walk .ensures .0 ∙ sym (both-sides laser camera (start .pre .laser .once) (start .pre .camera .once))
+
+  only-burned : c .walk .result .both + onlyIn laser camera ≡ length (start .args .burned .now) / 6
+  only-burned = omega (arith, both, lasers-total laser camera, lasers)
+
+  only-seen : c .walk .result .both + onlyIn camera laser ≡ length (start .args .seen .now) / 6
+  only-seen = omega (arith, both, cameras-total laser camera (start .pre .laser .once) (start .pre .camera .once), cameras)
+
+cast-lasers : tie.Need-cast-lasers
+cast-lasers c = let d = c .before .before in record { fits = omega (arith, lasers d, few (laser d) (start d .pre .sides) (start d .pre .laser)) }
+
+cast-cameras : tie.Need-cast-cameras
+cast-cameras c = let d = c .before .before in record { fits = omega (arith, cameras d, few (camera d) (start d .pre .sides) (start d .pre .camera)) }
+
+sub-t13 : tie.Need-sub-t13
+sub-t13 c = omega (arith, only-burned (c .before .before .before))
+
+sub-t15 : tie.Need-sub-t15
+sub-t15 c = omega (arith, only-seen (c .before .before .before .before))
+
+same-length : tie.Need-same-length
+same-length c = search needs
+
+returns : tie.Need-returns
+returns c =
+    let d = c .before .before .before .before in
+    let n = d .walk .result .both in
+    let burned : length (start d .args .burned .now) / 6 - n ≡ onlyIn (laser d) (camera d) = omega (arith, only-burned d) in
+    let seen : length (start d .args .seen .now) / 6 - n ≡ onlyIn (camera d) (laser d) = omega (arith, only-seen d) in (
+      (λ i. record {
+        both = record { 0 = both d i };
+        «only_burned» = record { 0 = burned i };
+        «only_seen» = record { 0 = seen i };
+        earlier = record { 0 = d .walk .ensures .1 .0 i };
+      }),
+      d .walk .ensures .1 .1,
+    )
+
+pub count-cells-spec : {M : Type 1} → statement M
+count-cells-spec = tie.close (tie.spec walk-requires cast-lasers cast-cameras sub-t13 sub-t15 same-length returns)
