@@ -13,10 +13,6 @@ use Rattle.list.specs.List.{cellAt, nth, allOn}
 use Rattle.list.proofs.Indexed.{on-index}
 use Rattle.log_entries.specs.Log.{Entry, entry, highFirst, tickAt, entriesIn, nthEntry, cellsOf}
 
--- computed: a tick of 66,051 is the bytes 0, 1, 2, 3
-pub entry-shown : entriesIn (7 ∷ 9 ∷ 0 ∷ 1 ∷ 2 ∷ 3 ∷ 5 ∷ []) ≡ entry (cell 7 9) 66051 ∷ []
-entry-shown = refl
-
 pub length-entries : (b : List ℕ) → length (entriesIn b) ≡ length b / 6
 length-entries (x ∷ y ∷ a ∷ b ∷ c ∷ d ∷ l) = let e = length-entries l in omega arith
 length-entries (x ∷ y ∷ a ∷ b ∷ c ∷ []) = refl

@@ -14,7 +14,8 @@ use Rattle.grid.proofs.Facts.{and-parts, same-eq}
 use Rattle.list.specs.List.{among, noneTwice}
 use Rattle.list.proofs.Behind.{same-sym}
 use Rattle.log_entries.specs.Log.{Entry, cellsOf}
-use Rattle.logs.specs.Counts.{tally, logged, loggedLater, inBoth, onlyIn, seenEarlier}
+use Rattle.logs.specs.declared.LogCounts.{LogCounts}
+use Rattle.logs.specs.Counts.{tally, logged, loggedLater, inBoth, onlyIn, seenEarlier, countsOf}
 
 -- ---- one log
 
@@ -96,3 +97,18 @@ module _ (burned seen : List Entry) where
   -- those seen earlier are among both
   pub earlier-both : noneTwice (cellsOf burned) ≡ true → noneTwice (cellsOf seen) ≡ true → seenEarlier burned seen ≤ inBoth burned seen
   earlier-both p q = omega (arith, both-sides burned seen p q, tally-stricter (loggedLater burned) (logged burned) (later-logged burned) seen)
+
+  -- four numbers that are these
+  pub counts-are : {a b c d : ℕ} → a ≡ inBoth burned seen → b ≡ onlyIn burned seen → c ≡ onlyIn seen burned → d ≡ seenEarlier burned seen
+      → _≡_ {A = LogCounts} (record {
+        both = record { 0 = a };
+        «only_burned» = record { 0 = b };
+        «only_seen» = record { 0 = c };
+        earlier = record { 0 = d };
+      }) (countsOf burned seen)
+  counts-are e f g h = λ i. record {
+    both = record { 0 = e i };
+    «only_burned» = record { 0 = f i };
+    «only_seen» = record { 0 = g i };
+    earlier = record { 0 = h i };
+  }

@@ -57,7 +57,7 @@ returns c =
     let d = c .before .before in
     let t = d .before in
     let w = t .before .loop .inv in
-    (met (cells t) _ w (start t .pre .1 .1 .0) (there t) (inside t) (d .place-at .ensures) (c .if1 .taken), (w .changed .rest, λ e. absurd (true≢false (sym e))))
+    (met (cells t) _ w (start t .pre .1 .1 .0) (there t) (inside t) (d .place-at .ensures) (omega (arith, c .if1 .taken)), (w .changed .rest, λ e. absurd (true≢false (sym e))))
 
 add-scratch : tie.Need-add-scratch Inv-loop μ-loop
 add-scratch c = omega (arith, c .if1 .left, start (c .before .before .before) .pre .1 .1 .1)
@@ -75,7 +75,7 @@ loop-again : tie.Need-loop-again Inv-loop μ-loop
 loop-again c =
     let d = c .before .before in
     let t = d .before in
-    marked-next (cells t) _ (t .before .loop .inv) (start t .pre .1 .1 .0) (there t) (inside t) (d .place-at .ensures) (c .if1 .left)
+    marked-next (cells t) _ (t .before .loop .inv) (start t .pre .1 .1 .0) (there t) (inside t) (d .place-at .ensures) (omega (arith, c .if1 .left))
 
 same-length-2 : tie.Need-same-length-2 Inv-loop μ-loop
 same-length-2 c = c .before .loop .inv .changed .size

@@ -2,13 +2,13 @@
 use Prim.Native.Nat.{ℕ, _+_, _-_}
 use native.Mathlib.Omega.{arith}
 use borrow.Author.Tests.{le-leb, lt-leb}
-use mathlib.Core.Path.{_≡_, refl, sym, ap, subst⁻¹, _∙_}
+use mathlib.Core.Path.{_≡_, refl, sym, ap, _∙_}
 use mathlib.Core.Bool.{_&&_}
 use mathlib.Core.List.{List}
 use lib.Dec.{leb}
 use lib.ListN.{length, drop}
 use Rattle.grid.proofs.Tests.{turn-failed, turn-passed}
-use Rattle.log_entries.specs.Log.{entriesIn, nthEntry, risesFrom, rises}
+use Rattle.log_entries.specs.Log.{Entry, entriesIn, risesFrom, rises}
 use Rattle.log_entries.proofs.Turns.{below, rise-turn, rise-end}
 use Rattle.log_entries.proofs.rises.Statement.{statement}
 use Rattle.log_entries.proofs.rises.Tie as tie
@@ -30,18 +30,24 @@ module _ (c : tie.In-loop Inv-loop μ-loop) where
 tick-of-requires : tie.Need-tick-of-requires Inv-loop μ-loop
 tick-of-requires c κs = below (log c) _ (c .loop-test .taken)
 
--- by its tick
-turn : (c : tie.After-tick-of Inv-loop μ-loop) → let t = c .before in let next = c .tick-of .result in
-    risesFrom (t .before .loop .last) (drop (t .before .loop .i) (entriesIn (log t)))
-    ≡ (leb (t .before .loop .last) next && risesFrom next (drop (t .before .loop .i + 1) (entriesIn (log t))))
-turn c =
-    let t = c .before in
-    let l = entriesIn (log t) in
-    rise-turn (log t) (t .before .loop .i) (t .loop-test .taken) (t .before .loop .last)
-    ∙ ap (λ (k : ℕ). leb (t .before .loop .last) k && risesFrom k (drop (t .before .loop .i + 1) l)) (sym (c .tick-of .ensures))
+-- by the last tick and its own
+module _ (c : tie.After-tick-of Inv-loop μ-loop) where
+  abbrev last : ℕ
+  last = c .before .before .loop .last
+
+  abbrev next : ℕ
+  next = c .tick-of .result
+
+  abbrev rest : List Entry
+  rest = drop (c .before .before .loop .i + 1) (entriesIn (log (c .before)))
+
+  turn : risesFrom last (drop (c .before .before .loop .i) (entriesIn (log (c .before)))) ≡ (leb last next && risesFrom next rest)
+  turn =
+      rise-turn (log (c .before)) (c .before .before .loop .i) (c .before .loop-test .taken) last
+      ∙ ap (λ (k : ℕ). leb last k && risesFrom k rest) (sym (c .tick-of .ensures))
 
 returns : tie.Need-returns Inv-loop μ-loop
-returns c = turn-failed _ _ (turn (c .before)) (c .before .before .before .loop .inv) (lt-leb _ _ (c .if1 .taken))
+returns c = let d = c .before in turn-failed _ _ (turn d) (d .before .before .loop .inv) (lt-leb (last d) (next d) (omega (arith, c .if1 .taken)))
 
 add-i : tie.Need-add-i Inv-loop μ-loop
 add-i c = omega arith
@@ -50,7 +56,7 @@ loop-less : tie.Need-loop-less Inv-loop μ-loop
 loop-less c = omega arith
 
 loop-again : tie.Need-loop-again Inv-loop μ-loop
-loop-again c = turn-passed _ _ (turn (c .before)) (c .before .before .before .loop .inv) (le-leb _ _ (c .if1 .left))
+loop-again c = let d = c .before in turn-passed _ _ (turn d) (d .before .before .loop .inv) (le-leb (last d) (next d) (omega (arith, c .if1 .left)))
 
 returns-2 : tie.Need-returns-2 Inv-loop μ-loop
 returns-2 c = sym (rise-end (c .before .before .before .args .log .now) _ (c .loop-test .left) _) ∙ c .before .loop .inv

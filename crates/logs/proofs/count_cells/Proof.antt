@@ -1,14 +1,14 @@
 -- The totals: what a log has beside the cells in both is only there.
 use native.Mathlib.Omega.{arith}
 use borrow.Author.Needs.{needs}
-use Prim.Native.Nat.{_+_, _-_, _/_}
+use Prim.Native.Nat.{_+_, _/_, _≤_}
 use mathlib.Core.Path.{_≡_, sym, _∙_}
 use mathlib.Core.List.{List}
 use lib.ListN.{length}
 use Rattle.log_entries.specs.Log.{Entry, entriesIn}
 use Rattle.log_entries.proofs.Entries.{length-entries}
 use Rattle.logs.specs.Counts.{inBoth, onlyIn}
-use Rattle.logs.proofs.Tallies.{both-sides, lasers-total, cameras-total}
+use Rattle.logs.proofs.Tallies.{both-sides, lasers-total, cameras-total, earlier-both, counts-are}
 use Rattle.logs.proofs.Walks.{few}
 use Rattle.logs.proofs.count_cells.Statement.{statement}
 use Rattle.logs.proofs.count_cells.Tie as tie
@@ -36,6 +36,10 @@ module _ (c : tie.After-walk) where
   both : c .walk .result .both ≡ inBoth laser camera
   both = c .walk .ensures .0 ∙ sym (both-sides laser camera (start .pre .laser .once) (start .pre .camera .once))
 
+  -- and those seen earlier are no more
+  earlier : c .walk .result .earlier ≤ c .walk .result .both
+  earlier = omega (arith, both, c .walk .ensures .1 .0, earlier-both laser camera (start .pre .laser .once) (start .pre .camera .once))
+
   only-burned : c .walk .result .both + onlyIn laser camera ≡ length (start .args .burned .now) / 6
   only-burned = omega (arith, both, lasers-total laser camera, lasers)
 
@@ -49,26 +53,18 @@ cast-cameras : tie.Need-cast-cameras
 cast-cameras c = let d = c .before .before in record { fits = omega (arith, cameras d, few (camera d) (start d .pre .sides) (start d .pre .camera)) }
 
 sub-t13 : tie.Need-sub-t13
-sub-t13 c = omega (arith, only-burned (c .before .before .before))
+sub-t13 c = let d = c .before .before .before in omega (arith, only-burned d, earlier d)
 
 sub-t15 : tie.Need-sub-t15
-sub-t15 c = omega (arith, only-seen (c .before .before .before .before))
+sub-t15 c = let d = c .before .before .before .before in omega (arith, only-seen d, earlier d)
 
 same-length : tie.Need-same-length
 same-length c = search needs
 
 returns : tie.Need-returns
 returns c =
-    let d = c .before .before .before .before in
-    let n = d .walk .result .both in
-    let burned : length (start d .args .burned .now) / 6 - n ≡ onlyIn (laser d) (camera d) = omega (arith, only-burned d) in
-    let seen : length (start d .args .seen .now) / 6 - n ≡ onlyIn (camera d) (laser d) = omega (arith, only-seen d) in (
-      (λ i. record {
-        both = record { 0 = both d i };
-        «only_burned» = record { 0 = burned i };
-        «only_seen» = record { 0 = seen i };
-        earlier = record { 0 = d .walk .ensures .1 .0 i };
-      }),
+    let d = c .before .before .before .before in (
+      counts-are (laser d) (camera d) (omega (arith, both d)) (omega (arith, only-burned d)) (omega (arith, only-seen d)) (omega (arith, d .walk .ensures)),
       d .walk .ensures .1 .1,
     )
 
