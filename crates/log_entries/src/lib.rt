@@ -83,7 +83,7 @@ fn mark_once(p: Panel, log: &[u8], mark: u8, scratch: &mut [u8]) -> bool
     requires good { ⌜ goodSides p ≡ true ⌝ }
     requires on { ⌜ allOn p (cellsOf (entriesIn (now log))) ≡ true ⌝ }
     requires ready { ⌜ HoldsBelow p mark (now scratch) ⌝ }
-    requires small { ⌜ mark ≤ 128 ⌝ }
+    requires small { ⌜ mark ≤ 127 ⌝ }
     ensures told { λ r. ⌜ r ≡ noneTwice (cellsOf (entriesIn (now (log .entry)))) ⌝ }
     ensures rest { λ _. ⌜ drop (area p) (now (scratch .exit)) ≡ drop (area p) (now (scratch .entry)) ⌝ }
     ensures marks { λ r. ⌜ (r ≡ true → Changed p (λ k. k + mark) (cellsOf (entriesIn (now (log .entry)))) (now (scratch .entry)) (now (scratch .exit))) ⌝ }
@@ -122,7 +122,7 @@ fn rises(log: &[u8]) -> bool
 pub fn check_log(p: Panel, log: &[u8], mark: u8, scratch: &mut [u8]) -> Check
     requires good { ⌜ goodSides p ≡ true ⌝ }
     requires ready { ⌜ HoldsBelow p mark (now scratch) ⌝ }
-    requires small { ⌜ mark ≤ 128 ⌝ }
+    requires small { ⌜ mark ≤ 127 ⌝ }
     ensures told { λ r. ⌜ r ≡ logCheck p (entriesIn (now (log .entry))) ⌝ }
     ensures rest { λ _. ⌜ drop (area p) (now (scratch .exit)) ≡ drop (area p) (now (scratch .entry)) ⌝ }
     ensures marks { λ r. ⌜ (r ≡ check.Good → Changed p (λ k. k + mark) (cellsOf (entriesIn (now (log .entry)))) (now (scratch .entry)) (now (scratch .exit))) ⌝ }

@@ -3,5 +3,5 @@ pub mod Ticks
 pub mod Tallies
 pub mod Passing
 pub mod Walks
-pub mod Checks
+pub mod Passed
 pub mod Theorem

@@ -46,15 +46,15 @@ module _ {p : Panel} (l : List Entry) {from t : ℕ} {old new : List ℕ} (i : �
 
     -- it is passed
     pub passed-next : nthEntry l i .tick ≤ t → OnPanel p (nth (cellsOf l) i) → noneTwice (cellsOf l) ≡ true → area p ≤ length old
-        → {at : ℕ} → at ≡ place p (nth (cellsOf l) i) → Passing p l from t old (set new at 0) (i + 1)
-    passed-next q o once room {at} here =
+        → {at v : ℕ} → at ≡ place p (nth (cellsOf l) i) → v ≡ 0 → Passing p l from t old (set new at v) (i + 1)
+    passed-next q o once room {at} {v} here none =
         let goes = ap (λ (b : Bool). cond b (ahead t (drop (i + 1) l)) (nthEntry l i ∷ drop (i + 1) l)) (le-leb (nthEntry l i .tick) t q) in
         let there : i < length (cellsOf l) = omega (arith, length-map l (λ (e : Entry). e .cell)) in
         record {
           to-come = sym goes ∙ sym (ap (ahead t) next) ∙ k .to-come;
-          size = length-set new at 0 ∙ k .size;
+          size = length-set new at v ∙ k .size;
           gone = λ base g.
               let done = k .gone base g in
-              subst (λ (c : List Cell). Changed p erased c base (set new at 0)) (sym (take-next (cell 0 0) (cellsOf l) i there))
-              (one-more done o (new-index (cellsOf l) i once there) (omega (arith, done .size, k .size)) here refl);
+              subst (λ (c : List Cell). Changed p erased c base (set new at v)) (sym (take-next (cell 0 0) (cellsOf l) i there))
+              (one-more done o (new-index (cellsOf l) i once there) (omega (arith, done .size, k .size)) here none);
         }

@@ -20,7 +20,7 @@ use Rattle.logs.specs.declared.LogsAnswer.the-variants.{Refused, Given}
 use Rattle.logs.specs.Counts.{inBoth, onlyIn, seenEarlier, countsOf}
 use Rattle.logs.specs.Logs.{sizesCheck, compareCheck, Compares}
 use Rattle.logs.specs.Walk.{GoodLog}
-use Rattle.logs.proofs.Checks.{good-log}
+use Rattle.logs.proofs.Passed.{good-log}
 use Rattle.logs.proofs.Tallies.{lasers-total, cameras-total, earlier-both}
 
 -- the four numbers beside the lengths of the logs, in bytes

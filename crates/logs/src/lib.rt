@@ -191,8 +191,8 @@ pub fn compare(p: Panel, burned: &[u8], seen: &[u8], scratch: &mut [u8]) -> Logs
     if let Check::Refused(r) = sizes {
         return LogsAnswer::Refused(r);
     }
-    clear(p, scratch);
+    clear(p, scratch); // whatever was lent
     let told = compare_entries(p, burned, seen, scratch);
-    clear(p, scratch);
+    clear(p, scratch); // whatever was marked
     told
 }

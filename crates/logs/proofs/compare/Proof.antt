@@ -8,7 +8,7 @@ use Rattle.grid.specs.declared.Check.{Check}
 use Rattle.grid.specs.declared.Check.the-variants.{Good}
 use Rattle.scratch.proofs.Clean.{clean, cleared-again}
 use Rattle.logs.specs.Logs.{sizesCheck}
-use Rattle.logs.proofs.Checks.{Sized, sized, sizes-refused, sizes-good}
+use Rattle.logs.proofs.Passed.{Sized, sized, sizes-refused, sizes-good}
 use Rattle.logs.proofs.compare.Statement.{statement}
 use Rattle.logs.proofs.compare.Tie as tie
 

@@ -9,7 +9,7 @@ use Rattle.grid.proofs.Tests.{after-good, after-refused, answer-good, answer-re
 use Rattle.log_entries.specs.Log.{entriesIn, cellsOf, logCheck}
 use Rattle.log_entries.specs.Marks.{Changed}
 use Rattle.logs.specs.declared.LogsAnswer.the-variants.{Given}
-use Rattle.logs.proofs.Checks.{good-log, none-held, ones-held, marked}
+use Rattle.logs.proofs.Passed.{good-log, none-held, ones-held, marked}
 use Rattle.logs.proofs.compare_entries.Statement.{statement}
 use Rattle.logs.proofs.compare_entries.Tie as tie
 

@@ -53,10 +53,10 @@ cast-cameras : tie.Need-cast-cameras
 cast-cameras c = let d = c .before .before in record { fits = omega (arith, cameras d, few (camera d) (start d .pre .sides) (start d .pre .camera)) }
 
 sub-t13 : tie.Need-sub-t13
-sub-t13 c = let d = c .before .before .before in omega (arith, only-burned d, earlier d)
+sub-t13 c = let d = c .before .before .before in omega (arith, only-burned d, only-seen d, earlier d)
 
 sub-t15 : tie.Need-sub-t15
-sub-t15 c = let d = c .before .before .before .before in omega (arith, only-seen d, earlier d)
+sub-t15 c = let d = c .before .before .before .before in omega (arith, only-burned d, only-seen d, earlier d)
 
 same-length : tie.Need-same-length
 same-length c = search needs

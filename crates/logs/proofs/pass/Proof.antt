@@ -65,7 +65,9 @@ loop-less c = omega arith
 loop-again : tie.Need-loop-again Inv-loop μ-loop
 loop-again c =
     let t = c .before .before .before in
-    passed-next _ _ (t .before .loop .inv) (there t) (omega (arith, c .before .if1 .left, c .before .before .tick-of .ensures)) (inside t) (start t .pre .1 .1 .0) (start t .pre .1 .1 .1) (c .place-at .ensures)
+    let q = start t .pre .1 .1 in
+    passed-next _ _ (t .before .loop .inv) (there t) (omega (arith, c .before .if1 .left, c .before .before .tick-of .ensures)) (inside t)
+    (q .0) (q .1) (c .place-at .ensures) (omega arith)
 
 same-length-2 : tie.Need-same-length-2 Inv-loop μ-loop
 same-length-2 c = c .before .loop .inv .size
