@@ -46,9 +46,9 @@ back = entry (cell 1 1) 2 ∷ entry (cell 2 1) 1 ∷ []
 abbrev checked : List Entry → List Entry → Check
 checked a b = entriesCheck (panel 3 2 4000) a b
 
--- the laser's 9 and 21 before the camera's 7; the camera's where the laser's log is good
-pub order-shown : (checked twice off ≡ Refused Repeated)
-    × (checked back off ≡ Refused TickBack)
+-- the laser's 21 and 9 before the camera's 7; the camera's where the laser's log is good
+pub order-shown : (checked back off ≡ Refused TickBack)
+    × (checked twice off ≡ Refused Repeated)
     × (checked back twice ≡ Refused TickBack)
     × (checked [] off ≡ Refused CellOff)
     × (checked burned back ≡ Refused TickBack)
