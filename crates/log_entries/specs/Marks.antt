@@ -1,5 +1,5 @@
 -- What the logs' walks leave in scratch: each place of a list's cells is changed once. No public call's promise cites this.
-use Prim.Native.Nat.{ℕ, _≤_, _<_}
+use Prim.Native.Nat.{ℕ, _+_, _≤_, _<_}
 use mathlib.Core.Path.{_≡_}
 use mathlib.Core.Bool.{cond}
 use mathlib.Core.List.{List}
@@ -9,6 +9,7 @@ use Rattle.grid.specs.declared.Cell.{Cell}
 use Rattle.grid.specs.Panel.{area, OnPanel}
 use Rattle.list.specs.List.{among}
 use Rattle.scratch.specs.Scratch.{held}
+use Rattle.log_entries.specs.Log.{Entry, cellsOf}
 
 -- scratch enough for the panel, and every place holds less than m
 pub record HoldsBelow (p : Panel) (m : ℕ) (s : List ℕ) : Type 0 where
@@ -20,3 +21,7 @@ pub record Changed (p : Panel) (f : ℕ → ℕ) (l : List Cell) (old new : List
   pub size : length new ≡ length old
   pub rest : drop (area p) new ≡ drop (area p) old
   pub holds : (c : Cell) → OnPanel p c → held p new c ≡ cond (among c l) (f (held p old c)) (held p old c)
+
+-- a mark m is added at the places of a log's cells
+abbrev pub Adds : Panel → ℕ → List Entry → List ℕ → List ℕ → Type 0
+Adds p m l old new = Changed p (λ k. k + m) (cellsOf l) old new

@@ -16,7 +16,7 @@ ghost use Rattle.grid.specs.Panel.{goodSides, area};
 ghost use Rattle.list.specs.List.{nth, allOn, noneTwice};
 ghost use Rattle.scratch.specs.Scratch.{place};
 ghost use Rattle.log_entries.specs.Log.{tickAt, entriesIn, wholeEntries, nthEntry, cellsOf, rises, logCheck};
-ghost use Rattle.log_entries.specs.Marks.{HoldsBelow, Changed};
+ghost use Rattle.log_entries.specs.Marks.{HoldsBelow, Adds};
 
 // How many bytes an entry has: x, y, and the tick in four.
 pub const ENTRY: usize = 6;
@@ -86,7 +86,7 @@ fn mark_once(p: Panel, log: &[u8], mark: u8, scratch: &mut [u8]) -> bool
     requires small { ⌜ mark ≤ 127 ⌝ }
     ensures told { λ r. ⌜ r ≡ noneTwice (cellsOf (entriesIn (now (log .entry)))) ⌝ }
     ensures rest { λ _. ⌜ drop (area p) (now (scratch .exit)) ≡ drop (area p) (now (scratch .entry)) ⌝ }
-    ensures marks { λ r. ⌜ (r ≡ true → Changed p (λ k. k + mark) (cellsOf (entriesIn (now (log .entry)))) (now (scratch .entry)) (now (scratch .exit))) ⌝ }
+    ensures marks { λ r. ⌜ (r ≡ true → Adds p mark (entriesIn (now (log .entry))) (now (scratch .entry)) (now (scratch .exit))) ⌝ }
 {
     let mut i = 0;
     while i < log.len() / ENTRY {
@@ -125,7 +125,7 @@ pub fn check_log(p: Panel, log: &[u8], mark: u8, scratch: &mut [u8]) -> Check
     requires small { ⌜ mark ≤ 127 ⌝ }
     ensures told { λ r. ⌜ r ≡ logCheck p (entriesIn (now (log .entry))) ⌝ }
     ensures rest { λ _. ⌜ drop (area p) (now (scratch .exit)) ≡ drop (area p) (now (scratch .entry)) ⌝ }
-    ensures marks { λ r. ⌜ (r ≡ check.Good → Changed p (λ k. k + mark) (cellsOf (entriesIn (now (log .entry)))) (now (scratch .entry)) (now (scratch .exit))) ⌝ }
+    ensures marks { λ r. ⌜ (r ≡ check.Good → Adds p mark (entriesIn (now (log .entry))) (now (scratch .entry)) (now (scratch .exit))) ⌝ }
 {
     if !all_on(p, log) {
         return Check::Refused(Refusal::CellOff);

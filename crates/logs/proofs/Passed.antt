@@ -22,11 +22,11 @@ use Rattle.list.specs.List.{allOn, among, noneTwice}
 use Rattle.scratch.specs.Scratch.{held, cleared, Clean}
 use Rattle.scratch.proofs.Marks.{held-clean}
 use Rattle.log_entries.specs.Log.{Entry, entriesIn, wholeEntries, cellsOf, rises, logCheck}
-use Rattle.log_entries.specs.Marks.{HoldsBelow, Changed}
+use Rattle.log_entries.specs.Marks.{HoldsBelow, Changed, Adds}
 use Rattle.logs.specs.declared.LogsAnswer.{LogsAnswer}
 use Rattle.logs.specs.declared.LogsAnswer.the-variants as answers
 use Rattle.logs.specs.Counts.{countsOf}
-use Rattle.logs.specs.Logs.{sizesCheck, entriesCheck, logsAnswer, logsValues, GivesCounts, Compares}
+use Rattle.logs.specs.Logs.{sizesCheck, logsAnswer, entriesAnswer, logsValues, GivesCounts, Compares}
 use Rattle.logs.specs.Walk.{GoodLog, Marked}
 
 -- ---- the sizes
@@ -80,8 +80,7 @@ module _ {p : Panel} {clean : List ℕ} (k : Clean p clean) where
         added false = omega arith
 
 pub marked : {p : Panel} (burned seen : List Entry) {clean first second : List ℕ} → goodSides p ≡ true → Clean p clean
-    → GoodLog p burned → Changed p (λ k. k + 1) (cellsOf burned) clean first
-    → GoodLog p seen → Changed p (λ k. k + 2) (cellsOf seen) first second → Marked p burned seen second
+    → GoodLog p burned → Adds p 1 burned clean first → GoodLog p seen → Adds p 2 seen first second → Marked p burned seen second
 marked burned seen s k b g c f = record {
   sides = s;
   laser = b;
@@ -115,7 +114,7 @@ module _ (p : Panel) (burned seen old : List ℕ) where
   }
 
   pub sizes-good : sizesCheck p (length burned) (length seen) (length old) ≡ Good → {r : LogsAnswer} {new : List ℕ}
-      → r ≡ logsAnswer (entriesCheck p (entriesIn burned) (entriesIn seen)) (entriesIn burned) (entriesIn seen) → new ≡ cleared p old
+      → r ≡ entriesAnswer p (entriesIn burned) (entriesIn seen) → new ≡ cleared p old
       → Compares p burned seen old new r
   sizes-good z e f = record {
     gives = gives-counts _ _ _ (e ∙ ap (λ (c : Check). logsAnswer c (entriesIn burned) (entriesIn seen)) (after-good _ z refl));

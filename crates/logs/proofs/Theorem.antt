@@ -41,7 +41,9 @@ module _ (p : Panel) (burned seen : List ℕ) {old new : List ℕ} {k : LogCount
 
   -- nothing was refused
   fine : compareCheck p burned seen (length old) ≡ Good
-  fine = behind-good (compareCheck p burned seen (length old)) Refused (Given (countsOf laser camera)) (Given k) (λ r q. clash (cc)) (sym (c .gives .answers)) .0
+  fine =
+      behind-good (compareCheck p burned seen (length old)) Refused (Given (countsOf laser camera)) (Given k) (λ r q. clash (cc))
+      (sym (c .gives .answers)) .0
 
   value : (n : ℕ) → given (compareCheck p burned seen (length old)) n ≡ n
   value n = ap (λ (q : Check). given q n) fine

@@ -40,6 +40,10 @@ compareCheck p burned seen room =
 abbrev pub logsAnswer : Check → List Entry → List Entry → LogsAnswer
 logsAnswer c burned seen = answer c Refused (Given (countsOf burned seen))
 
+-- that behind the sizes
+abbrev pub entriesAnswer : Panel → List Entry → List Entry → LogsAnswer
+entriesAnswer p burned seen = logsAnswer (entriesCheck p burned seen) burned seen
+
 -- number and values of an answer
 abbrev pub logsValues : LogsAnswer → LogsValues
 logsValues (Refused r) = record {

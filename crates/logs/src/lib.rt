@@ -23,7 +23,7 @@ ghost use Rattle.list.specs.List.{allOn, noneTwice};
 ghost use Rattle.scratch.specs.Scratch.{cleared, Clean};
 ghost use Rattle.log_entries.specs.Log.{entriesIn, cellsOf};
 ghost use Rattle.logs.specs.Counts.{inBoth, seenEarlier, countsOf};
-ghost use Rattle.logs.specs.Logs.{sizesCheck, entriesCheck, logsAnswer, logsValues, Compares};
+ghost use Rattle.logs.specs.Logs.{sizesCheck, entriesAnswer, logsValues, Compares};
 ghost use Rattle.logs.specs.Walk.{Marked, Passes};
 
 // The marks of a place in scratch: its cell is the laser's and not burned yet, the camera's, or both.
@@ -169,7 +169,7 @@ fn count_cells(p: Panel, burned: &[u8], seen: &[u8], scratch: &mut [u8]) -> LogC
 fn compare_entries(p: Panel, burned: &[u8], seen: &[u8], scratch: &mut [u8]) -> LogsAnswer
     requires good { ⌜ goodSides p ≡ true ⌝ }
     requires clean { ⌜ Clean p (now scratch) ⌝ }
-    ensures told { λ r. ⌜ r ≡ logsAnswer (entriesCheck p (entriesIn (now (burned .entry))) (entriesIn (now (seen .entry)))) (entriesIn (now (burned .entry))) (entriesIn (now (seen .entry))) ⌝ }
+    ensures told { λ r. ⌜ r ≡ entriesAnswer p (entriesIn (now (burned .entry))) (entriesIn (now (seen .entry))) ⌝ }
     ensures rest { λ _. ⌜ drop (area p) (now (scratch .exit)) ≡ drop (area p) (now (scratch .entry)) ⌝ }
 {
     let laser = check_log(p, burned, BURNED, scratch);

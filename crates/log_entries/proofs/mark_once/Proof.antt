@@ -56,8 +56,10 @@ returns : tie.Need-returns Inv-loop μ-loop
 returns c =
     let d = c .before .before in
     let t = d .before in
-    let w = t .before .loop .inv in
-    (met (cells t) _ w (start t .pre .1 .1 .0) (there t) (inside t) (d .place-at .ensures) (omega (arith, c .if1 .taken)), (w .changed .rest, λ e. absurd (true≢false (sym e))))
+    let w = t .before .loop .inv in (
+      met (cells t) _ w (start t .pre .1 .1 .0) (there t) (inside t) (d .place-at .ensures) (omega (arith, c .if1 .taken)),
+      (w .changed .rest, λ e. absurd (true≢false (sym e))),
+    )
 
 add-scratch : tie.Need-add-scratch Inv-loop μ-loop
 add-scratch c = omega (arith, c .if1 .left, start (c .before .before .before) .pre .1 .1 .1)

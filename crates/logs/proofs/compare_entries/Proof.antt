@@ -1,13 +1,12 @@
 -- The tests of the laser's log, then those of the camera's; each leaves its marks, by which the cells are counted.
 use native.Mathlib.Omega.{arith}
 use borrow.Author.Needs.{needs}
-use Prim.Native.Nat.{_+_}
 use mathlib.Core.Path.{_≡_, sym, ap, _∙_}
 use denote.Ref.{now}
 use Rattle.grid.specs.declared.Check.the-variants.{Good}
 use Rattle.grid.proofs.Tests.{after-good, after-refused, answer-good, answer-refused}
-use Rattle.log_entries.specs.Log.{entriesIn, cellsOf, logCheck}
-use Rattle.log_entries.specs.Marks.{Changed}
+use Rattle.log_entries.specs.Log.{entriesIn, logCheck}
+use Rattle.log_entries.specs.Marks.{Adds}
 use Rattle.logs.specs.declared.LogsAnswer.the-variants.{Given}
 use Rattle.logs.proofs.Passed.{good-log, none-held, ones-held, marked}
 use Rattle.logs.proofs.compare_entries.Statement.{statement}
@@ -41,7 +40,7 @@ module _ (c : tie.After-enum-told) where
   laser-good : logCheck (start .args .p) (entriesIn (now (start .args .burned))) ≡ Good
   laser-good = sym (laser-told .check-log .ensures .0) ∙ c .enum-told .given .1
 
-  laser-marks : Changed (start .args .p) (λ k. k + 1) (cellsOf (entriesIn (now (start .args .burned)))) (now (start .args .scratch))
+  laser-marks : Adds (start .args .p) 1 (entriesIn (now (start .args .burned))) (now (start .args .scratch))
       (laser-told .check-log .last .1 .1 .1 .0)
   laser-marks = laser-told .check-log .ensures .1 .1 (c .enum-told .given .1)
 

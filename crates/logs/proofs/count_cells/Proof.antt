@@ -64,7 +64,8 @@ same-length c = search needs
 returns : tie.Need-returns
 returns c =
     let d = c .before .before .before .before in (
-      counts-are (laser d) (camera d) (omega (arith, both d)) (omega (arith, only-burned d)) (omega (arith, only-seen d)) (omega (arith, d .walk .ensures)),
+      counts-are (laser d) (camera d)
+          (omega (arith, both d)) (omega (arith, only-burned d)) (omega (arith, only-seen d)) (omega (arith, d .walk .ensures)),
       d .walk .ensures .1 .1,
     )
 
