@@ -2,7 +2,6 @@
 use Prim.Native.Nat.{ℕ}
 use mathlib.Core.Path.{_≡_, refl}
 use mathlib.Core.List.{List, [], _∷_}
-use lib.ListN.{replicate}
 use Rattle.grid.specs.declared.Check.{Check}
 use Rattle.grid.specs.declared.Check.the-variants.{Refused}
 use Rattle.grid.specs.declared.Refusal.the-variants.{Side, Pitch, ListLength, ShortBuffer, CellOff, Repeated, TickBack}

@@ -20,7 +20,7 @@ ghost use Prim.Native.Nat.{_≤_};
 ghost use lib.ListN.{length, drop};
 ghost use Rattle.grid.specs.Panel.{goodSides, area};
 ghost use Rattle.list.specs.List.{allOn, noneTwice};
-ghost use Rattle.scratch.specs.Scratch.{cleared, Clean};
+ghost use Rattle.scratch.specs.Scratch.{Clean};
 ghost use Rattle.log_entries.specs.Log.{entriesIn, cellsOf};
 ghost use Rattle.logs.specs.Counts.{inBoth, seenEarlier, countsOf};
 ghost use Rattle.logs.specs.Logs.{sizesCheck, entriesAnswer, logsValues, Compares};

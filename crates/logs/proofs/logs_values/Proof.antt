@@ -1,6 +1,5 @@
 -- One case for each constructor.
 use borrow.Author.Needs.{needs}
-use Prim.Native.Nat.{ℕ}
 use mathlib.Core.Path.{sym, ap, _∙_}
 use Rattle.grid.specs.declared.Cells.{Cells}
 use Rattle.logs.specs.Logs.{logsValues}

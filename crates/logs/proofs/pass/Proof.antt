@@ -1,13 +1,12 @@
 -- `Passing` holds at each turn.
-use Prim.Native.Nat.{ℕ, _-_, _≤_, _<_}
+use Prim.Native.Nat.{ℕ, _-_, _<_}
 use native.Mathlib.Omega.{arith}
-use mathlib.Core.Path.{_≡_}
 use mathlib.Core.List.{List}
 use lib.ListN.{length}
 use Rattle.grid.specs.Panel.{OnPanel}
 use Rattle.list.specs.List.{nth}
 use Rattle.scratch.proofs.Places.{place-below}
-use Rattle.log_entries.specs.Log.{Entry, entriesIn, cellsOf}
+use Rattle.log_entries.specs.Log.{entriesIn, cellsOf}
 use Rattle.log_entries.proofs.Entries.{length-entries, on-entry}
 use Rattle.log_entries.proofs.Turns.{below}
 use Rattle.logs.proofs.Passing.{Passing, none-passed, all-passed, stopped, passed-next}
