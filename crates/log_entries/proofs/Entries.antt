@@ -1,4 +1,4 @@
--- The entries that bytes hold: how many there are, and that the one with the number i stands in the six bytes from 6 · i on.
+-- The entries that bytes hold: how many there are, their cells, and that the one with the number i stands in the six bytes from 6 · i on.
 use Prim.Native.Nat.{ℕ, zero, suc, _+_, _*_, _/_, _<_}
 use native.Mathlib.Nat.{add-zero}
 use native.Mathlib.Omega.{arith}
@@ -22,13 +22,23 @@ length-entries (x ∷ y ∷ []) = refl
 length-entries (x ∷ []) = refl
 length-entries [] = refl
 
--- and as many cells
-pub length-cells-of : (b : List ℕ) → length (cellsOf (entriesIn b)) ≡ length b / 6
-length-cells-of b = length-map (entriesIn b) (λ (e : Entry). e .cell) ∙ length-entries b
+-- ---- its cells
 
--- the entry at the front of bytes
+pub length-cells-of : (l : List Entry) → length (cellsOf l) ≡ length l
+length-cells-of l = length-map l (λ (e : Entry). e .cell)
+
+pub nth-cell : (l : List Entry) (i : ℕ) → nth (cellsOf l) i ≡ nthEntry l i .cell
+nth-cell l i = List·getD-map (λ (e : Entry). e .cell) l i (entry (cell 0 0) 0)
+
+-- each is on the panel where all are
+pub on-entry : (p : Panel) (l : List Entry) (i : ℕ) → allOn p (cellsOf l) ≡ true → i < length l → OnPanel p (nth (cellsOf l) i)
+on-entry p l i e h = on-index p (cellsOf l) i e (omega (arith, length-cells-of l))
+
+-- ---- the entry with a number
+
+-- that at the front of bytes
 abbrev first : List ℕ → Entry
-first b = entry (cell (getD b 0 0) (getD b 1 0)) (highFirst (getD b 2 0) (getD b 3 0) (getD b 4 0) (getD b 5 0))
+first b = entry (cellAt b 0) (tickAt b 0)
 
 first-index : (b : List ℕ) (i : ℕ) → i < length (entriesIn b) → first (drop (6 * i) b) ≡ nthEntry (entriesIn b) i
 first-index (x ∷ y ∷ a ∷ b ∷ c ∷ d ∷ l) zero h = refl
@@ -56,12 +66,7 @@ module _ (b : List ℕ) (i : ℕ) (h : i < length (entriesIn b)) where
       front = ap (λ (k : ℕ). getD b k 0) (sym (add-zero (6 * i))) ∙ byte 0
 
   pub cell-index : cellAt b (6 * i) ≡ nth (cellsOf (entriesIn b)) i
-  cell-index = ap (λ (e : Entry). e .cell) entry-index ∙ sym (List·getD-map (λ (e : Entry). e .cell) (entriesIn b) i (entry (cell 0 0) 0))
+  cell-index = ap (λ (e : Entry). e .cell) entry-index ∙ sym (nth-cell (entriesIn b) i)
 
   pub tick-index : tickAt b (6 * i) ≡ nthEntry (entriesIn b) i .tick
   tick-index = ap (λ (e : Entry). e .tick) entry-index
-
--- its cell is on the panel where all are
-pub on-entry : (p : Panel) (b : List ℕ) (i : ℕ) → allOn p (cellsOf (entriesIn b)) ≡ true → i < length (entriesIn b)
-    → OnPanel p (nth (cellsOf (entriesIn b)) i)
-on-entry p b i e h = on-index p (cellsOf (entriesIn b)) i e (omega (arith, length-entries b, length-cells-of b))

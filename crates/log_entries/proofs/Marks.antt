@@ -6,7 +6,7 @@ use mathlib.Core.Path.{_≡_, refl, sym, ap, subst, _∙_}
 use mathlib.Core.Bool.{Bool, true, false, cond, not, _||_}
 use mathlib.Core.List.{List, [], _∷_, _++_}
 use lib.ListN.{length, take, getD, set, length-set}
-use lib.Seq.{take-all, drop-set-lt}
+use lib.Seq.{take-all}
 use Rattle.grid.specs.declared.Panel.{Panel}
 use Rattle.grid.specs.declared.Cell.{Cell}
 use Rattle.grid.specs.Panel.{cell, area, OnPanel, sameCell}
@@ -17,24 +17,29 @@ use Rattle.list.proofs.Behind.{among-behind, none-twice-behind}
 use Rattle.list.proofs.Indexed.{new-index}
 use Rattle.scratch.specs.Scratch.{place, held}
 use Rattle.scratch.proofs.Marks.{held-set}
-use Rattle.scratch.proofs.Places.{place-below}
-use Rattle.log_entries.specs.Marks.{HoldsBelow, Changed}
+use Rattle.scratch.proofs.Places.{place-in, put-rest}
+use Rattle.log_entries.specs.Marks.{HoldsBelow, Changed, added}
 
 -- ---- one place more
 
 pub none-changed : (p : Panel) (f : ℕ → ℕ) (s : List ℕ) → Changed p f [] s s
 none-changed p f s = record { size = refl; rest = refl; holds = λ c o. refl }
 
+module _ {p : Panel} {f : ℕ → ℕ} {l : List Cell} {old new : List ℕ} (g : Changed p f l old new) where
+  -- a place is in scratch still
+  pub in-scratch : {c : Cell} → OnPanel p c → area p ≤ length old → {at : ℕ} → at ≡ place p c → at < length new
+  in-scratch o room e = place-in o e (omega (arith, g .size))
+
 module _ {p : Panel} {f : ℕ → ℕ} {l : List Cell} {old new : List ℕ} (g : Changed p f l old new) {c : Cell} (o : OnPanel p c)
     (fresh : among c l ≡ false) where
   -- the place of a cell that is not in the list holds what it held
-  pub as-before : held p new c ≡ held p old c
+  as-before : held p new c ≡ held p old c
   as-before = g .holds c o ∙ ap (λ (b : Bool). cond b (f (held p old c)) (held p old c)) fresh
 
   pub one-more : area p ≤ length old → {at v : ℕ} → at ≡ place p c → v ≡ f (held p old c) → Changed p f (l ++ c ∷ []) old (set new at v)
   one-more room {at} {v} here e = record {
     size = length-set new at v ∙ g .size;
-    rest = drop-set-lt (area p) new at v (omega (arith, place-below o)) ∙ g .rest;
+    rest = put-rest o here new v ∙ g .rest;
     holds = λ d q. ap (λ (k : ℕ). held p (set new k v) d) here
         ∙ held-set new o v (omega (arith, g .size)) q
         ∙ by-same d q (sameCell c d) refl
@@ -50,11 +55,11 @@ module _ {p : Panel} {f : ℕ → ℕ} {l : List Cell} {old new : List ℕ} (g :
 
 -- the mark m is added at the places of the first i cells, none of which stands twice
 pub record Marking (p : Panel) (m : ℕ) (l : List Cell) (old new : List ℕ) (i : ℕ) : Type 0 where
-  pub changed : Changed p (λ k. k + m) (take i l) old new
+  pub changed : Changed p (added m) (take i l) old new
   pub once : noneTwice (take i l) ≡ true
 
 pub none-marked : (p : Panel) (m : ℕ) (l : List Cell) (s : List ℕ) → Marking p m l s s 0
-none-marked p m l s = record { changed = none-changed p (λ k. k + m) s; once = refl }
+none-marked p m l s = record { changed = none-changed p (added m) s; once = refl }
 
 -- the next cell, whose place is at
 module _ {p : Panel} {m : ℕ} (l : List Cell) {old new : List ℕ} (i : ℕ) (k : Marking p m l old new i) (b : HoldsBelow p m old) (h : i < length l)
@@ -64,9 +69,6 @@ module _ {p : Panel} {m : ℕ} (l : List Cell) {old new : List ℕ} (i : ℕ) (k
 
   here : getD new at 0 ≡ held p new c
   here = ap (λ (j : ℕ). getD new j 0) e
-
-  pub in-scratch : at < length new
-  in-scratch = omega (arith, place-below o, b .room, k .changed .size)
 
   -- it was met before
   pub met : m ≤ getD new at 0 → false ≡ noneTwice l
@@ -82,7 +84,7 @@ module _ {p : Panel} {m : ℕ} (l : List Cell) {old new : List ℕ} (i : ℕ) (k
 
     pub marked-next : Marking p m l old (set new at (getD new at 0 + m)) (i + 1)
     marked-next = record {
-      changed = subst (λ (t : List Cell). Changed p (λ k. k + m) t old (set new at (getD new at 0 + m))) (sym next)
+      changed = subst (λ (t : List Cell). Changed p (added m) t old (set new at (getD new at 0 + m))) (sym next)
           (one-more (k .changed) o fresh (b .room) e (ap (λ (j : ℕ). j + m) (here ∙ as-before (k .changed) o fresh)));
       once = ap noneTwice next ∙ none-twice-behind (take i l) c ∙ and-both (k .once) (ap not fresh);
     }
@@ -95,5 +97,5 @@ module _ {p : Panel} {m : ℕ} (l : List Cell) {old new : List ℕ} (i : ℕ) (k
   pub all-once : true ≡ noneTwice l
   all-once = sym (ap noneTwice (sym (take-all i l h)) ∙ k .once)
 
-  pub all-changed : Changed p (λ k. k + m) l old new
-  all-changed = subst (λ (t : List Cell). Changed p (λ k. k + m) t old new) (take-all i l h) (k .changed)
+  pub all-changed : Changed p (added m) l old new
+  all-changed = subst (λ (t : List Cell). Changed p (added m) t old new) (take-all i l h) (k .changed)

@@ -20,7 +20,7 @@ module _ (b : List ℕ) (i : ℕ) where
     below = omega (arith, length-entries b)
 
     pub below-cells : i < length (cellsOf (entriesIn b))
-    below-cells = omega (arith, length-cells-of b)
+    below-cells = omega (arith, below, length-cells-of (entriesIn b))
 
     pub on-turn : (p : Panel) → let l = cellsOf (entriesIn b) in allOn p (drop i l) ≡ (onPanel p (nth l i) && allOn p (drop (i + 1) l))
     on-turn p = ap (allOn p) (drop-next (cell 0 0) (cellsOf (entriesIn b)) i below-cells)
@@ -31,7 +31,7 @@ module _ (b : List ℕ) (i : ℕ) where
 
   module _ (h : length b / 6 ≤ i) where
     pub on-end : (p : Panel) → allOn p (drop i (cellsOf (entriesIn b))) ≡ true
-    on-end p = ap (allOn p) (drop-of-length-le (cellsOf (entriesIn b)) {i = i} (omega (arith, length-cells-of b)))
+    on-end p = ap (allOn p) (drop-of-length-le (cellsOf (entriesIn b)) {i = i} (omega (arith, length-entries b, length-cells-of (entriesIn b))))
 
     pub rise-end : (t : ℕ) → risesFrom t (drop i (entriesIn b)) ≡ true
     rise-end t = ap (risesFrom t) (drop-of-length-le (entriesIn b) {i = i} (omega (arith, length-entries b)))

@@ -14,7 +14,7 @@ use Rattle.grid.specs.Panel.{cell}
 use Rattle.grid.specs.Check.{expect}
 use Rattle.list.specs.List.{allOn, noneTwice}
 
--- an entry
+-- an entry: which cell, and when
 pub record Entry : Type 0 where
   pub cell : Cell
   pub tick : ℕ
@@ -27,7 +27,7 @@ entry c t = record { cell = c; tick = t }
 abbrev pub highFirst : ℕ → ℕ → ℕ → ℕ → ℕ
 highFirst a b c d = 256 * (256 * (256 * a + b) + c) + d
 
--- the entries that bytes hold, six bytes each: x, y, and the tick in four bytes; less than six at the end are none
+-- the entries that bytes hold, six bytes each: x, y, and the tick in four bytes; fewer than six at the end are none
 abbrev pub entriesIn : List ℕ → List Entry
 entriesIn (x ∷ y ∷ a ∷ b ∷ c ∷ d ∷ l) = entry (cell x y) (highFirst a b c d) ∷ entriesIn l
 entriesIn (x ∷ y ∷ a ∷ b ∷ c ∷ []) = []
@@ -53,7 +53,7 @@ nthEntry l i = getD l i (entry (cell 0 0) 0)
 abbrev pub cellsOf : List Entry → List Cell
 cellsOf l = map (λ e. e .cell) l
 
--- no tick is below the one before it; t is the one before the first
+-- no tick is below the one before it (the ticks are non-decreasing); t is the one before the first
 abbrev pub risesFrom : ℕ → List Entry → Bool
 risesFrom t [] = true
 risesFrom t (e ∷ l) = leb t (e .tick) && risesFrom (e .tick) l

@@ -22,6 +22,14 @@ pub record Changed (p : Panel) (f : ℕ → ℕ) (l : List Cell) (old new : List
   pub rest : drop (area p) new ≡ drop (area p) old
   pub holds : (c : Cell) → OnPanel p c → held p new c ≡ cond (among c l) (f (held p old c)) (held p old c)
 
--- a mark m is added at the places of a log's cells
+-- the mark m added to what was there
+abbrev pub added : ℕ → ℕ → ℕ
+added m k = k + m
+
+-- 0 for whatever was there
+abbrev pub erased : ℕ → ℕ
+erased k = 0
+
+-- a mark is added at the places of a log's cells
 abbrev pub Adds : Panel → ℕ → List Entry → List ℕ → List ℕ → Type 0
-Adds p m l old new = Changed p (λ k. k + m) (cellsOf l) old new
+Adds p m l old new = Changed p (added m) (cellsOf l) old new

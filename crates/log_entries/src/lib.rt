@@ -53,8 +53,8 @@ pub fn tick_of(log: &[u8], i: usize) -> u32
     tick_at(log, ENTRY * i)
 }
 
-// The place of its cell in scratch.
-pub fn place_at(p: Panel, log: &[u8], i: usize) -> usize
+// The place in scratch of the cell of the entry with the number i.
+pub fn entry_place(p: Panel, log: &[u8], i: usize) -> usize
     requires good { ⌜ goodSides p ≡ true ⌝ }
     requires on { ⌜ allOn p (cellsOf (entriesIn (now log))) ≡ true ⌝ }
     requires below { ⌜ i < length (entriesIn (now log)) ⌝ }
@@ -77,8 +77,8 @@ fn all_on(p: Panel, log: &[u8]) -> bool
     true
 }
 
-// Whether no cell of the log stands twice. The places of its cells held less than the mark, and it is added
-// to them: where a place holds as much already, its cell was met before.
+// Whether no cell of the log stands twice. A place holds less than the mark until its cell is met; then the
+// mark is added. So where it holds as much already, the cell was met before.
 fn mark_once(p: Panel, log: &[u8], mark: u8, scratch: &mut [u8]) -> bool
     requires good { ⌜ goodSides p ≡ true ⌝ }
     requires on { ⌜ allOn p (cellsOf (entriesIn (now log))) ≡ true ⌝ }
@@ -90,7 +90,7 @@ fn mark_once(p: Panel, log: &[u8], mark: u8, scratch: &mut [u8]) -> bool
 {
     let mut i = 0;
     while i < log.len() / ENTRY {
-        let at = place_at(p, log, i);
+        let at = entry_place(p, log, i);
         let k = scratch[at];
         if mark <= k {
             return false;

@@ -10,7 +10,7 @@ use Rattle.log_entries.specs.Log.{Entry, entry}
 use Rattle.logs.specs.Counts.{inBoth, onlyIn, seenEarlier}
 use Rattle.logs.specs.Logs.{sizesCheck, entriesCheck}
 
--- burned at the ticks 3, 5, 5 and 8; seen at 2, 5, 6 and 9
+-- burned at the ticks 3, 5, 5 and 8; seen at 2, 5, 6, 9 and 9
 abbrev burned : List Entry
 burned = entry (cell 1 1) 3 ∷ entry (cell 2 1) 5 ∷ entry (cell 3 1) 5 ∷ entry (cell 1 2) 8 ∷ []
 
@@ -26,7 +26,7 @@ abbrev sized : ℕ → ℕ → ℕ → Check
 sized a b room = sizesCheck (panel 3 2 4000) a b room
 
 -- 1 before 18 before 6 before 5
-pub sizes-shown : (sizesCheck (panel 0 2 0) 5 5 0 ≡ Refused Side)
+pub sizes-shown : (sizesCheck (panel 129 2 0) 5 5 0 ≡ Refused Side)
     × (sizesCheck (panel 3 2 999) 5 5 0 ≡ Refused Pitch)
     × (sized 5 6 0 ≡ Refused ListLength)
     × (sized 6 4 0 ≡ Refused ListLength)

@@ -19,7 +19,7 @@ use Rattle.logs.specs.Counts.{tally, logged, loggedLater, inBoth, onlyIn
 
 -- ---- one log
 
-pub tally-all : (f : Entry → Bool) (l : List Entry) → tally f l + tally (λ e. not (f e)) l ≡ length l
+tally-all : (f : Entry → Bool) (l : List Entry) → tally f l + tally (λ e. not (f e)) l ≡ length l
 tally-all f [] = refl
 tally-all f (e ∷ l) = omega (arith, one (f e), tally-all f l)
   where
@@ -30,7 +30,7 @@ tally-all f (e ∷ l) = omega (arith, one (f e), tally-all f l)
 pub tally-most : (f : Entry → Bool) (l : List Entry) → tally f l ≤ length l
 tally-most f l = omega (arith, tally-all f l)
 
-pub tally-stricter : (f g : Entry → Bool) → ((e : Entry) → f e ≡ true → g e ≡ true) → (l : List Entry) → tally f l ≤ tally g l
+tally-stricter : (f g : Entry → Bool) → ((e : Entry) → f e ≡ true → g e ≡ true) → (l : List Entry) → tally f l ≤ tally g l
 tally-stricter f g h [] = omega arith
 tally-stricter f g h (e ∷ l) = omega (arith, one (f e) (g e) (h e), tally-stricter f g h l)
   where
@@ -87,12 +87,12 @@ both-sides (e ∷ a) b p q =
 
 module _ (burned seen : List Entry) where
   -- cells in both and cells only burned are the laser's entries
-  pub lasers-total : inBoth burned seen + onlyIn burned seen ≡ length burned
-  lasers-total = tally-all (logged seen) burned
+  pub burned-total : inBoth burned seen + onlyIn burned seen ≡ length burned
+  burned-total = tally-all (logged seen) burned
 
   -- cells in both and cells only seen are the camera's
-  pub cameras-total : noneTwice (cellsOf burned) ≡ true → noneTwice (cellsOf seen) ≡ true → inBoth burned seen + onlyIn seen burned ≡ length seen
-  cameras-total p q = omega (arith, both-sides burned seen p q, tally-all (logged burned) seen)
+  pub seen-total : noneTwice (cellsOf burned) ≡ true → noneTwice (cellsOf seen) ≡ true → inBoth burned seen + onlyIn seen burned ≡ length seen
+  seen-total p q = omega (arith, both-sides burned seen p q, tally-all (logged burned) seen)
 
   -- those seen earlier are among both
   pub earlier-both : noneTwice (cellsOf burned) ≡ true → noneTwice (cellsOf seen) ≡ true → seenEarlier burned seen ≤ inBoth burned seen

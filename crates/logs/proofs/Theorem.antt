@@ -8,25 +8,24 @@ use borrow.Author.Tests.{eqb-true}
 use Rattle.grid.specs.declared.Panel.{Panel}
 use Rattle.grid.specs.declared.Check.{Check}
 use Rattle.grid.specs.declared.Check.the-variants.{Good}
-use Rattle.grid.specs.Check.{checkPanel}
 use Rattle.grid.specs.Answer.{given}
 use Rattle.grid.proofs.Answers.{behind-good}
 use Rattle.grid.proofs.Facts.{clash}
-use Rattle.grid.proofs.Passed.{expect-passed, expect-rest, after-passed, after-rest}
-use Rattle.log_entries.specs.Log.{Entry, entriesIn, wholeEntries, logCheck}
+use Rattle.grid.proofs.Passed.{after-passed, after-rest}
+use Rattle.log_entries.specs.Log.{Entry, entriesIn, logCheck}
 use Rattle.log_entries.proofs.Entries.{length-entries}
 use Rattle.logs.specs.declared.LogCounts.{LogCounts}
 use Rattle.logs.specs.declared.LogsAnswer.the-variants.{Refused, Given}
 use Rattle.logs.specs.Counts.{inBoth, onlyIn, seenEarlier, countsOf}
 use Rattle.logs.specs.Logs.{sizesCheck, compareCheck, Compares}
 use Rattle.logs.specs.Walk.{GoodLog}
-use Rattle.logs.proofs.Passed.{good-log}
-use Rattle.logs.proofs.Tallies.{lasers-total, cameras-total, earlier-both}
+use Rattle.logs.proofs.Passed.{sized, good-log}
+use Rattle.logs.proofs.Tallies.{burned-total, seen-total, earlier-both}
 
 -- the four numbers beside the lengths of the logs, in bytes
 pub record Totals (burned seen : List ℕ) (k : LogCounts) : Type 0 where
-  pub lasers : 6 * (k .both .0 + k .«only_burned» .0) ≡ length burned
-  pub cameras : 6 * (k .both .0 + k .«only_seen» .0) ≡ length seen
+  pub burned-entries : 6 * (k .both .0 + k .«only_burned» .0) ≡ length burned
+  pub seen-entries : 6 * (k .both .0 + k .«only_seen» .0) ≡ length seen
   pub among-both : k .earlier .0 ≤ k .both .0
 
 module _ (p : Panel) (burned seen : List ℕ) {old new : List ℕ} {k : LogCounts} (c : Compares p burned seen old new (Given k)) where
@@ -55,10 +54,7 @@ module _ (p : Panel) (burned seen : List ℕ) {old new : List ℕ} {k : LogCount
   good-camera = good-log p camera (after-rest (logCheck p laser) _ (after-rest sizes _ fine))
 
   whole : (length burned % 6 ≡ 0) × (length seen % 6 ≡ 0)
-  whole =
-      let first = after-rest (checkPanel p) _ (after-passed sizes _ fine) in
-      let second = expect-rest (wholeEntries (length burned)) _ _ first in
-      (eqb-true _ _ (expect-passed (wholeEntries (length burned)) _ _ first), eqb-true _ _ (expect-passed (wholeEntries (length seen)) _ _ second))
+  whole = let z = sized p (length burned) (length seen) (length old) (after-passed sizes _ fine) in (eqb-true _ _ (z .laser), eqb-true _ _ (z .camera))
 
   pub totals-match : Totals burned seen k
   totals-match =
@@ -67,9 +63,9 @@ module _ (p : Panel) (burned seen : List ℕ) {old new : List ℕ} {k : LogCount
       let only-seen = c .gives .only-seen ∙ value (onlyIn camera laser) in
       let earlier = c .gives .earlier ∙ value (seenEarlier laser camera) in
       record {
-        lasers = omega (arith, both, only-burned, lasers-total laser camera, length-entries burned, whole .0);
-        cameras =
+        burned-entries = omega (arith, both, only-burned, burned-total laser camera, length-entries burned, whole .0);
+        seen-entries =
             omega
-            (arith, both, only-seen, cameras-total laser camera (good-laser .once) (good-camera .once), length-entries seen, whole .1);
+            (arith, both, only-seen, seen-total laser camera (good-laser .once) (good-camera .once), length-entries seen, whole .1);
         among-both = omega (arith, both, earlier, earlier-both laser camera (good-laser .once) (good-camera .once));
       }

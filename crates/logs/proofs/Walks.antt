@@ -5,7 +5,7 @@ use mathlib.Core.Path.{_≡_, refl, sym, ap, _∙_}
 use mathlib.Core.Bool.{Bool, true, false, cond, not, _||_, true≢false}
 use mathlib.Core.List.{List, [], _∷_}
 use lib.Dec.{leb, eqb}
-use lib.ListN.{length, take, drop, getD, length-map, take-append-drop, drop-of-length-le, List·getD-map}
+use lib.ListN.{length, take, drop, getD, take-append-drop, drop-of-length-le}
 use borrow.Author.Tests.{leb-true}
 use Rattle.grid.specs.declared.Panel.{Panel}
 use Rattle.grid.specs.declared.Cell.{Cell}
@@ -14,14 +14,15 @@ use Rattle.grid.proofs.Facts.{and-parts, sides, area-small}
 use Rattle.grid.proofs.Lists.{drop-next}
 use Rattle.list.specs.List.{nth, among, noneTwice}
 use Rattle.list.proofs.Behind.{among-append, once-apart}
-use Rattle.list.proofs.Indexed.{on-index, among-index}
+use Rattle.list.proofs.Indexed.{among-index}
 use Rattle.pigeonhole.proofs.Long.{tested-few}
 use Rattle.scratch.specs.Scratch.{place}
 use Rattle.log_entries.specs.Log.{Entry, entry, nthEntry, cellsOf, risesFrom}
-use Rattle.log_entries.specs.Marks.{Changed}
+use Rattle.log_entries.specs.Marks.{Changed, erased}
+use Rattle.log_entries.proofs.Entries.{length-cells-of, nth-cell, on-entry}
 use Rattle.log_entries.proofs.Marks.{none-changed}
 use Rattle.logs.specs.Counts.{tally, logged, loggedLater, inBoth, seenEarlier}
-use Rattle.logs.specs.Walk.{GoodLog, Marked, ahead, erased, Passes}
+use Rattle.logs.specs.Walk.{GoodLog, Marked, ahead, Passes}
 use Rattle.logs.proofs.Ticks.{ahead-on, later-is-ahead}
 use Rattle.logs.proofs.Tallies.{tally-most}
 
@@ -54,7 +55,19 @@ pub record Walking (p : Panel) (b s : List Entry) (base new : List ℕ) (both ea
 
 -- a log that passes its tests has at most 16,384 entries
 pub few : {p : Panel} (l : List Entry) → goodSides p ≡ true → GoodLog p l → length l ≤ 16384
-few {p} l g q = omega (arith, length-map l (λ (e : Entry). e .cell), tested-few p (cellsOf l) (q .on) (q .once), area-small (sides p g))
+few {p} l g q = omega (arith, length-cells-of l, tested-few p (cellsOf l) (q .on) (q .once), area-small (sides p g))
+
+module _ {p : Panel} (b s : List Entry) {base new : List ℕ} {both earlier passed : ℕ} (i : ℕ)
+    (w : Walking p b s base new both earlier passed i) where
+  pub all-walked : length s ≤ i → (both ≡ inBoth s b) × (earlier ≡ seenEarlier b s)
+  all-walked h =
+      let none : drop i s ≡ [] = drop-of-length-le s {i = i} h in
+      let nothing : tally (logged b) (drop i s) ≡ 0 = ap (tally (logged b)) none in
+      let nothing-later : tally (loggedLater b) (drop i s) ≡ 0 = ap (tally (loggedLater b)) none in
+      (omega (arith, w .both-all), omega (arith, w .earlier-all))
+
+  pub erased-now : {t r : ℕ} {now : List ℕ} → Passes p b passed t new r now → Changed p erased (take r (cellsOf b)) base now
+  erased-now q = q .gone base (w .gone)
 
 module _ {p : Panel} (b s : List Entry) {base : List ℕ} (m : Marked p b s base) where
   pub none-walked : Walking p b s base base 0 0 0 0
@@ -68,13 +81,6 @@ module _ {p : Panel} (b s : List Entry) {base : List ℕ} (m : Marked p b s base
   }
 
   module _ {new : List ℕ} {both earlier passed : ℕ} (i : ℕ) (w : Walking p b s base new both earlier passed i) where
-    pub all-walked : length s ≤ i → (both ≡ inBoth s b) × (earlier ≡ seenEarlier b s)
-    all-walked h =
-        let none : drop i s ≡ [] = drop-of-length-le s {i = i} h in
-        let nothing : tally (logged b) (drop i s) ≡ 0 = ap (tally (logged b)) none in
-        let nothing-later : tally (loggedLater b) (drop i s) ≡ 0 = ap (tally (loggedLater b)) none in
-        (omega (arith, w .both-all), omega (arith, w .earlier-all))
-
     -- what is counted is no more
     pub most : (both ≤ 16384) × (earlier ≤ 16384)
     most =
@@ -95,21 +101,18 @@ module _ {p : Panel} (b s : List Entry) {base : List ℕ} (m : Marked p b s base
       rising : (leb (w .last) (e .tick) ≡ true) × (risesFrom (e .tick) (drop (i + 1) s) ≡ true)
       rising = and-parts (leb (w .last) (e .tick)) (risesFrom (e .tick) (drop (i + 1) s)) (sym (ap (risesFrom (w .last)) next) ∙ w .up)
 
-      there : i < length (cellsOf s)
-      there = omega (arith, length-map s (λ (f : Entry). f .cell))
-
       same : c ≡ e .cell
-      same = List·getD-map (λ (f : Entry). f .cell) s i (entry (cell 0 0) 0)
+      same = nth-cell s i
 
-      pub inside : OnPanel p c
-      inside = on-index p (cellsOf s) i (m .camera .on) there
+      inside : OnPanel p c
+      inside = on-entry p s i (m .camera .on) h
+
+      there : among c (cellsOf s) ≡ true
+      there = among-index (cellsOf s) i (omega (arith, length-cells-of s))
 
       -- the laser's entries from r on are those above the tick
       left : drop r b ≡ ahead (e .tick) b
       left = q .left ∙ w .to-come (e .tick) (leb-true _ _ (rising .0))
-
-      pub erased-now : Changed p erased (take r (cellsOf b)) base now
-      erased-now = q .gone base (w .gone)
 
       -- where its cell stands in the laser's log
       abbrev passedBy : Bool
@@ -135,8 +138,8 @@ module _ {p : Panel} (b s : List Entry) {base : List ℕ} (m : Marked p b s base
         holds : getD now at 0 ≡ cond passedBy 0 (cond (passedBy || leftIn) 1 0 + 2)
         holds =
             ap (λ (k : ℕ). getD now k 0) here
-            ∙ erased-now .holds c inside
-            ∙ ap (cond passedBy 0) (m .marks c inside ∙ (λ j. cond (split j) 1 0 + cond (among-index (cellsOf s) i there j) 2 0))
+            ∙ erased-now b s i w q .holds c inside
+            ∙ ap (cond passedBy 0) (m .marks c inside ∙ (λ j. cond (split j) 1 0 + cond (there j) 2 0))
 
         told : (not (eqb (getD now at 0) 2) ≡ logged b e) × (eqb (getD now at 0) 3 ≡ loggedLater b e)
         told =
@@ -155,7 +158,7 @@ module _ {p : Panel} (b s : List Entry) {base : List ℕ} (m : Marked p b s base
             last = e .tick;
             up = rising .1;
             to-come = λ t up. ap (ahead t) left ∙ ahead-on up b;
-            gone = erased-now;
+            gone = erased-now b s i w q;
             both-all = counted (logged b) both (f ∙ ap (λ (a : Bool). cond a 1 0) (told .0)) (w .both-all);
             earlier-all = counted (loggedLater b) earlier (g ∙ ap (λ (a : Bool). cond a 1 0) (told .1)) (w .earlier-all);
           }

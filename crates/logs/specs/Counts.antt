@@ -1,5 +1,6 @@
 -- Document 02, R-11: how many cells are in both logs, only in the laser's (only burned), only in the camera's (only seen), and in the camera's at
--- an earlier tick than in the laser's (seen before they were burned). No cell stands twice in a log, so its entries are counted for its cells.
+-- an earlier tick than in the laser's (seen before they were burned). In a log that passes 9 no cell stands twice, so its entries are counted
+-- for its cells.
 use Prim.Native.Nat.{ℕ, _+_}
 use mathlib.Core.Bool.{Bool, false, cond, not, _&&_, _||_}
 use mathlib.Core.List.{List, [], _∷_}
@@ -9,7 +10,7 @@ use Rattle.list.specs.List.{among}
 use Rattle.log_entries.specs.Log.{Entry, cellsOf}
 use Rattle.logs.specs.declared.LogCounts.{LogCounts}
 
--- how many entries of a log pass a test
+-- how many entries of a log pass a test (countP)
 abbrev pub tally : (Entry → Bool) → List Entry → ℕ
 tally f [] = 0
 tally f (e ∷ l) = cond (f e) 1 0 + tally f l

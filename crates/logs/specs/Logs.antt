@@ -16,7 +16,7 @@ use Rattle.scratch.specs.Scratch.{cleared}
 use Rattle.log_entries.specs.Log.{Entry, entriesIn, wholeEntries, logCheck}
 use Rattle.logs.specs.declared.LogsAnswer.{LogsAnswer}
 use Rattle.logs.specs.declared.LogsAnswer.the-variants.{Refused, Given}
-use Rattle.logs.specs.declared.LogsValues.{LogsValues}
+use Rattle.logs.specs.declared.LogCounts.{LogCounts}
 use Rattle.logs.specs.Counts.{inBoth, onlyIn, seenEarlier, countsOf}
 
 -- the refusals tested before 7: 1; 18; 6, the length of a log is no multiple of six; 5, scratch is shorter than mn
@@ -40,35 +40,27 @@ compareCheck p burned seen room =
 abbrev pub logsAnswer : Check → List Entry → List Entry → LogsAnswer
 logsAnswer c burned seen = answer c Refused (Given (countsOf burned seen))
 
--- that behind the sizes
-abbrev pub entriesAnswer : Panel → List Entry → List Entry → LogsAnswer
-entriesAnswer p burned seen = logsAnswer (entriesCheck p burned seen) burned seen
-
 -- number and values of an answer
+pub record LogsValues : Type 0 where
+  pub refusal : ℕ
+  pub counts : LogCounts
+
+-- four zeros
+abbrev pub noCounts : LogCounts
+noCounts = record { both = record { 0 = 0 }; «only_burned» = record { 0 = 0 }; «only_seen» = record { 0 = 0 }; earlier = record { 0 = 0 } }
+
 abbrev pub logsValues : LogsAnswer → LogsValues
-logsValues (Refused r) = record {
-  refusal = number r;
-  both = record { 0 = 0 };
-  «only_burned» = record { 0 = 0 };
-  «only_seen» = record { 0 = 0 };
-  earlier = record { 0 = 0 };
-}
-logsValues (Given k) = record {
-  refusal = 0;
-  both = k .both;
-  «only_burned» = k .«only_burned»;
-  «only_seen» = k .«only_seen»;
-  earlier = k .earlier;
-}
+logsValues (Refused r) = record { refusal = number r; counts = noCounts }
+logsValues (Given k) = record { refusal = 0; counts = k }
 
 -- a call gives the four numbers, or what its check refuses
 pub record GivesCounts (c : Check) (burned seen : List Entry) (r : LogsAnswer) : Type 0 where
   pub answers : r ≡ logsAnswer c burned seen
   pub number : (logsValues r) .refusal ≡ refusalNumber c
-  pub both : (logsValues r) .both .0 ≡ given c (inBoth burned seen)
-  pub only-burned : (logsValues r) .«only_burned» .0 ≡ given c (onlyIn burned seen)
-  pub only-seen : (logsValues r) .«only_seen» .0 ≡ given c (onlyIn seen burned)
-  pub earlier : (logsValues r) .earlier .0 ≡ given c (seenEarlier burned seen)
+  pub both : (logsValues r) .counts .both .0 ≡ given c (inBoth burned seen)
+  pub only-burned : (logsValues r) .counts .«only_burned» .0 ≡ given c (onlyIn burned seen)
+  pub only-seen : (logsValues r) .counts .«only_seen» .0 ≡ given c (onlyIn seen burned)
+  pub earlier : (logsValues r) .counts .earlier .0 ≡ given c (seenEarlier burned seen)
 
 -- scratch after the call: untouched after 1, 18, 6 and 5, else its first mn bytes are 0 and the rest untouched
 abbrev pub compareScratch : Panel → List ℕ → List ℕ → List ℕ → List ℕ

@@ -11,7 +11,9 @@ use Rattle.grid.specs.Panel.{goodSides, area, OnPanel}
 use Rattle.list.specs.List.{allOn, among, noneTwice}
 use Rattle.scratch.specs.Scratch.{held}
 use Rattle.log_entries.specs.Log.{Entry, cellsOf, rises}
-use Rattle.log_entries.specs.Marks.{Changed}
+use Rattle.log_entries.specs.Marks.{Changed, erased}
+use Rattle.logs.specs.declared.LogsAnswer.{LogsAnswer}
+use Rattle.logs.specs.Logs.{entriesCheck, logsAnswer}
 
 -- a log that passes its tests
 pub record GoodLog (p : Panel) (l : List Entry) : Type 0 where
@@ -28,17 +30,17 @@ pub record Marked (p : Panel) (burned seen : List Entry) (scratch : List ℕ) : 
   pub marks : (c : Cell) → OnPanel p c
       → held p scratch c ≡ cond (among c (cellsOf burned)) 1 0 + cond (among c (cellsOf seen)) 2 0
 
--- the entries from the first on whose tick is above t
+-- the entries from the first one on whose tick is above t (dropWhile)
 abbrev pub ahead : ℕ → List Entry → List Entry
 ahead t [] = []
 ahead t (e ∷ l) = cond (leb (e .tick) t) (ahead t l) (e ∷ l)
 
--- 0 for whatever was there
-abbrev pub erased : ℕ → ℕ
-erased k = 0
+-- of a log whose first entries, so many as passed says, are passed: those with a tick up to t are passed too, which makes r, and in whatever
+-- scratch the places of the first ones were erased, those of all r are
+pub record Passes (p : Panel) (l : List Entry) (passed t : ℕ) (old : List ℕ) (r : ℕ) (new : List ℕ) : Type 0 where
+  pub left : drop r l ≡ ahead t (drop passed l)
+  pub gone : (base : List ℕ) → Changed p erased (take passed (cellsOf l)) base old → Changed p erased (take r (cellsOf l)) base new
 
--- of a log whose first entries, from in number, are passed: those with a tick up to t are passed too, which makes r, and where the places of
--- all that were passed before were erased, those of all that are passed now are
-pub record Passes (p : Panel) (l : List Entry) (from t : ℕ) (old : List ℕ) (r : ℕ) (new : List ℕ) : Type 0 where
-  pub left : drop r l ≡ ahead t (drop from l)
-  pub gone : (base : List ℕ) → Changed p erased (take from (cellsOf l)) base old → Changed p erased (take r (cellsOf l)) base new
+-- the answer behind the sizes: what the logs are refused for, or the four numbers
+abbrev pub entriesAnswer : Panel → List Entry → List Entry → LogsAnswer
+entriesAnswer p burned seen = logsAnswer (entriesCheck p burned seen) burned seen

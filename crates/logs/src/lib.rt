@@ -10,7 +10,7 @@ use grid::check_panel;
 use grid::expect;
 use log_entries::ENTRY;
 use log_entries::check_log;
-use log_entries::place_at;
+use log_entries::entry_place;
 use log_entries::tick_of;
 use log_entries::whole_entries;
 use scratch::clear;
@@ -23,13 +23,14 @@ ghost use Rattle.list.specs.List.{allOn, noneTwice};
 ghost use Rattle.scratch.specs.Scratch.{Clean};
 ghost use Rattle.log_entries.specs.Log.{entriesIn, cellsOf};
 ghost use Rattle.logs.specs.Counts.{inBoth, seenEarlier, countsOf};
-ghost use Rattle.logs.specs.Logs.{sizesCheck, entriesAnswer, logsValues, Compares};
-ghost use Rattle.logs.specs.Walk.{Marked, Passes};
+ghost use Rattle.logs.specs.Logs.{sizesCheck, Compares};
+ghost use Rattle.logs.specs.Walk.{Marked, Passes, entriesAnswer};
 
-// The marks of a place in scratch: its cell is the laser's and not burned yet, the camera's, or both.
-const BURNED: u8 = 1;
+// The mark of a place in scratch: its cell is the laser's, and its entry still ahead; the camera's; or both. 0
+// once the laser's entry is passed.
+const LASER: u8 = 1;
 
-const SEEN: u8 = 2;
+const CAMERA: u8 = 2;
 
 const BOTH: u8 = 3;
 
@@ -47,43 +48,7 @@ pub enum LogsAnswer {
     Given(LogCounts),
 }
 
-// The number of the refusal, 0 where nothing is refused, and the four numbers, 0 where refused.
-pub struct LogsValues {
-    pub refusal: u32,
-    pub both: Cells,
-    pub only_burned: Cells,
-    pub only_seen: Cells,
-    pub earlier: Cells,
-}
-
-pub fn logs_values(a: LogsAnswer) -> LogsValues
-    ensures { λ r. ⌜ r ≡ logsValues a ⌝ }
-{
-    match a {
-        LogsAnswer::Refused(r) => LogsValues {
-            refusal: grid::number_of(r),
-            both: Cells(0),
-            only_burned: Cells(0),
-            only_seen: Cells(0),
-            earlier: Cells(0),
-        },
-        LogsAnswer::Given(k) => {
-            let both = k.both;
-            let only_burned = k.only_burned;
-            let only_seen = k.only_seen;
-            let earlier = k.earlier;
-            LogsValues {
-                refusal: 0,
-                both,
-                only_burned,
-                only_seen,
-                earlier,
-            }
-        }
-    }
-}
-
-// The refusals that are tested before any entry is looked at.
+// The refusals that are tested before any entry is looked at, for logs and scratch of so many bytes.
 fn check_sizes(p: Panel, burned: usize, seen: usize, room: usize) -> Check
     ensures { λ r. ⌜ r ≡ sizesCheck p burned seen room ⌝ }
 {
@@ -93,8 +58,8 @@ fn check_sizes(p: Panel, burned: usize, seen: usize, room: usize) -> Check
     after(check_panel(p), laser)
 }
 
-// Passes the laser's entries whose tick is at most this, behind the first ones, which are passed: what is
-// burned is no longer marked. Gives how many are passed now.
+// Passes the laser's entries up to this tick, the first `passed` being passed already, and erases the mark of
+// each. Gives how many are passed then.
 fn pass(p: Panel, burned: &[u8], passed: usize, tick: u32, scratch: &mut [u8]) -> usize
     requires good { ⌜ goodSides p ≡ true ⌝ }
     requires on { ⌜ allOn p (cellsOf (entriesIn (now burned))) ≡ true ⌝ }
@@ -107,7 +72,7 @@ fn pass(p: Panel, burned: &[u8], passed: usize, tick: u32, scratch: &mut [u8]) -
         if tick < tick_of(burned, i) {
             return i;
         }
-        let at = place_at(p, burned, i);
+        let at = entry_place(p, burned, i);
         scratch[at] = 0;
         i += 1;
     }
@@ -126,8 +91,8 @@ struct Met {
     earlier: u32,
 }
 
-// The one walk, in the order of ticks, the laser's entry first at equal ticks: where a seen cell is marked
-// as both, it is not burned yet, and where its mark is gone, it is.
+// The one walk, in the order of ticks, the laser's entry first at equal ticks. A seen cell that is marked as
+// both is not burned yet; with the camera's mark alone it is not the laser's; with its mark gone it is burned.
 fn walk(p: Panel, burned: &[u8], seen: &[u8], scratch: &mut [u8]) -> Met
     requires { ⌜ Marked p (entriesIn (now burned)) (entriesIn (now seen)) (now scratch) ⌝ }
     ensures both { λ r. ⌜ r .both ≡ inBoth (entriesIn (now (seen .entry))) (entriesIn (now (burned .entry))) ⌝ }
@@ -140,8 +105,8 @@ fn walk(p: Panel, burned: &[u8], seen: &[u8], scratch: &mut [u8]) -> Met
     let mut i = 0;
     while i < seen.len() / ENTRY {
         passed = pass(p, burned, passed, tick_of(seen, i), scratch);
-        let mark = scratch[place_at(p, seen, i)];
-        both += one_if(mark != SEEN);
+        let mark = scratch[entry_place(p, seen, i)];
+        both += one_if(mark != CAMERA);
         earlier += one_if(mark == BOTH);
         i += 1;
     }
@@ -155,12 +120,12 @@ fn count_cells(p: Panel, burned: &[u8], seen: &[u8], scratch: &mut [u8]) -> LogC
     ensures rest { λ _. ⌜ drop (area p) (now (scratch .exit)) ≡ drop (area p) (now (scratch .entry)) ⌝ }
 {
     let met = walk(p, burned, seen, scratch);
-    let lasers = (burned.len() / ENTRY) as u32;
-    let cameras = (seen.len() / ENTRY) as u32;
+    let burned_entries = (burned.len() / ENTRY) as u32;
+    let seen_entries = (seen.len() / ENTRY) as u32;
     LogCounts {
         both: Cells(met.both),
-        only_burned: Cells(lasers - met.both),
-        only_seen: Cells(cameras - met.both),
+        only_burned: Cells(burned_entries - met.both),
+        only_seen: Cells(seen_entries - met.both),
         earlier: Cells(met.earlier),
     }
 }
@@ -172,18 +137,19 @@ fn compare_entries(p: Panel, burned: &[u8], seen: &[u8], scratch: &mut [u8]) -> 
     ensures told { λ r. ⌜ r ≡ entriesAnswer p (entriesIn (now (burned .entry))) (entriesIn (now (seen .entry))) ⌝ }
     ensures rest { λ _. ⌜ drop (area p) (now (scratch .exit)) ≡ drop (area p) (now (scratch .entry)) ⌝ }
 {
-    let laser = check_log(p, burned, BURNED, scratch);
+    let laser = check_log(p, burned, LASER, scratch);
     if let Check::Refused(r) = laser {
         return LogsAnswer::Refused(r);
     }
-    let camera = check_log(p, seen, SEEN, scratch);
+    let camera = check_log(p, seen, CAMERA, scratch);
     if let Check::Refused(r) = camera {
         return LogsAnswer::Refused(r);
     }
     LogsAnswer::Given(count_cells(p, burned, seen, scratch))
 }
 
-// How the laser's log and the camera's agree. Scratch is lent dirty and left clean.
+// How the laser's log and the camera's agree. Scratch is untouched where the sizes are refused; else it is lent
+// dirty and left clean.
 pub fn compare(p: Panel, burned: &[u8], seen: &[u8], scratch: &mut [u8]) -> LogsAnswer
     ensures { λ r. ⌜ Compares p (now (burned .entry)) (now (seen .entry)) (now (scratch .entry)) (now (scratch .exit)) r ⌝ }
 {

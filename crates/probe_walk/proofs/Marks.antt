@@ -6,20 +6,21 @@ use mathlib.Core.Bool.{Bool, true, false, cond}
 use mathlib.Core.Logic.{_≢_}
 use mathlib.Core.List.{List, [], _∷_, _++_}
 use lib.ListN.{length, take, drop, getD, set, length-set}
-use lib.Seq.{length-take-le, take-length, drop-set-lt}
+use lib.Seq.{length-take-le, take-length}
 use Rattle.grid.specs.declared.Panel.{Panel}
 use Rattle.grid.specs.declared.Cell.{Cell}
 use Rattle.grid.specs.Panel.{cell, area, OnPanel, sameCell}
 use Rattle.grid.specs.Bytes.{cellsIn}
-use Rattle.grid.proofs.Facts.{same-eq, same-ne, ne-same}
+use Rattle.grid.proofs.Facts.{same-eq}
 use Rattle.grid.proofs.Lists.{take-next}
 use Rattle.grid.proofs.Tests.{both-branches}
 use Rattle.list.specs.List.{nth, among}
+use Rattle.list.proofs.Behind.{same-sym}
 use Rattle.list.proofs.Cells.{length-cells}
 use Rattle.list.proofs.Indexed.{on-index}
 use Rattle.scratch.specs.Scratch.{place, held, Clean}
 use Rattle.scratch.proofs.Marks.{held-clean, held-set}
-use Rattle.scratch.proofs.Places.{place-below}
+use Rattle.scratch.proofs.Places.{put-rest}
 use Rattle.probe_walk.specs.Probes.{places, position}
 use Rattle.probe_walk.specs.Search.{Probed, unfound, Marked}
 use Rattle.probe_walk.proofs.Positions.{is-not-on, is-on-list, position-new, position-other, position-old}
@@ -35,11 +36,6 @@ module _ {p : Panel} {probes : List ℕ} (g : Probed p probes) where
 
   pub probe-inside : (i : ℕ) → i < length probes / 2 → OnPanel p (nth (cellsIn probes) i)
   probe-inside i h = on-index p (cellsIn probes) i (g .on) (probe-below h)
-
--- the place k of a cell is a place of scratch
-pub in-scratch : {p : Panel} {q : List Cell} {scratch : List ℕ} {c : Cell} {k : ℕ} → Marked p q scratch → OnPanel p c → k ≡ place p c
-    → k < length scratch
-in-scratch m o e = omega (arith, m .room, place-below o)
 
 -- the first i probes of q are marked, in scratch that was old
 pub record Marking (p : Panel) (q : List Cell) (old new : List ℕ) (different i : ℕ) : Type 0 where
@@ -103,7 +99,7 @@ module _ {p : Panel} {q : List Cell} {old new : List ℕ} {different i : ℕ} (m
         counted = omega (arith, m .counted, unfound-marked t c);
         few = omega (arith, m .few);
         size = length-set new (place p c) (i + 1) ∙ m .size;
-        rest = drop-set-lt (area p) new (place p c) (i + 1) (place-below o) ∙ m .rest;
+        rest = put-rest o refl new (i + 1) ∙ m .rest;
       }
     where
       fresh : among c t ≡ false
@@ -114,7 +110,7 @@ module _ {p : Panel} {q : List Cell} {old new : List ℕ} {different i : ℕ} (m
           let here : i + 1 ≡ 1 + length t = omega (arith, length-take-le i q (omega arith)) in
           both-branches (λ (k : ℕ). k ≡ position d (t ++ c ∷ [])) (sameCell c d) (i + 1) (held p new d)
           (λ e. here ∙ sym (position-new c t [] fresh) ∙ ap (λ (a : Cell). position a (t ++ c ∷ [])) (same-eq c d e))
-          (λ e. m .marked .marks d on ∙ sym (position-other d t c (ne-same d c (λ f. same-ne c d e (sym f)))))
+          (λ e. m .marked .marks d on ∙ sym (position-other d t c (same-sym d c ∙ e)))
 
   -- it is marked now
   pub marked-now : {k : ℕ} → k ≡ place p c → getD new k 0 ≡ 0 → Marking p q old (set new k (i + 1)) (different + 1) (i + 1)

@@ -1,10 +1,9 @@
 -- The cells ahead are all on the panel exactly if all cells are: each turn takes one away (`on-turn`).
-use Prim.Native.Nat.{ℕ, _+_, _-_}
+use Prim.Native.Nat.{ℕ, _-_}
 use native.Mathlib.Omega.{arith}
 use borrow.Author.Needs.{needs}
 use borrow.Author.Tests.{not-true, not-false}
 use mathlib.Core.Path.{_≡_, refl, sym, ap, _∙_}
-use mathlib.Core.Bool.{_&&_}
 use mathlib.Core.List.{List}
 use lib.ListN.{length, drop}
 use Rattle.grid.specs.Panel.{onPanel}
@@ -32,10 +31,6 @@ module _ (c : tie.In-loop Inv-loop μ-loop) where
   abbrev log : List ℕ
   log = start .args .log .now
 
-  turn : let l = cellsOf (entriesIn log) in let i = c .before .loop .i in
-      allOn (start .args .p) (drop i l) ≡ (onPanel (start .args .p) (nth l i) && allOn (start .args .p) (drop (i + 1) l))
-  turn = on-turn log _ (c .loop-test .taken) (start .args .p)
-
 cell-of-requires : tie.Need-cell-of-requires Inv-loop μ-loop
 cell-of-requires c κs = below (log c) _ (c .loop-test .taken)
 
@@ -50,7 +45,7 @@ tested c = c .on-panel .ensures ∙ ap (onPanel (start (c .before .before) .args
 returns : tie.Need-returns Inv-loop μ-loop
 returns c =
     let t = c .before .before .before in
-    turn-failed _ _ (turn t) (t .before .loop .inv) (sym (tested (c .before)) ∙ not-true _ (c .if1 .taken))
+    turn-failed _ _ (on-turn (log t) _ (t .loop-test .taken) _) (t .before .loop .inv) (sym (tested (c .before)) ∙ not-true _ (c .if1 .taken))
 
 add-i : tie.Need-add-i Inv-loop μ-loop
 add-i c = omega arith
@@ -61,7 +56,7 @@ loop-less c = omega arith
 loop-again : tie.Need-loop-again Inv-loop μ-loop
 loop-again c =
     let t = c .before .before .before in
-    turn-passed _ _ (turn t) (t .before .loop .inv) (sym (tested (c .before)) ∙ not-false _ (c .if1 .left))
+    turn-passed _ _ (on-turn (log t) _ (t .loop-test .taken) _) (t .before .loop .inv) (sym (tested (c .before)) ∙ not-false _ (c .if1 .left))
 
 returns-2 : tie.Need-returns-2 Inv-loop μ-loop
 returns-2 c =

@@ -9,7 +9,7 @@ use Rattle.grid.specs.declared.Cell.{Cell}
 use Rattle.grid.specs.Panel.{OnPanel}
 use Rattle.list.specs.List.{nth}
 use Rattle.log_entries.specs.Log.{entriesIn, cellsOf}
-use Rattle.log_entries.proofs.Entries.{length-cells-of, on-entry}
+use Rattle.log_entries.proofs.Entries.{length-entries, length-cells-of, on-entry}
 use Rattle.log_entries.proofs.Turns.{below, below-cells}
 use Rattle.log_entries.proofs.Marks.{Marking, none-marked, in-scratch, met, marked-next, all-once, all-changed}
 use Rattle.log_entries.proofs.mark_once.Statement.{statement}
@@ -33,18 +33,18 @@ module _ (c : tie.In-loop Inv-loop μ-loop) where
   cells = cellsOf (entriesIn (start .args .log .now))
 
   inside : OnPanel (start .args .p) (nth cells (c .before .loop .i))
-  inside = on-entry (start .args .p) (start .args .log .now) _ (start .pre .1 .0) (below (start .args .log .now) _ (c .loop-test .taken))
+  inside = on-entry (start .args .p) (entriesIn (start .args .log .now)) _ (start .pre .1 .0) (below (start .args .log .now) _ (c .loop-test .taken))
 
   there : c .before .loop .i < length cells
   there = below-cells (start .args .log .now) _ (c .loop-test .taken)
 
-place-at-requires : tie.Need-place-at-requires Inv-loop μ-loop
-place-at-requires c κs = (start c .pre .0, (start c .pre .1 .0, below (start c .args .log .now) _ (c .loop-test .taken)))
+entry-place-requires : tie.Need-entry-place-requires Inv-loop μ-loop
+entry-place-requires c κs = (start c .pre .0, (start c .pre .1 .0, below (start c .args .log .now) _ (c .loop-test .taken)))
 
-placed : (c : tie.After-place-at Inv-loop μ-loop) → c .place-at .result < length (c .before .before .loop .scratch)
+placed : (c : tie.After-entry-place Inv-loop μ-loop) → c .entry-place .result < length (c .before .before .loop .scratch)
 placed c =
     let t = c .before in
-    in-scratch (cells t) _ (t .before .loop .inv) (start t .pre .1 .1 .0) (there t) (inside t) (c .place-at .ensures)
+    in-scratch (t .before .loop .inv .changed) (inside t) (start t .pre .1 .1 .0 .room) (c .entry-place .ensures)
 
 slice-read-k : tie.Need-slice-read-k Inv-loop μ-loop
 slice-read-k c = placed (c .before)
@@ -57,7 +57,7 @@ returns c =
     let d = c .before .before in
     let t = d .before in
     let w = t .before .loop .inv in (
-      met (cells t) _ w (start t .pre .1 .1 .0) (there t) (inside t) (d .place-at .ensures) (omega (arith, c .if1 .taken)),
+      met (cells t) _ w (start t .pre .1 .1 .0) (there t) (inside t) (d .entry-place .ensures) (omega (arith, c .if1 .taken)),
       (w .changed .rest, λ e. absurd (true≢false (sym e))),
     )
 
@@ -77,7 +77,7 @@ loop-again : tie.Need-loop-again Inv-loop μ-loop
 loop-again c =
     let d = c .before .before in
     let t = d .before in
-    marked-next (cells t) _ (t .before .loop .inv) (start t .pre .1 .1 .0) (there t) (inside t) (d .place-at .ensures) (omega (arith, c .if1 .left))
+    marked-next (cells t) _ (t .before .loop .inv) (start t .pre .1 .1 .0) (there t) (inside t) (d .entry-place .ensures) (omega (arith, c .if1 .left))
 
 same-length-2 : tie.Need-same-length-2 Inv-loop μ-loop
 same-length-2 c = c .before .loop .inv .changed .size
@@ -86,7 +86,7 @@ returns-2 : tie.Need-returns-2 Inv-loop μ-loop
 returns-2 c =
     let w = c .before .loop .inv in
     let log = c .before .before .before .before .args .log .now in
-    let end : length (cellsOf (entriesIn log)) ≤ c .before .loop .i = omega (arith, c .loop-test .left, length-cells-of log) in
+    let end : length (cellsOf (entriesIn log)) ≤ c .before .loop .i = omega (arith, c .loop-test .left, length-entries log, length-cells-of (entriesIn log)) in
     (all-once _ _ w end, (w .changed .rest, λ _. all-changed _ _ w end))
 
 pub mark-once-spec : {M : Type 1} → statement M
@@ -96,7 +96,7 @@ mark-once-spec =
     Inv-loop
     μ-loop
     loop-holds
-    place-at-requires
+    entry-place-requires
     slice-read-k
     same-length
     returns

@@ -35,7 +35,7 @@ module _ (c : tie.After-enum-told) where
   good : sizes-of start ≡ Good
   good = sym (c .before .before .check-sizes .ensures) ∙ c .enum-told .given .1
 
-  fits : Sized (start .args .p) (length (now (start .args .scratch)))
+  fits : Sized (start .args .p) (length (now (start .args .burned))) (length (now (start .args .seen))) (length (now (start .args .scratch)))
   fits = sized (start .args .p) (length (now (start .args .burned))) (length (now (start .args .seen))) (length (now (start .args .scratch))) good
 
 clear-requires : tie.Need-clear-requires

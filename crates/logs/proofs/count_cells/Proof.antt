@@ -8,7 +8,7 @@ use lib.ListN.{length}
 use Rattle.log_entries.specs.Log.{Entry, entriesIn}
 use Rattle.log_entries.proofs.Entries.{length-entries}
 use Rattle.logs.specs.Counts.{inBoth, onlyIn}
-use Rattle.logs.proofs.Tallies.{both-sides, lasers-total, cameras-total, earlier-both, counts-are}
+use Rattle.logs.proofs.Tallies.{both-sides, burned-total, seen-total, earlier-both, counts-are}
 use Rattle.logs.proofs.Walks.{few}
 use Rattle.logs.proofs.count_cells.Statement.{statement}
 use Rattle.logs.proofs.count_cells.Tie as tie
@@ -27,11 +27,11 @@ module _ (c : tie.After-walk) where
   abbrev camera : List Entry
   camera = entriesIn (start .args .seen .now)
 
-  lasers : length laser ≡ length (start .args .burned .now) / 6
-  lasers = length-entries (start .args .burned .now)
+  burned-entries : length laser ≡ length (start .args .burned .now) / 6
+  burned-entries = length-entries (start .args .burned .now)
 
-  cameras : length camera ≡ length (start .args .seen .now) / 6
-  cameras = length-entries (start .args .seen .now)
+  seen-entries : length camera ≡ length (start .args .seen .now) / 6
+  seen-entries = length-entries (start .args .seen .now)
 
   both : c .walk .result .both ≡ inBoth laser camera
   both = c .walk .ensures .0 ∙ sym (both-sides laser camera (start .pre .laser .once) (start .pre .camera .once))
@@ -41,17 +41,22 @@ module _ (c : tie.After-walk) where
   earlier = omega (arith, both, c .walk .ensures .1 .0, earlier-both laser camera (start .pre .laser .once) (start .pre .camera .once))
 
   only-burned : c .walk .result .both + onlyIn laser camera ≡ length (start .args .burned .now) / 6
-  only-burned = omega (arith, both, lasers-total laser camera, lasers)
+  only-burned = omega (arith, both, burned-total laser camera, burned-entries)
 
   only-seen : c .walk .result .both + onlyIn camera laser ≡ length (start .args .seen .now) / 6
-  only-seen = omega (arith, both, cameras-total laser camera (start .pre .laser .once) (start .pre .camera .once), cameras)
+  only-seen = omega (arith, both, seen-total laser camera (start .pre .laser .once) (start .pre .camera .once), seen-entries)
 
-cast-lasers : tie.Need-cast-lasers
-cast-lasers c = let d = c .before .before in record { fits = omega (arith, lasers d, few (laser d) (start d .pre .sides) (start d .pre .laser)) }
+cast-burned-entries : tie.Need-cast-burned-entries
+cast-burned-entries c =
+    let d = c .before .before in
+    record { fits = omega (arith, burned-entries d, few (laser d) (start d .pre .sides) (start d .pre .laser)) }
 
-cast-cameras : tie.Need-cast-cameras
-cast-cameras c = let d = c .before .before in record { fits = omega (arith, cameras d, few (camera d) (start d .pre .sides) (start d .pre .camera)) }
+cast-seen-entries : tie.Need-cast-seen-entries
+cast-seen-entries c =
+    let d = c .before .before in
+    record { fits = omega (arith, seen-entries d, few (camera d) (start d .pre .sides) (start d .pre .camera)) }
 
+-- all that bounds them, so that another number in their place is refused where it is wrong and not here
 sub-t13 : tie.Need-sub-t13
 sub-t13 c = let d = c .before .before .before in omega (arith, only-burned d, only-seen d, earlier d)
 
@@ -70,4 +75,4 @@ returns c =
     )
 
 pub count-cells-spec : {M : Type 1} → statement M
-count-cells-spec = tie.close (tie.spec walk-requires cast-lasers cast-cameras sub-t13 sub-t15 same-length returns)
+count-cells-spec = tie.close (tie.spec walk-requires cast-burned-entries cast-seen-entries sub-t13 sub-t15 same-length returns)

@@ -5,7 +5,7 @@ use mathlib.Core.List.{List}
 use lib.ListN.{length}
 use Rattle.grid.specs.Panel.{OnPanel}
 use Rattle.list.specs.List.{nth}
-use Rattle.scratch.proofs.Places.{place-below}
+use Rattle.scratch.proofs.Places.{place-in}
 use Rattle.log_entries.specs.Log.{entriesIn, cellsOf}
 use Rattle.log_entries.proofs.Entries.{length-entries, on-entry}
 use Rattle.log_entries.proofs.Turns.{below}
@@ -34,7 +34,7 @@ module _ (c : tie.In-loop Inv-loop μ-loop) where
   there = below log _ (c .loop-test .taken)
 
   inside : OnPanel (start .args .p) (nth (cellsOf (entriesIn log)) (c .before .loop .i))
-  inside = on-entry (start .args .p) log _ (start .pre .1 .0) there
+  inside = on-entry (start .args .p) (entriesIn log) _ (start .pre .1 .0) there
 
 tick-of-requires : tie.Need-tick-of-requires Inv-loop μ-loop
 tick-of-requires c κs = there c
@@ -47,13 +47,13 @@ returns c =
     let t = c .before .before in
     stopped _ _ (t .before .loop .inv) (there t) (omega (arith, c .if1 .taken, c .before .tick-of .ensures))
 
-place-at-requires : tie.Need-place-at-requires Inv-loop μ-loop
-place-at-requires c κs = let t = c .before .before in (start t .pre .0, (start t .pre .1 .0, there t))
+entry-place-requires : tie.Need-entry-place-requires Inv-loop μ-loop
+entry-place-requires c κs = let t = c .before .before in (start t .pre .0, (start t .pre .1 .0, there t))
 
 slice-write-scratch : tie.Need-slice-write-scratch Inv-loop μ-loop
 slice-write-scratch c =
     let t = c .before .before .before in
-    omega (arith, c .place-at .ensures, place-below (inside t), start t .pre .1 .1 .1, t .before .loop .inv .size)
+    place-in (inside t) (c .entry-place .ensures) (omega (arith, start t .pre .1 .1 .1, t .before .loop .inv .size))
 
 add-i : tie.Need-add-i Inv-loop μ-loop
 add-i c = omega arith
@@ -66,7 +66,7 @@ loop-again c =
     let t = c .before .before .before in
     let q = start t .pre .1 .1 in
     passed-next _ _ (t .before .loop .inv) (there t) (omega (arith, c .before .if1 .left, c .before .before .tick-of .ensures)) (inside t)
-    (q .0) (q .1) (c .place-at .ensures) (omega arith)
+    (q .0) (q .1) (c .entry-place .ensures) (omega arith)
 
 same-length-2 : tie.Need-same-length-2 Inv-loop μ-loop
 same-length-2 c = c .before .loop .inv .size
@@ -86,7 +86,7 @@ pass-spec =
     tick-of-requires
     same-length
     returns
-    place-at-requires
+    entry-place-requires
     slice-write-scratch
     add-i
     loop-less

@@ -7,12 +7,12 @@ use mathlib.Core.Bool.{cond, not}
 use mathlib.Core.List.{List}
 use lib.Dec.{eqb}
 use lib.ListN.{length, getD}
-use Rattle.scratch.proofs.Places.{place-below}
 use Rattle.log_entries.specs.Log.{Entry, entriesIn, nthEntry}
-use Rattle.log_entries.proofs.Entries.{length-entries}
+use Rattle.log_entries.proofs.Entries.{length-entries, on-entry}
+use Rattle.log_entries.proofs.Marks.{in-scratch}
 use Rattle.log_entries.proofs.Turns.{below}
 use Rattle.logs.specs.Walk.{Passes}
-use Rattle.logs.proofs.Walks.{Walking, none-walked, all-walked, inside, erased-now, walked-next, most}
+use Rattle.logs.proofs.Walks.{Walking, none-walked, all-walked, erased-now, walked-next, most}
 use Rattle.logs.proofs.walk.Statement.{statement}
 use Rattle.logs.proofs.walk.Tie as tie
 
@@ -49,11 +49,11 @@ pass-requires c κs =
     let m = start t .pre in
     (m .sides, (m .laser .on, (m .laser .once, omega (arith, m .room, t .before .loop .inv .gone .size))))
 
-place-at-requires : tie.Need-place-at-requires Inv-loop μ-loop
-place-at-requires c κs = let t = c .before .before .before .before .before in (start t .pre .sides, (start t .pre .camera .on, there t))
+entry-place-requires : tie.Need-entry-place-requires Inv-loop μ-loop
+entry-place-requires c κs = let t = c .before .before .before .before .before in (start t .pre .sides, (start t .pre .camera .on, there t))
 
 -- the laser's entries are passed, and the place of the seen cell is at hand
-module _ (d : tie.After-place-at Inv-loop μ-loop) where
+module _ (d : tie.After-entry-place Inv-loop μ-loop) where
   abbrev turn : tie.In-loop Inv-loop μ-loop
   turn = d .before .before .before .before .before .before
 
@@ -68,19 +68,19 @@ module _ (d : tie.After-place-at Inv-loop μ-loop) where
       (q .before .before .tick-of .ensures) (q .pass .ensures)
 
   -- what is added to the counts, and what is known then
-  walked : {k j : ℕ} → k ≡ cond (not (eqb (getD now (d .place-at .result) 0) 2)) 1 0 → j ≡ cond (eqb (getD now (d .place-at .result) 0) 3) 1 0
+  walked : {k j : ℕ} → k ≡ cond (not (eqb (getD now (d .entry-place .result) 0) 2)) 1 0 → j ≡ cond (eqb (getD now (d .entry-place .result) 0) 3) 1 0
       → let l = turn .before .loop in
       Walking (start turn .args .p) (laser turn) (camera turn) (start turn .args .scratch .now) now (l .both + k) (l .earlier + j)
       (d .before .before .before .pass .result) (l .i + 1)
-  walked f g = walked-next (laser turn) (camera turn) (start turn .pre) _ (turn .before .loop .inv) (there turn) passes (d .place-at .ensures) f g
+  walked f g = walked-next (laser turn) (camera turn) (start turn .pre) _ (turn .before .loop .inv) (there turn) passes (d .entry-place .ensures) f g
 
 slice-read-mark : tie.Need-slice-read-mark Inv-loop μ-loop
 slice-read-mark c =
     let d = c .before in
-    let m = start (turn d) .pre in
-    let w = turn d .before .loop .inv in
-    let o = inside _ _ m _ w (there (turn d)) (passes d) in
-    omega (arith, d .place-at .ensures, place-below o, m .room, erased-now _ _ m _ w (there (turn d)) (passes d) .size)
+    let t = turn d in
+    let m = start t .pre in
+    let o = on-entry (start t .args .p) (camera t) _ (m .camera .on) (there t) in
+    in-scratch (erased-now _ _ _ (t .before .loop .inv) (passes d)) o (m .room) (d .entry-place .ensures)
 
 one-if-requires : tie.Need-one-if-requires Inv-loop μ-loop
 one-if-requires c κs = search needs
@@ -117,7 +117,7 @@ returns c =
     let s = c .before .before .before .before .before in
     let w = c .before .loop .inv in
     let end : length (entriesIn (s .args .seen .now)) ≤ c .before .loop .i = omega (arith, c .loop-test .left, length-entries (s .args .seen .now)) in
-    let (both, earlier) = all-walked _ _ (s .pre) _ w end in
+    let (both, earlier) = all-walked _ _ _ w end in
     (both, (earlier, w .gone .rest))
 
 pub walk-spec : {M : Type 1} → statement M
@@ -129,7 +129,7 @@ walk-spec =
     loop-holds
     tick-of-requires
     pass-requires
-    place-at-requires
+    entry-place-requires
     slice-read-mark
     one-if-requires
     add-both
