@@ -15,8 +15,9 @@ use grid::panel_of;
 use trial::PITCH;
 use trial::numbers::add;
 use trial::numbers::below;
+use trial::numbers::made_up;
 use trial::numbers::one_less;
-use trial::numbers::scrambled;
+use trial::numbers::pick;
 use trial::print::named;
 use trial::print::row;
 use trial::print::text;
@@ -44,23 +45,6 @@ const EARLIER: usize = 23;
 const WRONG_TOTALS: usize = 24;
 
 const DIFFERENT: usize = 25;
-
-// ---- the sequence
-
-// A step of the generator and a sum, whose carries mix what the step's shifts alone keep apart.
-fn mixed(x: u32) -> u32 {
-    add(scrambled(x), 2654435769)
-}
-
-// Number k of pair `code`, in 28 bits.
-fn made_up(code: u32, k: u32) -> u32 {
-    let seed = code % 65536 * 256 + k % 256 + 1;
-    mixed(mixed(mixed(seed))) / 16
-}
-
-fn pick(code: u32, k: u32, n: u32) -> u32 {
-    below(n, made_up(code, k))
-}
 
 // ---- logs
 
