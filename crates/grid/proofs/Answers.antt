@@ -14,14 +14,10 @@ use Rattle.grid.specs.Check.{after, answer}
 use Rattle.grid.specs.Answer.{cellsAnswer, cellsValues, GivesCells, bytesAnswer, bytesValues, GivesBytes}
 use Rattle.grid.proofs.Facts.{clash}
 
-through {ℓ κ} : {A : Type ℓ} {B : Type κ} (f : A → B) (c : Check) (g : Refusal → A) (a : A)
-    → f (answer c g a) ≡ answer c (λ r. f (g r)) (f a)
-through f Good g a = refl
-through f (Refused r) g a = refl
-
 pub read-off {ℓ κ} : {A : Type ℓ} {B : Type κ} (f : A → B) (c : Check) (g : Refusal → A) (a : A) {r : A} → r ≡ answer c g a
     → f r ≡ answer c (λ q. f (g q)) (f a)
-read-off f c g a e = ap f e ∙ through f c g a
+read-off f Good g a e = ap f e
+read-off f (Refused s) g a e = ap f e
 
 -- an answer behind two checks, one after the other, is the one behind what they are together
 pub answer-after {ℓ} : {A : Type ℓ} (c d : Check) {k : Check} (f : Refusal → A) (a : A) → after c d ≡ k → answer c f (answer d f a) ≡ answer k f a

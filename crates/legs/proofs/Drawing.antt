@@ -119,4 +119,5 @@ module _ (l : List Leg) {i : ℕ} (d : Leg) (there : i < length l) where
   room-next {n} {old} more room =
       let behind = drop (i + 1) (take n l) in
       let whole = subst (λ (k : List Leg). Room k old) (sym (take-append-drop (i + 1) (take n l))) room in
-      subst (λ (k : List Leg). Room k old) (take-take (i + 1) n l (omega arith) ∙ take-next d l i there) (room-first (take (i + 1) (take n l)) behind whole)
+      subst (λ (k : List Leg). Room k old) (take-take (i + 1) n l (omega arith) ∙ take-next d l i there)
+      (room-first (take (i + 1) (take n l)) behind whole)

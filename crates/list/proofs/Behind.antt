@@ -1,5 +1,5 @@
 -- The tests of a list with cells behind it: each is the test of the list and what the last cell adds. So a walk along the list need not
--- look back at more than its last cell and at which cells it has met.
+-- look back at more than its last cell and at which cells it has met. And in which of two lists joined a cell stands.
 use mathlib.Core.Path.{_≡_, refl, sym, ap, _∙_}
 use mathlib.Core.Bool.{Bool, true, false, not, _&&_, _||_, and-true, and-assoc, or-assoc, or-comm, or-false, true≢false}
 use mathlib.Core.List.{List, [], _∷_, _++_}

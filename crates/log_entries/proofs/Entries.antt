@@ -1,4 +1,4 @@
--- The entries that bytes hold: how many there are, their cells, and that the one with the number i stands in the six bytes from 6 · i on.
+-- The entries that bytes hold: how many there are; the cells of a log; and that the one with the number i stands in the six bytes from 6 · i on.
 use Prim.Native.Nat.{ℕ, zero, suc, _+_, _*_, _/_, _<_}
 use native.Mathlib.Nat.{add-zero}
 use native.Mathlib.Omega.{arith}
@@ -22,7 +22,7 @@ length-entries (x ∷ y ∷ []) = refl
 length-entries (x ∷ []) = refl
 length-entries [] = refl
 
--- ---- its cells
+-- ---- the cells of a log
 
 pub length-cells-of : (l : List Entry) → length (cellsOf l) ≡ length l
 length-cells-of l = length-map l (λ (e : Entry). e .cell)

@@ -17,18 +17,13 @@ use Rattle.list.proofs.Behind.{among-behind, none-twice-behind}
 use Rattle.list.proofs.Indexed.{new-index}
 use Rattle.scratch.specs.Scratch.{place, held}
 use Rattle.scratch.proofs.Marks.{held-set}
-use Rattle.scratch.proofs.Places.{place-in, put-rest}
+use Rattle.scratch.proofs.Places.{put-rest}
 use Rattle.log_entries.specs.Marks.{HoldsBelow, Changed, added}
 
 -- ---- one place more
 
 pub none-changed : (p : Panel) (f : ℕ → ℕ) (s : List ℕ) → Changed p f [] s s
 none-changed p f s = record { size = refl; rest = refl; holds = λ c o. refl }
-
-module _ {p : Panel} {f : ℕ → ℕ} {l : List Cell} {old new : List ℕ} (g : Changed p f l old new) where
-  -- a place is in scratch still
-  pub in-scratch : {c : Cell} → OnPanel p c → area p ≤ length old → {at : ℕ} → at ≡ place p c → at < length new
-  in-scratch o room e = place-in o e (omega (arith, g .size))
 
 module _ {p : Panel} {f : ℕ → ℕ} {l : List Cell} {old new : List ℕ} (g : Changed p f l old new) {c : Cell} (o : OnPanel p c)
     (fresh : among c l ≡ false) where

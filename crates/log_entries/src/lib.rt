@@ -118,7 +118,7 @@ fn rises(log: &[u8]) -> bool
     true
 }
 
-// 7, 9, then 21.
+// 7, 9, then 21. Where none is met, the mark is added at the places of the log's cells.
 pub fn check_log(p: Panel, log: &[u8], mark: u8, scratch: &mut [u8]) -> Check
     requires good { ⌜ goodSides p ≡ true ⌝ }
     requires ready { ⌜ HoldsBelow p mark (now scratch) ⌝ }

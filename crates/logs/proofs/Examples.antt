@@ -45,7 +45,7 @@ back = entry (cell 1 1) 2 ∷ entry (cell 2 1) 1 ∷ []
 abbrev checked : List Entry → List Entry → Check
 checked a b = entriesCheck (panel 3 2 4000) a b
 
--- the laser's 21 and 9 before the camera's 7; the camera's where the laser's log is good
+-- the laser's 21 and 9 before the camera's 7, its 21 before the camera's 9; the camera's where the laser's log is good
 pub order-shown : (checked back off ≡ Refused TickBack)
     × (checked twice off ≡ Refused Repeated)
     × (checked back twice ≡ Refused TickBack)

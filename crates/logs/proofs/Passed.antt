@@ -13,7 +13,7 @@ use Rattle.grid.specs.declared.Refusal.{Refusal}
 use Rattle.grid.specs.declared.Check.{Check}
 use Rattle.grid.specs.declared.Check.the-variants.{Good, Refused}
 use Rattle.grid.specs.Panel.{goodSides, area, OnPanel}
-use Rattle.grid.specs.Check.{answer, checkPanel}
+use Rattle.grid.specs.Check.{checkPanel}
 use Rattle.grid.proofs.Answers.{read-off}
 use Rattle.grid.proofs.Passed.{expect-passed, expect-rest, after-passed, after-rest}
 use Rattle.grid.proofs.Tests.{both-branches, after-good, after-refused, answer-good, answer-refused}
@@ -65,19 +65,19 @@ module _ {p : Panel} {clean : List ℕ} (k : Clean p clean) where
 
   module _ {burned : List Cell} {first : List ℕ} (g : Changed p (added 1) burned clean first) where
     laser-held : (c : Cell) → OnPanel p c → held p first c ≡ cond (among c burned) 1 0
-    laser-held c o = g .holds c o ∙ ap (λ (k : ℕ). cond (among c burned) (k + 1) k) (held-clean clean o k)
+    laser-held c o = g .holds c o ∙ ap (λ (n : ℕ). cond (among c burned) (n + 1) n) (held-clean clean o k)
 
     pub ones-held : HoldsBelow p 2 first
     ones-held = record {
       room = omega (arith, k .room, g .size);
       less = λ c o.
-          let few = both-branches (λ (k : ℕ). k ≤ 1) (among c burned) 1 0 (λ _. omega arith) (λ _. omega arith) in
+          let few = both-branches (λ (n : ℕ). n ≤ 1) (among c burned) 1 0 (λ _. omega arith) (λ _. omega arith) in
           omega (arith, laser-held c o, few);
     }
 
     both-held : {seen : List Cell} {second : List ℕ} → Changed p (added 2) seen first second → (c : Cell) → OnPanel p c
         → held p second c ≡ cond (among c burned) 1 0 + cond (among c seen) 2 0
-    both-held {seen} {second} f c o = f .holds c o ∙ more (among c seen) ∙ ap (λ (k : ℕ). k + cond (among c seen) 2 0) (laser-held c o)
+    both-held {seen} {second} f c o = f .holds c o ∙ more (among c seen) ∙ ap (λ (n : ℕ). n + cond (among c seen) 2 0) (laser-held c o)
       where
         more : (b : Bool) → cond b (held p first c + 2) (held p first c) ≡ held p first c + cond b 2 0
         more true = refl

@@ -35,8 +35,8 @@ abbrev pub ahead : ℕ → List Entry → List Entry
 ahead t [] = []
 ahead t (e ∷ l) = cond (leb (e .tick) t) (ahead t l) (e ∷ l)
 
--- of a log whose first entries, so many as passed says, are passed: those with a tick up to t are passed too, which makes r, and in whatever
--- scratch the places of the first ones were erased, those of all r are
+-- of a log whose first `passed` entries are passed already: those up to the tick t are passed too, which makes r; and where old is some scratch
+-- with the places of the first ones erased, new is that scratch with those of all r erased
 pub record Passes (p : Panel) (l : List Entry) (passed t : ℕ) (old : List ℕ) (r : ℕ) (new : List ℕ) : Type 0 where
   pub left : drop r l ≡ ahead t (drop passed l)
   pub gone : (base : List ℕ) → Changed p erased (take passed (cellsOf l)) base old → Changed p erased (take r (cellsOf l)) base new

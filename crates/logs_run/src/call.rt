@@ -4,7 +4,6 @@ use grid::number_of;
 use logs::LogCounts;
 use logs::LogsAnswer;
 use logs::compare;
-use trial::cells::fill;
 use trial::numbers::at_most;
 
 // What Compare is called with: the panel, and how many bytes of each buffer are lent.
@@ -60,9 +59,8 @@ fn numbers_of(a: LogsAnswer) -> Told {
     }
 }
 
-// What Compare answers. All of the buffer for scratch is filled before, with this byte.
-pub fn called(j: Job, burned: &[u8], seen: &[u8], scratch: &mut [u8], before: u8) -> Told {
-    fill(scratch, before);
+// What Compare answers.
+pub fn called(j: Job, burned: &[u8], seen: &[u8], scratch: &mut [u8]) -> Told {
     let lasers = at_most(j.burned, burned.len());
     let cameras = at_most(j.seen, seen.len());
     let room = at_most(j.scratch, scratch.len());

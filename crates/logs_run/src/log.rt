@@ -22,7 +22,7 @@ pub fn tick_of(log: &[u8], i: u32) -> u32 {
     high.x << 24 | high.y << 16 | low.x << 8 | low.y
 }
 
-// A number as a pair of bytes, the higher first.
+// A number as a pair of bytes, the higher first (`put` takes them modulo 256).
 fn pair_of(k: u32) -> Cell {
     Cell { x: k / 256, y: k }
 }

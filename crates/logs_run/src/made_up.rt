@@ -12,8 +12,12 @@ use grid::Cell;
 use grid::Panel;
 use grid::area_of;
 use grid::panel_of;
+use std::num::wrapping_sub_u32;
 use trial::PITCH;
+use trial::cells::fill;
+use trial::cells::filled;
 use trial::numbers::add;
+use trial::numbers::at_most;
 use trial::numbers::below;
 use trial::numbers::made_up;
 use trial::numbers::one_less;
@@ -65,7 +69,7 @@ fn drawn(side: u32, a: u32, fault: bool) -> u32 {
 // A tick that is none, one or two steps later; for a fault one earlier.
 fn later(tick: u32, step: u32, a: u32, fault: bool) -> u32 {
     if fault {
-        return add(tick, 4294967295);
+        return wrapping_sub_u32(tick, 1);
     }
     match a % 3 {
         0 => tick,
@@ -142,15 +146,8 @@ fn made_up_job(p: Panel, code: u32, lasers: u32, cameras: u32) -> Job {
 
 // Whether the first bytes are 0 and the others as before.
 fn zeros_before(scratch: &[u8], zeros: usize, before: u8) -> bool {
-    let mut i = 0;
-    while i < scratch.len() {
-        let byte = if i < zeros { 0 } else { before };
-        if scratch[i] != byte {
-            return false;
-        }
-        i += 1;
-    }
-    true
+    let k = at_most(zeros, scratch.len());
+    filled(&scratch[..k], 0, 0) && filled(scratch, k, before)
 }
 
 // How many bytes of scratch must be 0 after the call.
@@ -170,11 +167,11 @@ fn right_totals(j: Job, t: Told) -> bool {
 
 // Where an answer is tallied.
 fn outcome(j: Job, t: Told, alike: bool) -> usize {
-    if !alike {
-        return DIFFERENT;
-    }
     if t.refusal == 0 && !right_totals(j, t) {
         return WRONG_TOTALS;
+    }
+    if !alike {
+        return DIFFERENT;
     }
     t.refusal as usize
 }
@@ -187,7 +184,8 @@ fn more(tally: &mut [u32], at: usize, k: u32) {
 
 fn compare_answers(j: Job, burned: &[u8], seen: &[u8], before: u8, tally: &mut [u32]) {
     let mut scratch = [0u8; SCRATCH];
-    let t = called(j, burned, seen, &mut scratch, before);
+    fill(&mut scratch, before);
+    let t = called(j, burned, seen, &mut scratch);
     let alike = same_numbers(t, expected(j, burned, seen))
         && zeros_before(&scratch, zeros_after(j), before);
     more(tally, outcome(j, t, alike), 1);

@@ -26,6 +26,7 @@ use grid::panel_of;
 use std::num::wrapping_sub_usize;
 use trial::PITCH;
 use trial::cells::count;
+use trial::cells::fill;
 use trial::numbers::at_most;
 use trial::print::row;
 use trial::print::text;
@@ -37,15 +38,15 @@ use trial::times::turn_from;
 // The largest number of 32 bits.
 const MAX: u32 = 4294967295;
 
-// Panels with more cells are not compared with the peer; logs with fewer entries are not timed.
-const CELLS: usize = 1024;
+// Logs with more entries are not compared with the peer; with fewer they are not timed.
+const ENTRIES: usize = 1024;
 
 // ---- a line
 
 // The time of what began at `start`.
 fn say_turn(name: &[u8], j: Job, start: u64, t: Told) {
     let turn = turn_from(start, t.earlier);
-    if j.seen < 6 * CELLS {
+    if j.seen < 6 * ENTRIES {
         return;
     }
     say(name);
@@ -63,8 +64,9 @@ fn try_peer(j: Job, burned: &[u8], seen: &[u8], t: Told) {
 }
 
 fn try_job(j: Job, burned: &[u8], seen: &[u8], scratch: &mut [u8]) {
+    fill(scratch, 255);
     let start = micros();
-    let t = called(j, burned, seen, scratch, 255);
+    let t = called(j, burned, seen, scratch);
     say_turn(b"compare ", j, start, t);
     let zeros = count(scratch, 0);
     let kept = count(scratch, 255);
@@ -80,7 +82,7 @@ fn try_job(j: Job, burned: &[u8], seen: &[u8], scratch: &mut [u8]) {
         ],
         b"\n",
     );
-    if area_of(j.panel) <= CELLS {
+    if j.burned <= 6 * ENTRIES && j.seen <= 6 * ENTRIES {
         try_peer(j, burned, seen, t);
     }
 }
@@ -99,7 +101,7 @@ const START: Reading = Reading {
 };
 
 // What a character stands for: a digit for its number, any other one for itself.
-fn number_of(b: u8) -> u8 {
+fn value_of(b: u8) -> u8 {
     if b < 48 {
         return b;
     }
@@ -138,7 +140,7 @@ fn read_character(p: Panel, room: usize, b: u8, r: Reading, pair: &mut [u8]) -> 
         next.lasers = r.bytes;
         return next;
     }
-    put_byte(pair, r.bytes, number_of(b));
+    put_byte(pair, r.bytes, value_of(b));
     next.bytes = r.bytes % 256 + 1;
     next
 }
@@ -163,7 +165,8 @@ fn try_logs(name: &[u8], lines: &[u8]) {
 
 // Both empty, one empty; another cell; its x and y exchanged; the same cell, a tick earlier, at the same
 // tick, later. Several cells, earlier, at the same tick and later, in another order; several before any is
-// burned; all behind the last; two at one tick, of which one is burned then; all at one tick; none in both.
+// burned; all behind the last; three at one tick, of which one is burned then; the laser's all at one tick;
+// all at one tick; none in both.
 fn good_logs() {
     try_logs(
         b"good logs:\n",
@@ -267,8 +270,8 @@ fn lengths() {
 
 // 7: a cell beside the panel, in either log, first and behind others. 9: a cell twice, at the same tick and
 // later, the first and the last of a log; cells that only the other log has too. 21: a tick that falls, at
-// the second entry, at the last, to the one before and not to the first; one that is only below the other
-// log's.
+// the second entry; at the last, below the one before it and not below the first; a rise behind a fall; ticks
+// below the other log's alone.
 fn bad_entries() {
     try_logs(
         b"7, 9, 21:\n",

@@ -8,10 +8,11 @@ use lib.ListN.{length}
 use Rattle.grid.specs.declared.Cell.{Cell}
 use Rattle.grid.specs.Panel.{OnPanel}
 use Rattle.list.specs.List.{nth}
+use Rattle.scratch.proofs.Places.{place-in}
 use Rattle.log_entries.specs.Log.{entriesIn, cellsOf}
 use Rattle.log_entries.proofs.Entries.{length-entries, length-cells-of, on-entry}
 use Rattle.log_entries.proofs.Turns.{below, below-cells}
-use Rattle.log_entries.proofs.Marks.{Marking, none-marked, in-scratch, met, marked-next, all-once, all-changed}
+use Rattle.log_entries.proofs.Marks.{Marking, none-marked, met, marked-next, all-once, all-changed}
 use Rattle.log_entries.proofs.mark_once.Statement.{statement}
 use Rattle.log_entries.proofs.mark_once.Tie as tie
 
@@ -44,7 +45,7 @@ entry-place-requires c κs = (start c .pre .0, (start c .pre .1 .0, below (start
 placed : (c : tie.After-entry-place Inv-loop μ-loop) → c .entry-place .result < length (c .before .before .loop .scratch)
 placed c =
     let t = c .before in
-    in-scratch (t .before .loop .inv .changed) (inside t) (start t .pre .1 .1 .0 .room) (c .entry-place .ensures)
+    place-in (inside t) (c .entry-place .ensures) (omega (arith, start t .pre .1 .1 .0 .room, t .before .loop .inv .changed .size))
 
 slice-read-k : tie.Need-slice-read-k Inv-loop μ-loop
 slice-read-k c = placed (c .before)
@@ -77,7 +78,8 @@ loop-again : tie.Need-loop-again Inv-loop μ-loop
 loop-again c =
     let d = c .before .before in
     let t = d .before in
-    marked-next (cells t) _ (t .before .loop .inv) (start t .pre .1 .1 .0) (there t) (inside t) (d .entry-place .ensures) (omega (arith, c .if1 .left))
+    let w = t .before .loop .inv in
+    marked-next (cells t) _ w (start t .pre .1 .1 .0) (there t) (inside t) (d .entry-place .ensures) (omega (arith, c .if1 .left))
 
 same-length-2 : tie.Need-same-length-2 Inv-loop μ-loop
 same-length-2 c = c .before .loop .inv .changed .size
@@ -86,7 +88,8 @@ returns-2 : tie.Need-returns-2 Inv-loop μ-loop
 returns-2 c =
     let w = c .before .loop .inv in
     let log = c .before .before .before .before .args .log .now in
-    let end : length (cellsOf (entriesIn log)) ≤ c .before .loop .i = omega (arith, c .loop-test .left, length-entries log, length-cells-of (entriesIn log)) in
+    let all = length-cells-of (entriesIn log) in
+    let end : length (cellsOf (entriesIn log)) ≤ c .before .loop .i = omega (arith, c .loop-test .left, length-entries log) in
     (all-once _ _ w end, (w .changed .rest, λ _. all-changed _ _ w end))
 
 pub mark-once-spec : {M : Type 1} → statement M

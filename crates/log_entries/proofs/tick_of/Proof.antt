@@ -1,4 +1,4 @@
--- The other four of the entry's six bytes.
+-- The last four of the entry's six bytes.
 use native.Mathlib.Omega.{arith}
 use mathlib.Core.Path.{_∙_}
 use Rattle.log_entries.proofs.Entries.{six-bytes, tick-index}

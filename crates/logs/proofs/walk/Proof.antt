@@ -7,9 +7,9 @@ use mathlib.Core.Bool.{cond, not}
 use mathlib.Core.List.{List}
 use lib.Dec.{eqb}
 use lib.ListN.{length, getD}
+use Rattle.scratch.proofs.Places.{place-in}
 use Rattle.log_entries.specs.Log.{Entry, entriesIn, nthEntry}
 use Rattle.log_entries.proofs.Entries.{length-entries, on-entry}
-use Rattle.log_entries.proofs.Marks.{in-scratch}
 use Rattle.log_entries.proofs.Turns.{below}
 use Rattle.logs.specs.Walk.{Passes}
 use Rattle.logs.proofs.Walks.{Walking, none-walked, all-walked, erased-now, walked-next, most}
@@ -80,7 +80,7 @@ slice-read-mark c =
     let t = turn d in
     let m = start t .pre in
     let o = on-entry (start t .args .p) (camera t) _ (m .camera .on) (there t) in
-    in-scratch (erased-now _ _ _ (t .before .loop .inv) (passes d)) o (m .room) (d .entry-place .ensures)
+    place-in o (d .entry-place .ensures) (omega (arith, m .room, erased-now _ _ _ (t .before .loop .inv) (passes d) .size))
 
 one-if-requires : tie.Need-one-if-requires Inv-loop μ-loop
 one-if-requires c κs = search needs

@@ -5,9 +5,6 @@ use borrow.Author.Needs.{needs}
 use Rattle.logs_run.proofs.call.called.Statement.{statement}
 use Rattle.logs_run.proofs.call.called.Tie as tie
 
-fill-requires : tie.Need-fill-requires
-fill-requires c κs = search needs
-
 at-most-requires : tie.Need-at-most-requires
 at-most-requires c κs = search needs
 
@@ -45,7 +42,6 @@ pub called-spec : {M : Type 1} → statement M
 called-spec =
     tie.close
     (tie.spec
-    fill-requires
     at-most-requires
     at-most-requires-2
     at-most-requires-3
