@@ -299,7 +299,7 @@ fn small_order(code: u32) -> Order {
     }
 }
 
-// A made-up number below n: number k of order `code`.
+// A made-up number below n: number k, of eight, of order `code`.
 fn pick_of_eight(code: u32, k: u32, n: u32) -> u32 {
     below(n, scrambled(scrambled(code % 65536 * 8 + k % 8 + 1)))
 }
