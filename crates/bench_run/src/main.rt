@@ -299,26 +299,26 @@ fn small_order(code: u32) -> Order {
     }
 }
 
-// A made-up number below n: number k of order `code`.
-fn pick(code: u32, k: u32, n: u32) -> u32 {
+// A made-up number below n: number k, of eight, of order `code`.
+fn pick_of_eight(code: u32, k: u32, n: u32) -> u32 {
     below(n, scrambled(scrambled(code % 65536 * 8 + k % 8 + 1)))
 }
 
 // A made-up cell, on the panel or next to it, on the right or above.
 fn pick_cell(p: Panel, code: u32, k: u32) -> Cell {
     Cell {
-        x: add(pick(code, k, add(p.width, 1)), 1),
-        y: pick(code, add(k, 1), add(p.height, 1)),
+        x: add(pick_of_eight(code, k, add(p.width, 1)), 1),
+        y: pick_of_eight(code, add(k, 1), add(p.height, 1)),
     }
 }
 
 fn made_up_order(code: u32) -> Order {
     let width = SIDES[(code % 8) as usize];
     let height = SIDES[(code / 8 % 8) as usize];
-    let pitch = PITCHES[(pick(code, 4, 8) % 8) as usize];
+    let pitch = PITCHES[(pick_of_eight(code, 4, 8) % 8) as usize];
     let panel = panel_of(width, height, pitch);
     let entry = pick_cell(panel, code, 0);
-    if pick(code, 5, 8) == 0 {
+    if pick_of_eight(code, 5, 8) == 0 {
         return Order {
             panel,
             entry,
@@ -359,7 +359,7 @@ fn try_made_up(code: u32, t: Totals) -> Totals {
     let o = made_up_order(code);
     try_order(
         o,
-        pick(code, 6, WAYS),
+        pick_of_eight(code, 6, WAYS),
         &mut before,
         &mut track,
         &mut one,

@@ -1,12 +1,12 @@
 -- Exit's promise, from the answer alone; and the answer, from what is found.
-use mathlib.Core.Path.{_≡_, refl, sym, ap, _∙_}
+use mathlib.Core.Path.{_≡_, refl, sym, _∙_}
 use Rattle.grid.specs.declared.Panel.{Panel}
 use Rattle.grid.specs.declared.Cell.{Cell}
 use Rattle.grid.specs.declared.Cells.{Cells}
 use Rattle.grid.specs.declared.Refusal.the-variants.{NoExit}
 use Rattle.grid.specs.declared.Check.the-variants.{Good}
 use Rattle.grid.specs.Check.{expect, after, checkEntry, answer}
-use Rattle.grid.proofs.Answers.{through}
+use Rattle.grid.proofs.Answers.{read-off}
 use Rattle.exit.specs.declared.ExitAnswer.{ExitAnswer}
 use Rattle.exit.specs.declared.ExitAnswer.the-variants.{Refused, Given}
 use Rattle.exit.specs.declared.Search.{Search}
@@ -16,8 +16,8 @@ use Rattle.exit.specs.Exit.{firstFit, isFound, cellFound, exitCheck, exi
 pub exits : (p : Panel) (s : Cell) (w : Cells) {r : ExitAnswer} → r ≡ exitOf p s w → Exits p s w r
 exits p s w e = record {
   answers = e;
-  number = ap (λ (a : ExitAnswer). (exitValues a) .refusal) e ∙ through (λ (a : ExitAnswer). (exitValues a) .refusal) (exitCheck p s w) _ _;
-  cell = ap (λ (a : ExitAnswer). (exitValues a) .cell) e ∙ through (λ (a : ExitAnswer). (exitValues a) .cell) (exitCheck p s w) _ _;
+  number = read-off (λ (a : ExitAnswer). (exitValues a) .refusal) (exitCheck p s w) _ _ e;
+  cell = read-off (λ (a : ExitAnswer). (exitValues a) .cell) (exitCheck p s w) _ _ e;
 }
 
 -- a cell found is given, else 12

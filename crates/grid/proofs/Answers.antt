@@ -14,10 +14,10 @@ use Rattle.grid.specs.Check.{after, answer}
 use Rattle.grid.specs.Answer.{cellsAnswer, cellsValues, GivesCells, bytesAnswer, bytesValues, GivesBytes}
 use Rattle.grid.proofs.Facts.{clash}
 
-pub through {ℓ κ} : {A : Type ℓ} {B : Type κ} (f : A → B) (c : Check) (g : Refusal → A) (a : A)
-    → f (answer c g a) ≡ answer c (λ r. f (g r)) (f a)
-through f Good g a = refl
-through f (Refused r) g a = refl
+pub read-off {ℓ κ} : {A : Type ℓ} {B : Type κ} (f : A → B) (c : Check) (g : Refusal → A) (a : A) {r : A} → r ≡ answer c g a
+    → f r ≡ answer c (λ q. f (g q)) (f a)
+read-off f Good g a e = ap f e
+read-off f (Refused s) g a e = ap f e
 
 -- an answer behind two checks, one after the other, is the one behind what they are together
 pub answer-after {ℓ} : {A : Type ℓ} (c d : Check) {k : Check} (f : Refusal → A) (a : A) → after c d ≡ k → answer c f (answer d f a) ≡ answer k f a
@@ -27,15 +27,15 @@ answer-after (Refused r) d f a e = ap (λ (k : Check). answer k f a) e
 pub gives-cells : (c : Check) (k : ℕ) {r : CellsAnswer} → r ≡ cellsAnswer c k → GivesCells c k r
 gives-cells c k e = record {
   answers = e;
-  number = ap (λ (a : CellsAnswer). (cellsValues a) .refusal) e ∙ through (λ (a : CellsAnswer). (cellsValues a) .refusal) c _ _;
-  count = ap (λ (a : CellsAnswer). (cellsValues a) .cells .0) e ∙ through (λ (a : CellsAnswer). (cellsValues a) .cells .0) c _ _;
+  number = read-off (λ (a : CellsAnswer). (cellsValues a) .refusal) c _ _ e;
+  count = read-off (λ (a : CellsAnswer). (cellsValues a) .cells .0) c _ _ e;
 }
 
 pub gives-bytes : (c : Check) (k : ℕ) {r : BytesAnswer} → r ≡ bytesAnswer c k → GivesBytes c k r
 gives-bytes c k e = record {
   answers = e;
-  number = ap (λ (a : BytesAnswer). (bytesValues a) .refusal) e ∙ through (λ (a : BytesAnswer). (bytesValues a) .refusal) c _ _;
-  bytes = ap (λ (a : BytesAnswer). (bytesValues a) .bytes) e ∙ through (λ (a : BytesAnswer). (bytesValues a) .bytes) c _ _;
+  number = read-off (λ (a : BytesAnswer). (bytesValues a) .refusal) c _ _ e;
+  bytes = read-off (λ (a : BytesAnswer). (bytesValues a) .bytes) c _ _ e;
 }
 
 -- an answer that is none of the refusals is the one behind a good check

@@ -6,3 +6,4 @@ pub mod Track
 pub mod Moves
 pub mod Sides
 pub mod Bytes
+pub mod Lists

@@ -16,21 +16,25 @@ abbrev IsFine : Check → Type 0
 IsFine Good = Unit {0}
 IsFine (Refused r) = ⊥
 
+-- a refusal is not "good"
+pub not-good {ℓ} : {A : Type ℓ} {r : Refusal} → Refused r ≡ Good → A
+not-good e = absurd (subst IsFine (sym e) tt)
+
 pub expect-passed : (b : Bool) (r : Refusal) (k : Check) → expect b r k ≡ Good → b ≡ true
 expect-passed true r k e = refl
-expect-passed false r k e = absurd (subst IsFine (sym e) tt)
+expect-passed false r k e = not-good e
 
 pub expect-rest : (b : Bool) (r : Refusal) (k : Check) → expect b r k ≡ Good → k ≡ Good
 expect-rest true r k e = e
-expect-rest false r k e = absurd (subst IsFine (sym e) tt)
+expect-rest false r k e = not-good e
 
 pub after-passed : (c k : Check) → after c k ≡ Good → c ≡ Good
 after-passed Good k e = refl
-after-passed (Refused r) k e = absurd (subst IsFine (sym e) tt)
+after-passed (Refused r) k e = not-good e
 
 pub after-rest : (c k : Check) → after c k ≡ Good → k ≡ Good
 after-rest Good k e = e
-after-rest (Refused r) k e = absurd (subst IsFine (sym e) tt)
+after-rest (Refused r) k e = not-good e
 
 -- both tests of a panel, as one
 pub panel-passed : (p : Panel) → checkPanel p ≡ Good → goodPanel p ≡ true

@@ -55,6 +55,7 @@ pub enum Refusal {
     Pitch,
     BenchSide,
     ProbeBytes,
+    TickBack,
 }
 
 // What a test of the input finds.
@@ -126,6 +127,7 @@ pub fn number_of(r: Refusal) -> u32
         Refusal::Pitch => 18,
         Refusal::BenchSide => 19,
         Refusal::ProbeBytes => 20,
+        Refusal::TickBack => 21,
     }
 }
 

@@ -9,18 +9,17 @@ use mathlib.Core.List.{List, [], _∷_, _++_}
 use lib.Bits.{bitOr, bitXor, or-zero-l, or-add-and, and-le-r, xor-add-and}
 use lib.Dec.{eqb}
 use lib.ListN.{length, getD, set, length-append, length-set}
-use lib.Seq.{drop-set-lt}
 use borrow.Author.Tests.{eqb-true, eqb-false, eq-eqb, ne-eqb}
 use Rattle.grid.specs.declared.Panel.{Panel}
 use Rattle.grid.specs.declared.Cell.{Cell}
-use Rattle.grid.specs.Panel.{cell, GoodSides, area, onPanel, OnPanel, sameCell, neighbours}
+use Rattle.grid.specs.Panel.{cell, GoodSides, onPanel, OnPanel, sameCell, neighbours}
 use Rattle.grid.specs.Bytes.{InBytes}
 use Rattle.grid.proofs.Facts.{test-fails, and-parts, on, is-on}
 use Rattle.list.specs.List.{squaredDistance, allOn, allSteps, among, lastFrom}
 use Rattle.list.proofs.Apart.{step-by-squares}
 use Rattle.list.proofs.Behind.{all-on-append, last-behind, steps-behind, among-behind, none-twice-behind}
 use Rattle.scratch.specs.Scratch.{place, unmarked, Clean}
-use Rattle.scratch.proofs.Places.{place-below}
+use Rattle.scratch.proofs.Places.{put-rest}
 use Rattle.scratch.proofs.Marks.{unmarked-clean, unmarked-set}
 use Rattle.judge_walk.specs.declared.Kept.{Kept}
 use Rattle.judge_walk.specs.Walk.{starts, KeptOn, Stands, Takes}
@@ -163,4 +162,4 @@ module _ (p : Panel) (s c : Cell) {k r : Kept} {marks : List ℕ} where
         met = ap (λ (j : ℕ). eqb (getD marks j 0) 0) e ∙ kept .marked c o
 
     pub takes-on : Takes p s k c marks r (set marks at 1)
-    takes-on = record { next = stands-on; rest = drop-set-lt (area p) marks at 1 (omega (arith, place-below o)) }
+    takes-on = record { next = stands-on; rest = put-rest o e marks 1 }

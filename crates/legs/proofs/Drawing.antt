@@ -4,13 +4,13 @@ use mathlib.Core.Path.{_≡_, refl, sym, ap, _∙_, subst}
 use mathlib.Core.Bool.{Bool, cond}
 use mathlib.Core.List.{List, [], _∷_, _++_, append-nil, append-assoc, reverse}
 use native.Mathlib.Omega.{arith}
-use native.Mathlib.Numerals.{add-one}
 use lib.ListN.{length, take, drop, getD, length-append, take-append-drop}
-use lib.Seq.{take-suc, take-take}
+use lib.Seq.{take-take}
 use borrow.Rule.Slice.PartMut.{putMid}
 use Rattle.grid.specs.declared.Cell.{Cell}
 use Rattle.grid.specs.declared.Cells.{Cells}
 use Rattle.grid.specs.Bytes.{bytes}
+use Rattle.grid.proofs.Lists.{take-next}
 use Rattle.line.specs.Rectangle.{Inside}
 use Rattle.line.specs.Drawn.{written}
 use Rattle.line.proofs.Drawn.{part-behind, part-long, written-long}
@@ -115,11 +115,9 @@ module _ (l k : List Leg) {old : List ℕ} (room : Room (l ++ k) old) where
 
 -- the first i legs of an array are drawn, then the next one, d standing for a leg that is not there
 module _ (l : List Leg) {i : ℕ} (d : Leg) (there : i < length l) where
-  pub first-next : take (i + 1) l ≡ take i l ++ (getD l i d ∷ [])
-  first-next = ap (λ (k : ℕ). take k l) (add-one i) ∙ take-suc l i d there
-
   pub room-next : {n : ℕ} {old : List ℕ} → i < n → Room (take n l) old → Room (take i l ++ (getD l i d ∷ [])) old
   room-next {n} {old} more room =
       let behind = drop (i + 1) (take n l) in
       let whole = subst (λ (k : List Leg). Room k old) (sym (take-append-drop (i + 1) (take n l))) room in
-      subst (λ (k : List Leg). Room k old) (take-take (i + 1) n l (omega arith) ∙ first-next) (room-first (take (i + 1) (take n l)) behind whole)
+      subst (λ (k : List Leg). Room k old) (take-take (i + 1) n l (omega arith) ∙ take-next d l i there)
+      (room-first (take (i + 1) (take n l)) behind whole)

@@ -1,14 +1,15 @@
 -- The tests of a list of cells, each as the fact that it tests, and the other way round: every cell on the panel, each two successive cells
 -- neighbours, no cell twice, a walk from s to t. Together they are the test of a track. Each law goes along the list.
-use mathlib.Core.Path.{_≡_, refl, sym, ap, subst}
+use mathlib.Core.Path.{_≡_, refl, ap, subst}
 use mathlib.Core.Bool.{Bool, true, false, not, _&&_, _||_, false≢true}
 use mathlib.Core.Logic.{_≢_}
 use mathlib.Core.List.{List, [], _∷_}
+use borrow.Author.Tests.{not-true}
 use Rattle.grid.specs.declared.Panel.{Panel}
 use Rattle.grid.specs.declared.Cell.{Cell}
 use Rattle.grid.specs.Panel.{onPanel, OnPanel, Neighbours, sameCell, neighbours}
 use Rattle.grid.specs.Track.{Walk, All, Once, Track}
-use Rattle.grid.proofs.Facts.{and-left, and-right, and-both, on, is-on, next, is-next, same-eq, eq-same, same-ne, ne-same}
+use Rattle.grid.proofs.Facts.{and-left, and-right, and-both, neither, on, is-on, next, is-next, same-eq, eq-same, same-ne, ne-same}
 use Rattle.list.specs.List.{allOn, stepsFrom, allSteps, among, noneTwice, lastFrom, runs}
 
 -- ---- every cell on the panel
@@ -24,19 +25,11 @@ is-all-on (All.more o r) = and-both (is-on o) (is-all-on r)
 -- ---- no cell twice
 
 -- the cell differs from every cell of a list that it does not stand in
-or-left : (a b : Bool) → not (a || b) ≡ true → a ≡ false
-or-left true b e = sym e
-or-left false b e = refl
-
-or-right : (a b : Bool) → not (a || b) ≡ true → not b ≡ true
-or-right true true e = e
-or-right true false e = refl
-or-right false b e = e
-
 not-among : (c : Cell) (l : List Cell) → not (among c l) ≡ true → All (λ d. c ≢ d) l
 not-among c [] e = All.none
 not-among c (d ∷ l) e =
-    All.more (same-ne c d (or-left (sameCell c d) (among c l) e)) (not-among c l (or-right (sameCell c d) (among c l) e))
+    let (here, behind) = neither (sameCell c d) (among c l) (not-true _ e) in
+    All.more (same-ne c d here) (not-among c l (ap not behind))
 
 pub is-not-among : {c : Cell} {l : List Cell} → All (λ d. c ≢ d) l → among c l ≡ false
 is-not-among All.none = refl

@@ -15,9 +15,8 @@ use trial::cells::fill;
 use trial::cells::put;
 use trial::numbers::add;
 use trial::numbers::at_most;
-use trial::numbers::below;
 use trial::numbers::one_less;
-use trial::numbers::scrambled;
+use trial::numbers::pick;
 use trial::plain::Sheet;
 use trial::plain::different;
 use trial::print::named;
@@ -59,17 +58,6 @@ fn previous(a: u32) -> u32 {
 }
 
 // ---- the sequence
-
-// A step of the generator and a sum, whose carries mix what the step's shifts alone keep apart.
-fn mixed(x: u32) -> u32 {
-    add(scrambled(x), 2654435769)
-}
-
-// A made-up number below n: number k of order `code`.
-fn pick(code: u32, k: u32, n: u32) -> u32 {
-    let seed = code % 65536 * 256 + k % 256 + 1;
-    below(n, mixed(mixed(mixed(seed))) / 16)
-}
 
 fn pick_cell(p: Panel, code: u32, k: u32) -> Cell {
     Cell {

@@ -1,34 +1,30 @@
 -- What is known while the probes are marked: the marks stand for those that were taken. A mark is found by its cell alone.
-use Prim.Native.Nat.{ℕ, suc, _+_, _/_, _≤_, _<_}
+use Prim.Native.Nat.{ℕ, _+_, _/_, _≤_, _<_}
 use native.Mathlib.Omega.{arith}
 use mathlib.Core.Path.{_≡_, refl, sym, ap, subst⁻¹, _∙_}
 use mathlib.Core.Bool.{Bool, true, false, cond}
 use mathlib.Core.Logic.{_≢_}
 use mathlib.Core.List.{List, [], _∷_, _++_}
 use lib.ListN.{length, take, drop, getD, set, length-set}
-use lib.Seq.{take-suc, length-take-le, take-length, getD-set-same, getD-set-other, drop-set-lt}
-use borrow.Author.Tests.{eqb-true}
+use lib.Seq.{length-take-le, take-length}
 use Rattle.grid.specs.declared.Panel.{Panel}
 use Rattle.grid.specs.declared.Cell.{Cell}
 use Rattle.grid.specs.Panel.{cell, area, OnPanel, sameCell}
 use Rattle.grid.specs.Bytes.{cellsIn}
-use Rattle.grid.proofs.Facts.{same-eq, same-ne}
+use Rattle.grid.proofs.Facts.{same-eq}
+use Rattle.grid.proofs.Lists.{take-next}
+use Rattle.grid.proofs.Tests.{both-branches}
 use Rattle.list.specs.List.{nth, among}
+use Rattle.list.proofs.Behind.{same-sym}
 use Rattle.list.proofs.Cells.{length-cells}
 use Rattle.list.proofs.Indexed.{on-index}
-use Rattle.scratch.specs.Scratch.{place, Clean}
-use Rattle.scratch.proofs.Marks.{unmarked-clean}
-use Rattle.scratch.proofs.Places.{place-below, place-once}
+use Rattle.scratch.specs.Scratch.{place, held, Clean}
+use Rattle.scratch.proofs.Marks.{held-clean, held-set}
+use Rattle.scratch.proofs.Places.{put-rest}
 use Rattle.probe_walk.specs.Probes.{places, position}
 use Rattle.probe_walk.specs.Search.{Probed, unfound, Marked}
 use Rattle.probe_walk.proofs.Positions.{is-not-on, is-on-list, position-new, position-other, position-old}
 use Rattle.probe_walk.proofs.Unfound.{unfound-marked}
-
--- one cell more of a list
-pub take-next : (l : List Cell) (i : ℕ) → i < length l → take (i + 1) l ≡ take i l ++ nth l i ∷ []
-take-next l i h =
-    let e : i + 1 ≡ suc i = omega arith in
-    ap (λ (k : ℕ). take k l) e ∙ take-suc l i (cell 0 0) h
 
 -- the probe with the number i, from 0
 module _ {p : Panel} {probes : List ℕ} (g : Probed p probes) where
@@ -40,11 +36,6 @@ module _ {p : Panel} {probes : List ℕ} (g : Probed p probes) where
 
   pub probe-inside : (i : ℕ) → i < length probes / 2 → OnPanel p (nth (cellsIn probes) i)
   probe-inside i h = on-index p (cellsIn probes) i (g .on) (probe-below h)
-
--- the place k of a cell is a place of scratch
-pub in-scratch : {p : Panel} {q : List Cell} {scratch : List ℕ} {c : Cell} {k : ℕ} → Marked p q scratch → OnPanel p c → k ≡ place p c
-    → k < length scratch
-in-scratch m o e = omega (arith, m .room, place-below o)
 
 -- the first i probes of q are marked, in scratch that was old
 pub record Marking (p : Panel) (q : List Cell) (old new : List ℕ) (different i : ℕ) : Type 0 where
@@ -58,7 +49,7 @@ pub record Marking (p : Panel) (q : List Cell) (old new : List ℕ) (different i
 pub none-marked : {p : Panel} (q : List Cell) {old : List ℕ} → Clean p old → Marking p q old old 0 0
 none-marked q {old} c = record {
   most = omega arith;
-  marked = record { room = c .room; marks = λ d o. eqb-true _ _ (unmarked-clean old o c) };
+  marked = record { room = c .room; marks = λ d o. held-clean old o c };
   counted = refl;
   few = omega arith;
   size = refl;
@@ -75,7 +66,7 @@ module _ {p : Panel} {q : List Cell} {old new : List ℕ} {different i : ℕ} (m
   t = take i q
 
   next : take (i + 1) q ≡ t ++ c ∷ []
-  next = take-next q i h
+  next = take-next (cell 0 0) q i h
 
   -- its cell, whose place is k, is marked already
   pub marked-before : {k : ℕ} → k ≡ place p c → getD new k 0 ≢ 0 → Marking p q old new different (i + 1)
@@ -103,30 +94,23 @@ module _ {p : Panel} {q : List Cell} {old new : List ℕ} {different i : ℕ} (m
         most = omega arith;
         marked = record {
           room = omega (arith, m .marked .room, length-set new (place p c) (i + 1));
-          marks = λ d on. at-place d on (sameCell d c) refl ∙ ap (position d) (sym next);
+          marks = λ d on. held-set new o (i + 1) (m .marked .room) on ∙ at-place d on ∙ ap (position d) (sym next);
         };
         counted = omega (arith, m .counted, unfound-marked t c);
         few = omega (arith, m .few);
         size = length-set new (place p c) (i + 1) ∙ m .size;
-        rest = drop-set-lt (area p) new (place p c) (i + 1) (place-below o) ∙ m .rest;
+        rest = put-rest o refl new (i + 1) ∙ m .rest;
       }
     where
       fresh : among c t ≡ false
       fresh = is-not-on c t (sym (m .marked .marks c o) ∙ z)
 
-      at-place : (d : Cell) → OnPanel p d → (b : Bool) → sameCell d c ≡ b
-          → getD (set new (place p c) (i + 1)) (place p d) 0 ≡ position d (t ++ c ∷ [])
-      at-place d on true e =
+      at-place : (d : Cell) → OnPanel p d → cond (sameCell c d) (i + 1) (held p new d) ≡ position d (t ++ c ∷ [])
+      at-place d on =
           let here : i + 1 ≡ 1 + length t = omega (arith, length-take-le i q (omega arith)) in
-          ap (λ (a : Cell). getD (set new (place p c) (i + 1)) (place p a) 0) (same-eq d c e)
-          ∙ getD-set-same new (place p c) (i + 1) 0 (omega (arith, place-below o, m .marked .room))
-          ∙ here
-          ∙ sym (position-new c t [] fresh)
-          ∙ ap (λ (a : Cell). position a (t ++ c ∷ [])) (sym (same-eq d c e))
-      at-place d on false e =
-          getD-set-other new (place p c) (place p d) (i + 1) 0 (λ f. same-ne d c e (place-once on o f))
-          ∙ m .marked .marks d on
-          ∙ sym (position-other d t c e)
+          both-branches (λ (k : ℕ). k ≡ position d (t ++ c ∷ [])) (sameCell c d) (i + 1) (held p new d)
+          (λ e. here ∙ sym (position-new c t [] fresh) ∙ ap (λ (a : Cell). position a (t ++ c ∷ [])) (same-eq c d e))
+          (λ e. m .marked .marks d on ∙ sym (position-other d t c (same-sym d c ∙ e)))
 
   -- it is marked now
   pub marked-now : {k : ℕ} → k ≡ place p c → getD new k 0 ≡ 0 → Marking p q old (set new k (i + 1)) (different + 1) (i + 1)

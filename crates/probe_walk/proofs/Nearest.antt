@@ -1,5 +1,5 @@
 -- The nearest cell in the words of the request: a cell of the list, every one before it farther, none behind it nearer.
-use Prim.Native.Nat.{ℕ, suc, _+_, _≤_, _<_}
+use Prim.Native.Nat.{ℕ, _+_, _≤_, _<_}
 use native.Mathlib.Omega.{arith}
 use mathlib.Core.Path.{_≡_, refl, sym, ap, subst, subst⁻¹, _∙_}
 use mathlib.Core.Bool.{cond}
@@ -7,11 +7,11 @@ use mathlib.Core.Logic.{_≢_}
 use mathlib.Core.List.{List, [], _∷_, _++_, append-assoc, append-nil}
 use lib.Dec.{leb}
 use lib.ListN.{length, drop, drop-of-length-le}
-use lib.Seq.{drop-cons}
 use borrow.Author.Tests.{leb-true, leb-false, le-leb, lt-leb}
 use Rattle.grid.specs.declared.Cell.{Cell}
 use Rattle.grid.specs.Panel.{cell, dist}
 use Rattle.grid.specs.Track.{All}
+use Rattle.grid.proofs.Lists.{drop-next}
 use Rattle.grid.proofs.Tests.{both-branches, cond-yes, cond-no}
 use Rattle.grid.proofs.Track.{all-map, all-append}
 use Rattle.list.specs.List.{nth, squaredDistance}
@@ -87,8 +87,7 @@ module _ {c : Cell} {l : List Cell} {near : Cell} {least i : ℕ} (n : Nearer c 
   module _ (h : i < length l) {b : Cell} (e : b ≡ nth l i) where
     next : nearestFrom c (cond (leb (squaredDistance c near) (squaredDistance c b)) near b) (drop (i + 1) l) ≡ nearest c l
     next =
-        let one : suc i ≡ i + 1 = omega arith in
-        let parts = drop-cons l i (cell 0 0) h ∙ (λ j. sym e j ∷ drop (one j) l) in
+        let parts = drop-next (cell 0 0) l i h ∙ ap (λ (a : Cell). a ∷ drop (i + 1) l) (sym e) in
         sym (ap (nearestFrom c near) parts) ∙ n .to-come
 
     pub nearer-kept : least ≤ squaredDistance c b → Nearer c l near least (i + 1)

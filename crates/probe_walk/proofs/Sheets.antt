@@ -7,12 +7,12 @@ use mathlib.Core.List.{List, [], _∷_, _++_, map, map-append, append-assoc}
 use lib.ListN.{length, take, getD, set, replicate, length-append, length-map, List·getD-append}
 use lib.Seq.{length-take-le, take-length, set-at, getD-append-add}
 use Rattle.grid.specs.declared.Cell.{Cell}
-use Rattle.grid.specs.Panel.{sameCell}
+use Rattle.grid.specs.Panel.{cell, sameCell}
 use Rattle.grid.proofs.Facts.{eq-same}
+use Rattle.grid.proofs.Lists.{take-next}
 use Rattle.list.specs.List.{nth, among}
 use Rattle.probe_walk.specs.Probes.{places, placed, position, positions}
 use Rattle.probe_walk.specs.Search.{Noted, notedPositions}
-use Rattle.probe_walk.proofs.Marks.{take-next}
 use Rattle.probe_walk.proofs.Positions.{some-position}
 
 -- one place more is used
@@ -36,7 +36,7 @@ module _ {A : Type 0} (z : A) (f : Cell → A) (q : List Cell) where
   pub fill-next : (i : ℕ) {a : A} → i < length q → length q ≤ places → a ≡ f (nth q i) → set (filled i) i a ≡ filled (i + 1)
   fill-next i {a} h few e =
       let n : length (map f (take i q)) ≡ i = length-map (take i q) f ∙ length-take-le i q (omega arith) in
-      let more = ap (map f) (take-next q i h) ∙ map-append f (take i q) (nth q i ∷ []) in
+      let more = ap (map f) (take-next (cell 0 0) q i h) ∙ map-append f (take i q) (nth q i ∷ []) in
       place-next z (map f (take i q)) a i n (omega arith)
       ∙ ap (λ (b : A). placed z (map f (take i q) ++ b ∷ [])) e
       ∙ ap (placed z) (sym more)

@@ -2,37 +2,22 @@
 use Prim.Native.Nat.{ℕ, suc, _+_, _≤_, max}
 use native.Mathlib.Omega.{arith}
 use mathlib.Core.Path.{_≡_, refl, sym, ap, _∙_}
-use mathlib.Core.Bool.{Bool, true, false, cond, _&&_, _||_, true≢false, false≢true, and-false}
-use mathlib.Core.Logic.{_≢_}
+use mathlib.Core.Bool.{Bool, true, false, cond, _&&_, _||_, false≢true, and-false}
 use mathlib.Core.List.{List, [], _∷_, _++_}
 use lib.Dec.{eqb}
 use lib.ListN.{length, take, drop, take-append-drop, length-take}
 use borrow.Author.Tests.{eqb-true, eqb-false, eq-eqb, ne-eqb}
 use Rattle.grid.specs.declared.Cell.{Cell}
 use Rattle.grid.specs.Panel.{cell, sameCell}
-use Rattle.grid.proofs.Facts.{and-parts, and-both, same-eq, eq-same}
+use Rattle.grid.proofs.Facts.{neither, and-parts, and-both, same-eq, eq-same}
 use Rattle.grid.proofs.Tests.{both-branches, cond-yes, cond-no}
 use Rattle.list.specs.List.{among}
-use Rattle.list.proofs.Behind.{among-behind}
+use Rattle.list.proofs.Behind.{among-append, among-behind, by-head}
 use Rattle.probe_walk.specs.Probes.{position, allAmong, furthest, cellsRead}
 use Rattle.probe_walk.specs.Search.{unfound}
 use Rattle.probe_walk.proofs.Positions.{position-by, position-small}
 
 -- ---- cells of a list
-
-or-false : (a b : Bool) → (a || b) ≡ false → (a ≡ false) × (b ≡ false)
-or-false true b e = absurd (true≢false e)
-or-false false b e = (refl, e)
-
--- a cell that is the head of a list, or else stands behind it
-by-head : {P : Type 0} (c d : Cell) (q : List Cell) → among c (d ∷ q) ≡ true
-    → (c ≡ d → among c q ≡ false → P) → (among c q ≡ true → P) → P
-by-head {P} c d q e here behind = go (among c q) (sameCell c d) refl refl e
-  where
-    go : (a b : Bool) → among c q ≡ a → sameCell c d ≡ b → (b || a) ≡ true → P
-    go true b f g h = behind f
-    go false true f g h = here (same-eq c d g) f
-    go false false f g h = absurd (false≢true h)
 
 -- a cell that is not the one behind a list stands in both or in neither
 among-other : (d : Cell) (l : List Cell) (c : Cell) → sameCell c d ≡ false → among d (l ++ c ∷ []) ≡ among d l
@@ -42,12 +27,7 @@ among-last : (l : List Cell) (c : Cell) → among c (l ++ c ∷ []) ≡ true
 among-last l c = among-behind c l c ∙ ap (λ (b : Bool). b || among c l) (eq-same {a = c} refl)
 
 among-front : (c : Cell) (l m : List Cell) → among c l ≡ true → among c (l ++ m) ≡ true
-among-front c [] m e = absurd (false≢true e)
-among-front c (d ∷ l) m e = go (sameCell c d) e (among-front c l m)
-  where
-    go : (b : Bool) → (b || among c l) ≡ true → (among c l ≡ true → among c (l ++ m) ≡ true) → (b || among c (l ++ m)) ≡ true
-    go true f rest = refl
-    go false f rest = rest f
+among-front c l m e = among-append c l m ∙ ap (λ (b : Bool). b || among c m) e
 
 -- ---- those still to be found
 
@@ -59,7 +39,7 @@ more c q l = cond (among c q) 0 (cond (among c l) 0 1)
 pub unfound-other : (q l : List Cell) (c : Cell) → among c q ≡ false → unfound q (l ++ c ∷ []) ≡ unfound q l
 unfound-other [] l c e = refl
 unfound-other (d ∷ q) l c e =
-    let (n, f) = or-false (sameCell c d) (among c q) e in
+    let (n, f) = neither (sameCell c d) (among c q) e in
     λ i. cond (among d q) 0 (cond (among-other d l c n i) 0 1) + unfound-other q l c f i
 
 -- one that is probed and new is one less

@@ -11,12 +11,12 @@ use lib.ListN.{length, take, drop, getD, set, replicate, take-append-drop, getD-
 use lib.Seq.{length-take-le, take-length, getD-set-same, getD-set-other}
 use borrow.Author.Tests.{eq-eqb, eqb-true}
 use Rattle.grid.specs.declared.Cell.{Cell}
-use Rattle.grid.specs.Panel.{sameCell}
+use Rattle.grid.specs.Panel.{cell, sameCell}
 use Rattle.grid.proofs.Facts.{same-eq, same-ne, ne-same}
+use Rattle.grid.proofs.Lists.{take-next}
 use Rattle.list.specs.List.{nth, among}
 use Rattle.probe_walk.specs.Probes.{places, position, allAmong, furthest, cellsRead}
 use Rattle.probe_walk.specs.Search.{unfound, Noted}
-use Rattle.probe_walk.proofs.Marks.{take-next}
 use Rattle.probe_walk.proofs.Positions.{is-on-list, position-by, position-new, position-other, place-given, position-once}
 use Rattle.probe_walk.proofs.Unfound.{member, unfound-other, unfound-one, unfound-none, furthest-none, furthest-last, read-stopped, read-all}
 
@@ -52,7 +52,7 @@ module _ {q l : List Cell} {found : List ℕ} {left read : ℕ} (w : Walking q l
   t = take read l
 
   next : take (read + 1) l ≡ t ++ c ∷ []
-  next = take-next l read h
+  next = take-next (cell 0 0) l read h
 
   -- is not probed
   pub passed-over : left ≢ 0 → among c q ≡ false → Walking q l found left (read + 1)

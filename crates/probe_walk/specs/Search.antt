@@ -9,7 +9,7 @@ use Rattle.grid.specs.declared.Cell.{Cell}
 use Rattle.grid.specs.Panel.{goodSides, area, OnPanel}
 use Rattle.grid.specs.Bytes.{cellsIn}
 use Rattle.list.specs.List.{allOn, among, noneTwice}
-use Rattle.scratch.specs.Scratch.{place}
+use Rattle.scratch.specs.Scratch.{held}
 use Rattle.probe_walk.specs.declared.Found.{Found}
 use Rattle.probe_walk.specs.Probes.{position, cellsRead, places, placed, positions}
 
@@ -34,7 +34,7 @@ unfound (c ∷ q) l = cond (among c q) 0 (cond (among c l) 0 1) + unfound q l
 -- each place of scratch holds the position of its cell among the probes, 0 where it is not probed
 pub record Marked (p : Panel) (q : List Cell) (scratch : List ℕ) : Type 0 where
   pub room : area p ≤ length scratch
-  pub marks : (c : Cell) → OnPanel p c → getD scratch (place p c) 0 ≡ position c q
+  pub marks : (c : Cell) → OnPanel p c → held p scratch c ≡ position c q
 
 -- at the first probe of each cell, the cell's position on the list
 pub record Noted (q l : List Cell) (found : List ℕ) : Type 0 where

@@ -10,7 +10,7 @@ use Rattle.grid.specs.declared.Check.the-variants.{Good}
 use Rattle.grid.specs.declared.CellsAnswer.{CellsAnswer}
 use Rattle.grid.specs.Check.{answer}
 use Rattle.grid.specs.Answer.{cellsAnswer}
-use Rattle.grid.proofs.Answers.{through}
+use Rattle.grid.proofs.Answers.{read-off}
 use Rattle.grid.proofs.Facts.{clash}
 use Rattle.grid.proofs.Passed.{expect-passed, after-passed, after-rest}
 use Rattle.grid.proofs.Tests.{after-good}
@@ -59,7 +59,7 @@ module _ (file old : List ℕ) {r : ReadAnswer} (e : r ≡ readAnswer file old) 
   part : (f : ReadAnswer → ℕ)
       → let found = Given (panelIn file) (record { 0 = length (cellsRead file) }) (headLength + stepsIn file) in
       f r ≡ answer (checkRead file old) (λ s. f (Refused s)) (f found)
-  part f = ap f e ∙ through f (checkRead file old) _ _
+  part f = read-off f (checkRead file old) _ _ e
 
   pub reads : {new : List ℕ} → new ≡ readBuffer file old → Reads file old new r
   reads b = record {

@@ -12,11 +12,12 @@ use Rattle.grid.specs.declared.Panel.{Panel}
 use Rattle.grid.specs.declared.Refusal.{Refusal}
 use Rattle.grid.specs.Panel.{OnPanel, onPanel, goodPanel}
 use Rattle.grid.proofs.Facts.{and-parts, and-both, good, on, is-on}
+use Rattle.grid.proofs.Lists.{drop-next}
 use Rattle.list.specs.List.{allOn}
 use Rattle.step_letters.specs.declared.Stepped.the-variants.{Refused}
 use Rattle.step_letters.specs.Letters.{north, east, south, known, stepped, stepBy, walkOn, largestPanel}
 use Rattle.step_letters.proofs.Laws.{byte-refused}
-use Rattle.step_letters.proofs.Lists.{bytes-more, put-byte}
+use Rattle.step_letters.proofs.Lists.{put-byte}
 
 -- ---- cells
 
@@ -57,7 +58,7 @@ length-walk c (b ∷ l) = ap suc (length-walk (stepped c b) l)
 -- the cell that the letter at i leads to, and those behind it
 pub walk-more : (l : List ℕ) (i : ℕ) (c : Cell) {d : Cell} → i < length l → stepped c (getD l i 0) ≡ d
     → walkOn c (drop i l) ≡ d ∷ walkOn d (drop (i + 1) l)
-walk-more l i c h e = ap (walkOn c) (bytes-more l i h) ∙ ap (λ (d : Cell). d ∷ walkOn d (drop (i + 1) l)) e
+walk-more l i c h e = ap (walkOn c) (drop-next 0 l i h) ∙ ap (λ (d : Cell). d ∷ walkOn d (drop (i + 1) l)) e
 
 -- ---- a buffer: what is still to be written from k on, up to n
 

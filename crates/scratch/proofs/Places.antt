@@ -5,6 +5,9 @@ use native.Mathlib.Nat.{mul-le-mul-right, suc-mul, mul-comm, le-antisymm}
 use native.Mathlib.Decide.{decLe}
 use mathlib.Core.Path.{_≡_, sym, ap}
 use mathlib.Core.Logic.{by-cases}
+use mathlib.Core.List.{List}
+use lib.ListN.{drop, set}
+use lib.Seq.{drop-set-lt}
 use Rattle.grid.specs.declared.Panel.{Panel}
 use Rattle.grid.specs.declared.Cell.{Cell}
 use Rattle.grid.specs.Panel.{area, OnPanel}
@@ -20,6 +23,14 @@ row-lt m r q r′ q′ h k = omega (arith, mul-le-mul-right m h, suc-mul r m)
 
 pub place-below : {p : Panel} {c : Cell} → OnPanel p c → place p c < area p
 place-below {p} {c} o = row-below (p .width) (p .height) (c .y - 1) (c .x - 1) (omega arith) (omega arith)
+
+-- so a place is one of scratch, and what is put there leaves the bytes behind the panel's places
+module _ {p : Panel} {c : Cell} (o : OnPanel p c) {at : ℕ} (e : at ≡ place p c) where
+  pub place-in : {k : ℕ} → area p ≤ k → at < k
+  place-in h = omega (arith, place-below o)
+
+  pub put-rest : (s : List ℕ) (v : ℕ) → drop (area p) (set s at v) ≡ drop (area p) s
+  put-rest s v = drop-set-lt (area p) s at v (place-in (omega arith))
 
 -- of two cells in one place neither is in a row above the other
 place-row : {p : Panel} {c d : Cell} → OnPanel p c → OnPanel p d → place p c ≡ place p d → d .y ≤ c .y

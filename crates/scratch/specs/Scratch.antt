@@ -13,9 +13,13 @@ use Rattle.grid.specs.Panel.{area}
 abbrev pub place : Panel → Cell → ℕ
 place p c = (c .y - 1) * p .width + (c .x - 1)
 
--- the place of a cell holds 0
+-- what the place of a cell holds
+abbrev pub held : Panel → List ℕ → Cell → ℕ
+held p s c = getD s (place p c) 0
+
+-- it holds 0
 abbrev pub unmarked : Panel → List ℕ → Cell → Bool
-unmarked p s c = eqb (getD s (place p c) 0) 0
+unmarked p s c = eqb (held p s c) 0
 
 -- scratch with its first k bytes 0 and the rest untouched
 abbrev pub zerosFor : ℕ → List ℕ → List ℕ

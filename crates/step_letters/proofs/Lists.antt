@@ -4,8 +4,8 @@ use mathlib.Core.Path.{_≡_, refl, sym, ap, ap₂, _∙_}
 use mathlib.Core.List.{List, [], _∷_, _++_}
 use native.Mathlib.Numerals.{add-one}
 use native.Mathlib.Omega.{arith}
-use lib.ListN.{length, take, drop, getD, set, take-append-drop}
-use lib.Seq.{drop-cons, take-suc-set, drop-set-lt, append-snoc}
+use lib.ListN.{length, take, drop, set, take-append-drop}
+use lib.Seq.{take-suc-set, drop-set-lt, append-snoc}
 use Rattle.grid.specs.declared.Cell.{Cell}
 use Rattle.grid.specs.Bytes.{cellsIn}
 use Rattle.list.specs.List.{cellAt}
@@ -13,10 +13,6 @@ use Rattle.list.proofs.Cells.{pairs-more, pairs-end}
 use Rattle.step_letters.specs.Letters.{letter, lettersFrom, lettersOf, stepsOf}
 
 -- ---- lists
-
--- the byte at i, and those behind it
-pub bytes-more : (l : List ℕ) (i : ℕ) → i < length l → drop i l ≡ getD l i 0 ∷ drop (i + 1) l
-bytes-more l i h = rw (add-one, drop-cons l i 0)
 
 pub bytes-end : (l : List ℕ) (i : ℕ) → length l ≤ i → drop i l ≡ []
 bytes-end l i h = lib.ListN.drop-of-length-le l h

@@ -1,14 +1,15 @@
 -- Bytes that begin with a text: the text and the bytes behind it, and the other way round; and one byte of the text after another.
-use Prim.Native.Nat.{ℕ, suc, _+_, _≤_, _<_}
+use Prim.Native.Nat.{ℕ, _+_, _≤_, _<_}
 use mathlib.Core.Path.{_≡_, refl, sym, ap, _∙_}
 use mathlib.Core.Bool.{Bool, true, false, _&&_, false≢true}
 use mathlib.Core.List.{List, [], _∷_, _++_}
 use native.Mathlib.Omega.{arith}
 use lib.ListN.{length, drop, getD, length-append}
-use lib.Seq.{drop-cons, drop-drop, drop-append-seam}
+use lib.Seq.{drop-drop, drop-append-seam}
 use lib.Dec.{eqb}
 use borrow.Author.Tests.{eqb-true, eq-eqb}
 use Rattle.grid.proofs.Facts.{and-parts, and-both}
+use Rattle.grid.proofs.Lists.{drop-next}
 use Rattle.grid.proofs.Tests.{cond-yes, cond-no}
 use Rattle.text.specs.Front.{begins, behindText}
 
@@ -67,7 +68,6 @@ module _ (t file : List ℕ) (at : ℕ) where
 module _ (t l : List ℕ) (at i : ℕ) (h : i < length t) (g : at + i < length l) where
   pub front-turn : begins (drop i t) (drop (at + i) l) ≡ (eqb (getD l (at + i) 0) (getD t i 0) && begins (drop (i + 1) t) (drop (at + (i + 1)) l))
   front-turn =
-      let one : suc i ≡ i + 1 = omega arith in
-      let e : suc (at + i) ≡ at + (i + 1) = omega arith in
-      (λ j. begins (drop-cons t i 0 h j) (drop-cons l (at + i) 0 g j))
-      ∙ (λ j. eqb (getD l (at + i) 0) (getD t i 0) && begins (drop (one j) t) (drop (e j) l))
+      let e : at + i + 1 ≡ at + (i + 1) = omega arith in
+      (λ j. begins (drop-next 0 t i h j) (drop-next 0 l (at + i) g j))
+      ∙ ap (λ (k : ℕ). eqb (getD l (at + i) 0) (getD t i 0) && begins (drop (i + 1) t) (drop k l)) e

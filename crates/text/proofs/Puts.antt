@@ -6,7 +6,8 @@ use native.Mathlib.Omega.{arith}
 use native.Mathlib.Numerals.{add-one}
 use native.Mathlib.Nat.{add-zero}
 use lib.ListN.{length, take, drop, set, getD, length-append, length-drop, length-set, take-append-drop}
-use lib.Seq.{take-suc, drop-cons, getD-set-same, drop-set-lt, set-split, take-at, drop-append-add, drop-drop, length-take-le}
+use lib.Seq.{drop-cons, getD-set-same, drop-set-lt, set-split, take-at, drop-append-add, drop-drop, length-take-le}
+use Rattle.grid.proofs.Lists.{take-next}
 use Rattle.text.specs.Decimal.{digit, decimal}
 use Rattle.text.specs.Field.{blank, fieldOf}
 use Rattle.text.specs.Put.{put, Put}
@@ -57,11 +58,10 @@ put-next out at t i h g =
     let begun = put out at (take i t) in
     let size : length (take i t) ≡ i = length-take-le i t (omega arith) in
     let here : at + i ≡ at + length (take i t) = omega arith in
-    let more : take i t ++ (b ∷ []) ≡ take (i + 1) t = sym (take-suc t i 0 h) ∙ ap (λ (k : ℕ). take k t) (sym (add-one i)) in
     put-one begun (at + i) b (omega (arith, length-put out at (take i t) (omega arith)))
     ∙ ap (λ (k : ℕ). put begun k (b ∷ [])) here
     ∙ put-both out at (take i t) (b ∷ []) (omega (arith, length-append (take i t) (b ∷ [])))
-    ∙ ap (put out at) more
+    ∙ ap (put out at) (sym (take-next 0 t i h))
 
 -- the same text, told otherwise
 pub puts-is : {out : List ℕ} {at : ℕ} {t u : List ℕ} {after : List ℕ} {next : ℕ} → t ≡ u → Put out at t after next → Put out at u after next

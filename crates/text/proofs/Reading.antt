@@ -4,13 +4,12 @@ use mathlib.Core.Path.{_≡_, refl, sym, ap, _∙_}
 use mathlib.Core.Bool.{Bool, true, false}
 use mathlib.Core.List.{List, [], _∷_}
 use native.Mathlib.Omega.{arith}
-use native.Mathlib.Numerals.{add-one}
 use lib.ListN.{length, drop, getD, drop-of-length-le}
-use lib.Seq.{drop-cons}
 use lib.Dec.{leb, eqb}
 use borrow.Author.Tests.{leb-true, le-leb, lt-leb, eq-eqb, ne-eqb}
 use Rattle.grid.proofs.Tests.{and-yes, and-no, cond-yes, cond-no}
 use Rattle.grid.proofs.Facts.{and-left, and-right, and-both}
+use Rattle.grid.proofs.Lists.{drop-next}
 use Rattle.text.specs.Decimal.{zeroByte, isDigit}
 use Rattle.text.specs.declared.Number.{Number}
 use Rattle.text.specs.declared.Number.the-variants.{Bad, Until}
@@ -29,9 +28,6 @@ pub is-digit : (b : ℕ) → zeroByte ≤ b → b ≤ 57 → isDigit b ≡ true
 is-digit b l h = and-both (le-leb zeroByte b l) (le-leb b 57 h)
 
 -- ---- the byte at a position
-
-here : (l : List ℕ) (i : ℕ) → i < length l → drop i l ≡ getD l i 0 ∷ drop (i + 1) l
-here l i h = drop-cons l i 0 h ∙ ap (λ (n : ℕ). getD l i 0 ∷ drop n l) (sym (add-one i))
 
 behind : (l : List ℕ) (i : ℕ) → length l ≤ i → drop i l ≡ []
 behind l i h = drop-of-length-le l h
@@ -54,10 +50,10 @@ module _ (e v : ℕ) where
     end-none h = at (behind l i h) refl
 
     pub end-here : v ≤ largestNumber → i < length l → getD l i 0 ≡ e → value v (drop (i + 1) l) ≡ ended e (value v (drop i l))
-    end-here small h q = at (here l i h) (ends (getD l i 0) (drop (i + 1) l) small q)
+    end-here small h q = at (drop-next 0 l i h) (ends (getD l i 0) (drop (i + 1) l) small q)
 
     pub end-other : v ≤ largestNumber → i < length l → (getD l i 0 ≡ e → ⊥) → nothing ≡ ended e (value v (drop i l))
-    end-other small h q = at (here l i h) (ends-not (getD l i 0) (drop (i + 1) l) small q)
+    end-other small h q = at (drop-next 0 l i h) (ends-not (getD l i 0) (drop (i + 1) l) small q)
 
 -- ---- the digits of a number
 
@@ -66,11 +62,11 @@ module _ (v : ℕ) (l : List ℕ) (i : ℕ) where
   digits-end h = ap (value v) (behind l i h) ∙ ap (moreDigits v) (sym (behind l i h))
 
   pub digits-stop : i < length l → isDigit (getD l i 0) ≡ false → value v (drop i l) ≡ moreDigits v (drop i l)
-  digits-stop h q = ap (value v) (here l i h) ∙ cond-no _ _ q refl ∙ ap (moreDigits v) (sym (here l i h))
+  digits-stop h q = ap (value v) (drop-next 0 l i h) ∙ cond-no _ _ q refl ∙ ap (moreDigits v) (sym (drop-next 0 l i h))
 
   pub digits-more : i < length l → isDigit (getD l i 0) ≡ true
       → moreDigits (10 * v + (getD l i 0 - zeroByte)) (drop (i + 1) l) ≡ moreDigits v (drop i l)
-  digits-more h q = cond-yes _ (value v (getD l i 0 ∷ drop (i + 1) l)) q refl ∙ ap (moreDigits v) (sym (here l i h))
+  digits-more h q = cond-yes _ (value v (getD l i 0 ∷ drop (i + 1) l)) q refl ∙ ap (moreDigits v) (sym (drop-next 0 l i h))
 
 -- more digits do not make a number less
 pub too-large : (e v : ℕ) (l : List ℕ) → largestNumber < v → nothing ≡ ended e (moreDigits v l)
@@ -92,14 +88,14 @@ module _ (e : ℕ) (l : List ℕ) (i : ℕ) where
 
   module _ (h : i < length l) where
     pub field-zero : getD l i 0 ≡ zeroByte → ended e (value 0 (drop (i + 1) l)) ≡ field e (drop i l)
-    field-zero q = ap (ended e) (cond-yes _ _ (eq-eqb _ _ q) refl) ∙ ap (field e) (sym (here l i h))
+    field-zero q = ap (ended e) (cond-yes _ _ (eq-eqb _ _ q) refl) ∙ ap (field e) (sym (drop-next 0 l i h))
 
     pub field-other : (getD l i 0 ≡ zeroByte → ⊥) → isDigit (getD l i 0) ≡ false → nothing ≡ field e (drop i l)
-    field-other n q = ap (ended e) (cond-no _ _ (ne-eqb _ _ n) (cond-no _ _ q refl)) ∙ ap (field e) (sym (here l i h))
+    field-other n q = ap (ended e) (cond-no _ _ (ne-eqb _ _ n) (cond-no _ _ q refl)) ∙ ap (field e) (sym (drop-next 0 l i h))
 
     pub field-digits : (getD l i 0 ≡ zeroByte → ⊥) → isDigit (getD l i 0) ≡ true
         → ended e (moreDigits (getD l i 0 - zeroByte) (drop (i + 1) l)) ≡ field e (drop i l)
-    field-digits n q = ap (ended e) (cond-no _ _ (ne-eqb _ _ n) (cond-yes _ _ q refl)) ∙ ap (field e) (sym (here l i h))
+    field-digits n q = ap (ended e) (cond-no _ _ (ne-eqb _ _ n) (cond-yes _ _ q refl)) ∙ ap (field e) (sym (drop-next 0 l i h))
 
 -- ---- what a number read at a position goes on to
 

@@ -14,7 +14,7 @@ use Rattle.grid.specs.declared.Cell.{Cell}
 use Rattle.grid.specs.Panel.{cell, onPanel, OnPanel}
 use Rattle.grid.proofs.Facts.{clash, sides, is-on}
 use Rattle.list.specs.List.{allOn}
-use Rattle.scratch.proofs.Places.{place-below}
+use Rattle.scratch.proofs.Places.{place-in}
 use Rattle.judge_walk.proofs.Next.{step-kept, is-off, in-bytes, kept-in-bytes, takes-off, first, later, takes-on}
 use Rattle.judge_walk.proofs.take_cell.Statement.{statement}
 use Rattle.judge_walk.proofs.take_cell.Tie as tie
@@ -57,7 +57,7 @@ place-of-requires c κs = (is-on (on-it c), begin c .pre .0)
 
 module _ (c : tie.After-place-of) where
   in-scratch : c .place-of .result < length (begin (c .before) .args .scratch .now)
-  in-scratch = omega (arith, c .place-of .ensures, place-below (on-it (c .before)), begin (c .before) .pre .1 .0 .stands .room)
+  in-scratch = place-in (on-it (c .before)) (c .place-of .ensures) (begin (c .before) .pre .1 .0 .stands .room)
 
 slice-read-noted : tie.Need-slice-read-noted
 slice-read-noted c = in-scratch (c .before)

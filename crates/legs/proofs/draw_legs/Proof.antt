@@ -9,7 +9,8 @@ use Rattle.grid.specs.Panel.{cell}
 use Rattle.plan.specs.declared.Leg.{Leg}
 use Rattle.plan.specs.Leg.{forth}
 use Rattle.plan.specs.Drawing.{Room, Written}
-use Rattle.legs.proofs.Drawing.{long, room-first, room-next, first-next, start-fits, room-rest, sum-most, written-rest}
+use Rattle.grid.proofs.Lists.{take-next}
+use Rattle.legs.proofs.Drawing.{long, room-first, room-next, start-fits, room-rest, sum-most, written-rest}
 use Rattle.legs.proofs.draw_legs.Statement.{statement}
 use Rattle.legs.proofs.draw_legs.Tie as tie
 
@@ -95,7 +96,7 @@ loop-again c =
     let leg = c .before .before .before in
     let t = leg .before .before .before in
     let w = written-rest (drawn t) (next t) (room t) (t .before .loop .inv .1) (leg .draw-leg .ensures) refl in
-    (omega arith, rw (first-next (entry t .args .t1) none (there t)) w)
+    (omega arith, rw (take-next none (entry t .args .t1) _ (there t)) w)
 
 -- the loop is left where i is n
 done : (c : tie.After-loop Inv-loop μ-loop) → let s = c .before .before .before in

@@ -6,7 +6,8 @@ use Rattle.grid.specs.Panel.{OnPanel}
 use Rattle.grid.specs.Bytes.{cellsIn}
 use Rattle.list.specs.List.{nth}
 use Rattle.list.proofs.Cells.{length-cells}
-use Rattle.probe_walk.proofs.Marks.{few-probes, probe-below, probe-inside, in-scratch}
+use Rattle.scratch.proofs.Places.{place-in}
+use Rattle.probe_walk.proofs.Marks.{few-probes, probe-below, probe-inside}
 use Rattle.probe_walk.proofs.Marks.{Marking, none-marked, marked-before, marked-now, all-marked, all-counted}
 use Rattle.probe_walk.proofs.mark_probes.Statement.{statement}
 use Rattle.probe_walk.proofs.mark_probes.Tie as tie
@@ -38,7 +39,7 @@ place-at-requires : tie.Need-place-at-requires Inv-loop μ-loop
 place-at-requires c κs = (start c .pre .0 .good, (start c .pre .0 .on, below c))
 
 placed : (c : tie.After-place-at Inv-loop μ-loop) → c .place-at .result < length (c .before .before .loop .scratch)
-placed c = in-scratch (c .before .before .loop .inv .marked) (inside (c .before)) (c .place-at .ensures)
+placed c = place-in (inside (c .before)) (c .place-at .ensures) (c .before .before .loop .inv .marked .room)
 
 add-i : tie.Need-add-i Inv-loop μ-loop
 add-i c = omega (arith, few (c .before))

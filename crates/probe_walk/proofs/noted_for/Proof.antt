@@ -10,9 +10,10 @@ use Rattle.grid.specs.Bytes.{cellsIn}
 use Rattle.list.specs.List.{nth}
 use Rattle.list.proofs.Cells.{length-cells}
 use Rattle.list.proofs.Indexed.{among-index}
+use Rattle.scratch.proofs.Places.{place-in}
 use Rattle.probe_walk.specs.Probes.{position}
 use Rattle.probe_walk.proofs.Positions.{some-position, position-small}
-use Rattle.probe_walk.proofs.Marks.{few-probes, probe-below, probe-inside, in-scratch}
+use Rattle.probe_walk.proofs.Marks.{few-probes, probe-below, probe-inside}
 use Rattle.probe_walk.proofs.Sheets.{filled, fill-next, fill-all}
 use Rattle.probe_walk.proofs.noted_for.Statement.{statement}
 use Rattle.probe_walk.proofs.noted_for.Tie as tie
@@ -77,7 +78,7 @@ module _ (c : tie.After-place-at Inv-loop μ-loop) where
 shared-slice-read-first : tie.Need-shared-slice-read-first Inv-loop μ-loop
 shared-slice-read-first c =
     let t = c .before .before in
-    in-scratch (start t .pre .1 .0) (inside t) (c .before .place-at .ensures)
+    place-in (inside t) (c .before .place-at .ensures) (start t .pre .1 .0 .room)
 
 cast-first : tie.Need-cast-first Inv-loop μ-loop
 cast-first c = omega (arith, c .shared-slice-known4 .given (c .before .place-at .result) .fits)

@@ -13,10 +13,11 @@ use Rattle.grid.specs.Bytes.{cellsIn}
 use Rattle.list.specs.List.{nth, among}
 use Rattle.list.proofs.Cells.{length-cells}
 use Rattle.list.proofs.Indexed.{on-index, new-index}
+use Rattle.scratch.proofs.Places.{place-in}
 use Rattle.probe_walk.specs.Probes.{places, position}
 use Rattle.probe_walk.specs.Search.{Marked}
 use Rattle.probe_walk.proofs.Positions.{is-not-on, place-given}
-use Rattle.probe_walk.proofs.Marks.{few-probes, in-scratch}
+use Rattle.probe_walk.proofs.Marks.{few-probes}
 use Rattle.probe_walk.proofs.Walks.{Walking, none-read, passed-over, found-now, stopped-noted, stopped-read, ended-noted, ended-read}
 use Rattle.probe_walk.proofs.walk.Statement.{statement}
 use Rattle.probe_walk.proofs.walk.Tie as tie
@@ -126,7 +127,7 @@ module _ (c : tie.After-place-at Inv-loop μ-loop) where
         )
 
 slice-read-mark : tie.Need-slice-read-mark Inv-loop μ-loop
-slice-read-mark c = let t = turn (c .before) in in-scratch (marks (known t)) (inside t) (c .before .place-at .ensures)
+slice-read-mark c = let t = turn (c .before) in place-in (inside t) (c .before .place-at .ensures) (marks (known t) .room)
 
 cast-mark : tie.Need-cast-mark Inv-loop μ-loop
 cast-mark c = omega (arith, c .slice-known4 .given (c .before .place-at .result) .fits)

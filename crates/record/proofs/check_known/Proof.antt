@@ -7,11 +7,12 @@ use mathlib.Core.List.{List}
 use native.Mathlib.Omega.{arith}
 use lib.ListN.{length, drop, getD}
 use denote.Ref.{now}
+use Rattle.grid.proofs.Lists.{drop-next}
 use Rattle.grid.proofs.Tests.{expect-yes, expect-no, turn-failed, turn-passed}
 use Rattle.grid.specs.declared.Check.the-variants.{Refused}
 use Rattle.step_letters.specs.Letters.{known, allKnown}
 use Rattle.step_letters.proofs.Laws.{byte-refused, byte-leads}
-use Rattle.step_letters.proofs.Lists.{bytes-more, bytes-end}
+use Rattle.step_letters.proofs.Lists.{bytes-end}
 use Rattle.record.proofs.check_known.Statement.{statement}
 use Rattle.record.proofs.check_known.Tie as tie
 
@@ -30,7 +31,7 @@ byte c = getD (L c) (c .loop .i) 0
 -- a turn tests one byte, and leaves those behind it
 turn : (c : tie.In-loop Inv-loop μ-loop) → let at-loop = c .before in
     allKnown (drop (at-loop .loop .i) (L at-loop)) ≡ (known (byte at-loop) && allKnown (drop (at-loop .loop .i + 1) (L at-loop)))
-turn c = ap allKnown (bytes-more (L (c .before)) (c .before .loop .i) (c .loop-test .taken))
+turn c = ap allKnown (drop-next 0 (L (c .before)) (c .before .loop .i) (c .loop-test .taken))
 
 loop-holds : tie.Need-loop-holds Inv-loop μ-loop
 loop-holds c = (omega arith, refl)

@@ -1,0 +1,4 @@
+pub mod Examples
+pub mod Entries
+pub mod Turns
+pub mod Marks
