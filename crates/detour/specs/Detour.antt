@@ -1,6 +1,6 @@
 -- Document 02, R-12: the two cells beside a step, and an edit, which puts such a detour into a list of cells or takes it out. Places count from 1.
 use Prim.Native.Nat.{ℕ, _+_, _-_, _*_}
-use mathlib.Core.Bool.{Bool, not, cond, _&&_}
+use mathlib.Core.Bool.{Bool, true, false, not, cond, _&&_}
 use mathlib.Core.List.{List, [], _∷_, _++_}
 use lib.Dec.{leb}
 use lib.ListN.{length, take, drop, replicate}
@@ -56,7 +56,15 @@ isDetour left k l =
 
 -- ---- an edit: a bulge or a press, at a place and on a side
 
--- the list after it
+-- a bulge
+abbrev pub bulgeAt : ℕ → Bool → Edit
+bulgeAt k left = record { place = k; bulge = true; left = left }
+
+-- a press, on the side where the detour is
+abbrev pub pressAt : ℕ → List Cell → Edit
+pressAt k l = record { place = k; bulge = false; left = isDetour true k l }
+
+-- the list after an edit
 abbrev pub edited : Edit → List Cell → List Cell
 edited e l = cond (e .bulge) (bulged (e .left) (e .place) l) (pressed (e .place) l)
 

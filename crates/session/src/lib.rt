@@ -1,10 +1,10 @@
 // An edit session: a drawing is edited by bulges and presses, and its last edits can be taken back. The session
 // is lent to the one call; the list is in a lent buffer beside it.
 use detour::Edit;
-use detour::can_edit;
-use detour::make;
-use detour::opposite;
-use detour::press_at;
+use edit_list::can_edit;
+use edit_list::make;
+use edit_list::opposite;
+use edit_list::press_at;
 use grid::Cell;
 use grid::Cells;
 use grid::CellsAnswer;

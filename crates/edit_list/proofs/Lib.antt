@@ -1,0 +1,2 @@
+pub mod Slides
+pub mod Cuts
