@@ -1,2 +1,3 @@
 pub mod Slides
 pub mod Cuts
+pub mod Zeros

@@ -1,37 +1,37 @@
+-- The part from the start on is lent and cleared.
 use borrow.Author.Needs.{needs}
+use borrow.Rule.Slice.PartMut.{putMid}
+use Prim.Native.Nat.{_-_}
+use mathlib.Core.Path.{ap, _∙_}
+use lib.ListN.{length}
+use Rattle.edit_list.proofs.Zeros.{cleared-behind}
 use Rattle.edit_list.proofs.clear_behind.Statement.{statement}
 use Rattle.edit_list.proofs.clear_behind.Tie as tie
-use Rattle.edit_list.proofs.clear_behind.Reads as reads
-use Rattle.edit_list.proofs.clear_behind.Lts as lts
-use Rattle.scratch.proofs.clear_front.Reads as clear-front-reads
 
--- src/lib.rt:191:18
 sub-places : tie.Need-sub-places
 sub-places c = search needs
 
--- src/lib.rt:192:25
 sub-clear-front : tie.Need-sub-clear-front
 sub-clear-front c = search needs
 
--- src/lib.rt:192:25
 part-clear-front-start : tie.Need-part-clear-front-start
 part-clear-front-start c = search needs
 
--- src/lib.rt:192:25
 part-clear-front-end : tie.Need-part-clear-front-end
 part-clear-front-end c = search needs
 
--- src/lib.rt:192:5
 clear-front-requires : tie.Need-clear-front-requires
 clear-front-requires c κs = search needs
 
--- src/lib.rt:187:1
 same-length : tie.Need-same-length
 same-length c = search needs
 
--- src/lib.rt:187:1
 returns : tie.Need-returns
-returns c = ?
+returns c =
+    let a = c .before .before .before .before .before .args in
+    let k = length (a .list .now) - a .start in
+    ap (putMid (a .start) k (a .list .now)) (c .before .before .clear-front .ensures)
+    ∙ cleared-behind (a .list .now) (a .start) (c .before .before .before .before .before .pre)
 
 pub clear-behind-spec : {M : Type 1} → statement M
 clear-behind-spec =

@@ -17,7 +17,7 @@ above-requires-2 : tie.Need-above-requires-2
 above-requires-2 c κs = search needs
 
 returns : tie.Need-returns
-returns c = λ i. cell (c .before .before .above .ensures i) (c .above2 .ensures i)
+returns c = λ i. cell (c .before .before .before .above .ensures i) (c .above2 .ensures i)
 
 pub left-of-spec : {M : Type 1} → statement M
 left-of-spec = tie.close (tie.spec add-above above-requires add-above-2 above-requires-2 returns)

@@ -1,29 +1,34 @@
+-- One cell, then the other.
 use borrow.Author.Needs.{needs}
+use Prim.Native.Nat.{ℕ, _+_}
+use native.Mathlib.Omega.{arith}
+use mathlib.Core.Path.{ap, _∙_}
+use mathlib.Core.List.{List}
+use lib.ListN.{set}
+use Rattle.edit_list.proofs.Zeros.{put-two}
 use Rattle.edit_list.proofs.put_detour.Statement.{statement}
 use Rattle.edit_list.proofs.put_detour.Tie as tie
-use Rattle.edit_list.proofs.put_detour.Reads as reads
-use Rattle.edit_list.proofs.put_detour.Lts as lts
-use Rattle.list.proofs.put_cell.Reads as put-cell-reads
 
--- src/lib.rt:200:5
 put-cell-requires : tie.Need-put-cell-requires
 put-cell-requires c κs = search needs
 
--- src/lib.rt:201:20
 add-put-cell : tie.Need-add-put-cell
 add-put-cell c = search needs
 
--- src/lib.rt:201:5
 put-cell-requires-2 : tie.Need-put-cell-requires-2
 put-cell-requires-2 c κs = search needs
 
--- src/lib.rt:196:1
 same-length : tie.Need-same-length
 same-length c = search needs
 
--- src/lib.rt:196:1
 returns : tie.Need-returns
-returns c = ?
+returns c =
+    let second = c .before .before .put-cell2 in
+    let first = c .before .before .before .before .before .before .put-cell in
+    let a = c .before .before .before .before .before .before .before .before .before .args in
+    second .ensures
+    ∙ ap (λ (m : List ℕ). set (set m (a .at + 2) (a .d .x)) (a .at + 2 + 1) (a .d .y)) (first .ensures)
+    ∙ put-two (a .list .now) (a .at) (a .c) (a .d) (omega arith)
 
 pub put-detour-spec : {M : Type 1} → statement M
 put-detour-spec =

@@ -1,57 +1,66 @@
+-- One byte a turn, the last one first: what lies behind it has gone up already.
+use Prim.Native.Nat.{ℕ, _+_, _-_, _≤_}
+use native.Mathlib.Omega.{arith}
+use mathlib.Core.Path.{_≡_, refl, ap, _∙_}
+use mathlib.Core.List.{List}
+use lib.ListN.{length, getD, set, length-set}
+use Rattle.edit_list.proofs.Slides.{up, up-none, up-next, up-all}
 use Rattle.edit_list.proofs.slide_up.Statement.{statement}
 use Rattle.edit_list.proofs.slide_up.Tie as tie
-use Rattle.edit_list.proofs.slide_up.Reads as reads
-use Rattle.edit_list.proofs.slide_up.Lts as lts
 
 abbrev Inv-loop : tie.InvT-loop
-Inv-loop list₀ start count left₀ list left = ?
+Inv-loop list₀ start count left₀ list left = (list ≡ up list₀ start 4 count left) × (left ≤ count) × (length list ≡ length list₀)
 
 abbrev μ-loop : tie.MeasureT-loop
-μ-loop list₀ start count left₀ list left = ?
+μ-loop list₀ start count left₀ list left = left
 
--- src/lib.rt:168:5
 loop-holds : tie.Need-loop-holds Inv-loop μ-loop
-loop-holds c = ?
+loop-holds c = let a = c .args in (up-none (a .list .now) (a .start) 4 (a .count), omega arith, refl)
 
--- src/lib.rt:169:9
 sub-left : tie.Need-sub-left Inv-loop μ-loop
-sub-left c = ?
+sub-left c = omega arith
 
--- src/lib.rt:170:39
 add-list : tie.Need-add-list Inv-loop μ-loop
-add-list c = ?
+add-list c = omega arith
 
--- src/lib.rt:170:34
 slice-read-list : tie.Need-slice-read-list Inv-loop μ-loop
-slice-read-list c = ?
+slice-read-list c = omega arith
 
--- src/lib.rt:170:14
 add-list-2 : tie.Need-add-list-2 Inv-loop μ-loop
-add-list-2 c = ?
+add-list-2 c = omega arith
 
--- src/lib.rt:170:14
 add-list-3 : tie.Need-add-list-3 Inv-loop μ-loop
-add-list-3 c = ?
+add-list-3 c = omega arith
 
--- src/lib.rt:170:9
 slice-write-list : tie.Need-slice-write-list Inv-loop μ-loop
-slice-write-list c = ?
+slice-write-list c = omega arith
 
--- src/lib.rt:168:5
 loop-less : tie.Need-loop-less Inv-loop μ-loop
-loop-less c = ?
+loop-less c = omega arith
 
--- src/lib.rt:168:5
 loop-again : tie.Need-loop-again Inv-loop μ-loop
-loop-again c = ?
+loop-again c =
+    let l = c .before .before .loop in
+    let a = c .before .before .before .args in
+    let i = l .left - 1 in
+    let next : l .left ≡ i + 1 = omega arith in
+    let was = l .inv .0 ∙ ap (up (a .list .now) (a .start) 4 (a .count)) next in
+    (ap (λ (m : List ℕ). set m (a .start + i + 4) (getD m (a .start + i) 0)) was
+      ∙ up-next (a .list .now) (a .start) 4 (a .count) (c .before .before .before .pre) i 0 (omega arith),
+      omega arith,
+      length-set (l .list) (a .start + i + 4) (getD (l .list) (a .start + i) 0) ∙ l .inv .2)
 
--- src/lib.rt:163:1
 same-length : tie.Need-same-length Inv-loop μ-loop
-same-length c = ?
+same-length c = c .before .loop .inv .2
 
--- src/lib.rt:163:1
 returns : tie.Need-returns Inv-loop μ-loop
-returns c = ?
+returns c =
+    let l = c .before .loop in
+    let a = c .before .before .args in
+    let none : l .left ≡ 0 = omega (arith, c .loop-test .left) in
+    l .inv .0
+    ∙ ap (up (a .list .now) (a .start) 4 (a .count)) none
+    ∙ up-all (a .list .now) (a .start) 4 (a .count) (c .before .before .pre)
 
 pub slide-up-spec : {M : Type 1} → statement M
 slide-up-spec =
