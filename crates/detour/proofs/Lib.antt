@@ -1,1 +1,1 @@
-pub mod Able
+pub mod Facts
