@@ -1,7 +1,6 @@
 -- Document 02, R-12, "Editing a drawing": what the call answers and what it leaves in session, list and scratch, for every input.
 use Prim.Native.Nat.{ℕ, _*_}
 use mathlib.Core.Path.{_≡_}
-use mathlib.Core.Bool.{not, _||_}
 use mathlib.Core.List.{List}
 use lib.Dec.{leb}
 use lib.ListN.{length}
@@ -19,7 +18,7 @@ use Rattle.detour.specs.declared.Edit.{Edit}
 use Rattle.detour.specs.Detour.{edited, canEdit, withZeros}
 use Rattle.session.specs.declared.Session.{Session}
 use Rattle.session.specs.declared.Command.{Command}
-use Rattle.session.specs.Session.{listOf, takesBack, meant, changed}
+use Rattle.session.specs.Session.{listOf, ready, meant, changed}
 
 -- the cells of the session's list
 abbrev pub cellsOf : Session → List ℕ → List Cell
@@ -29,31 +28,35 @@ cellsOf s buffer = cellsIn (listOf s buffer)
 abbrev pub editOf : Command → Session → List ℕ → Edit
 editOf c s buffer = meant c s (cellsOf s buffer)
 
--- the list after it
-abbrev pub listAfter : Command → Session → List ℕ → List Cell
-listAfter c s buffer = edited (editOf c s buffer) (cellsOf s buffer)
+-- 22, the edit of a list cannot be made; 5, the buffer is too short for the longer list
+abbrev pub editTest : Panel → Edit → List Cell → ℕ → Check
+editTest p e l bytes = expect (canEdit p e l) NoSuchEdit (expect (leb (2 * length (edited e l)) bytes) ShortBuffer Good)
 
 -- Judge's refusals of the session's list, whose 6 is also given where the buffer holds fewer cells or over 32 edits are claimed; 23, nothing to
--- take back; 22, the edit cannot be made; 5, the buffer is too short for the longer list
+-- take back; 22; 5
 abbrev pub editCheck : Panel → Cell → Cell → Command → Session → List ℕ → ℕ → Check
 editCheck p a z c s buffer room =
     after (judgeCheck p a z (listOf s buffer) room)
-    (expect (not (takesBack c) || leb 1 (s .recorded)) NothingRecorded
-    (expect (canEdit p (editOf c s buffer) (cellsOf s buffer)) NoSuchEdit
-    (expect (leb (2 * length (listAfter c s buffer)) (length buffer)) ShortBuffer Good)))
+    (expect (ready c s) NothingRecorded
+    (editTest p (editOf c s buffer) (cellsOf s buffer) (length buffer)))
 
--- the session after the call: as it was where refused
-abbrev pub sessionAfter : Panel → Cell → Cell → Command → Session → List ℕ → ℕ → Session
-sessionAfter p a z c s buffer room =
-    answer (editCheck p a z c s buffer room) (λ r. s) (changed c (editOf c s buffer) (length (listAfter c s buffer)) s)
+-- the session behind a check: as it was where refused
+abbrev pub sessionAfter : Check → Command → Edit → List Cell → Session → Session
+sessionAfter k c e l s = answer k (λ r. s) (changed c e (length (edited e l)) s)
 
--- the buffer after the call: as it was where refused, else the new list in front and zeros behind
-abbrev pub bufferAfter : Panel → Cell → Cell → Command → Session → List ℕ → ℕ → List ℕ
-bufferAfter p a z c s buffer room = answer (editCheck p a z c s buffer room) (λ r. buffer) (withZeros (listAfter c s buffer) (length buffer))
+-- the buffer behind a check: as it was where refused, else the new list in front and zeros behind
+abbrev pub bufferAfter : Check → Edit → List Cell → List ℕ → List ℕ
+bufferAfter k e l buffer = answer k (λ r. buffer) (withZeros (edited e l) (length buffer))
 
--- the promise of the call: the new count or the refusal, and session, buffer and scratch, which were s, buffer and old
-pub record Edits (p : Panel) (a z : Cell) (c : Command) (s : Session) (buffer old : List ℕ) (s' : Session) (buffer' new : List ℕ) (r : CellsAnswer) : Type 0 where
-  pub gives : GivesCells (editCheck p a z c s buffer (length old)) (length (listAfter c s buffer)) r
-  pub session : s' ≡ sessionAfter p a z c s buffer (length old)
-  pub list : buffer' ≡ bufferAfter p a z c s buffer (length old)
+-- what an edit of a list leaves behind a check: the new count or the refusal, session and buffer, which were s and buffer
+pub record Leaves (k : Check) (c : Command) (e : Edit) (l : List Cell) (s : Session) (buffer : List ℕ) (s' : Session) (buffer' : List ℕ)
+    (r : CellsAnswer) : Type 0 where
+  pub gives : GivesCells k (length (edited e l)) r
+  pub session : s' ≡ sessionAfter k c e l s
+  pub list : buffer' ≡ bufferAfter k e l buffer
+
+-- the promise of the call: answer, session and buffer, and scratch, which was old and is new
+pub record Edits (p : Panel) (a z : Cell) (c : Command) (s : Session) (buffer old : List ℕ) (s' : Session) (buffer' new : List ℕ)
+    (r : CellsAnswer) : Type 0 where
+  pub leaves : Leaves (editCheck p a z c s buffer (length old)) c (editOf c s buffer) (cellsOf s buffer) s buffer s' buffer' r
   pub scratch : new ≡ scratchAfter p a z (listOf s buffer) old

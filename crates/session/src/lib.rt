@@ -14,13 +14,21 @@ use grid::Refusal;
 use grid::expect;
 use judge::judge;
 ghost use mathlib.Core.Path.{_≡_};
-ghost use Rattle.session.specs.Session.{newSession, takesBack};
-ghost use Rattle.session.specs.Edits.{Edits};
+ghost use mathlib.Core.Bool.{true, cond};
+ghost use mathlib.Core.List.{[], _∷_, _++_};
+ghost use Prim.Native.Nat.{_+_, _-_, _*_, _≤_};
+ghost use lib.ListN.{length, drop};
+ghost use Rattle.grid.specs.declared.CellsAnswer.the-variants.{Refused};
+ghost use Rattle.grid.specs.Panel.{goodSides};
+ghost use Rattle.grid.specs.Bytes.{cellsIn, front};
+ghost use Rattle.session.specs.Session.{kept, newSession, listCells, ready, newest, meant, onRecord, offRecord, changed};
+ghost use Rattle.session.specs.Edits.{editTest, Leaves, Edits};
 
 // How many edits a session keeps.
 const KEPT: usize = 32;
 
-// The cell count of a drawing, how many edits are recorded, and the edits, oldest first.
+// An edit session, which is an undo history: the cell count of a drawing, how many edits are recorded, and the
+// edits, oldest first.
 pub struct Session {
     pub count: Cells,
     pub recorded: u32,
@@ -56,37 +64,47 @@ pub fn new_session(count: Cells) -> Session
     }
 }
 
-// How many bytes of a buffer the session's list takes; 0, which Judge refuses, where they are more than it has or
-// too many edits are claimed.
-fn list_bytes(s: Session, room: usize) -> usize {
+// How many cells of a buffer are the session's list; 0, which Judge refuses, where the buffer has fewer than the
+// count or too many edits are claimed.
+fn list_cells(s: Session, bytes: usize) -> usize
+    ensures { λ r. ⌜ r ≡ listCells s bytes ⌝ }
+{
+    let cells = s.count.0 as usize;
+    if bytes < 2 * cells {
+        return 0;
+    }
     if KEPT < s.recorded as usize {
         return 0;
     }
-    let bytes = 2 * (s.count.0 as usize);
-    if room < bytes {
-        return 0;
-    }
-    bytes
+    cells
 }
 
-fn takes_back(c: Command) -> bool
-    ensures { λ r. ⌜ r ≡ takesBack c ⌝ }
+// Whether what the command takes back, if it does, is recorded.
+fn ready(c: Command, s: Session) -> bool
+    ensures { λ r. ⌜ r ≡ ready c s ⌝ }
 {
     match c {
-        Command::Bulge(_, _) => false,
-        Command::Press(_) => false,
-        Command::TakeBack => true,
+        Command::Bulge(_, _) => true,
+        Command::Press(_) => true,
+        Command::TakeBack => 1 <= s.recorded,
     }
 }
 
 // The newest recorded edit.
-fn newest(s: Session) -> Edit {
+fn newest(s: Session) -> Edit
+    requires { ⌜ (1 ≤ s .recorded) × (s .recorded ≤ kept) ⌝ }
+    ensures { λ r. ⌜ r ≡ newest s ⌝ }
+{
     let edits = s.edits;
     edits[s.recorded as usize - 1]
 }
 
 // The edit that the command makes of the list.
-fn meant(c: Command, s: Session, list: &[u8]) -> Edit {
+fn meant(c: Command, s: Session, list: &[u8]) -> Edit
+    requires few { ⌜ s .recorded ≤ kept ⌝ }
+    requires taken { ⌜ ready c s ≡ true ⌝ }
+    ensures { λ r. ⌜ r ≡ meant c s (cellsIn (now (list .entry))) ⌝ }
+{
     match c {
         Command::Bulge(place, left) => Edit {
             place,
@@ -99,25 +117,28 @@ fn meant(c: Command, s: Session, list: &[u8]) -> Edit {
 }
 
 // The edits without the oldest, and with e for the newest.
-fn pushed(edits: [Edit; KEPT], e: Edit) -> [Edit; KEPT] {
-    let mut all = edits;
+fn shifted(edits: [Edit; KEPT], e: Edit) -> [Edit; KEPT]
+    ensures { λ r. ⌜ r ≡ drop 1 edits ++ (e ∷ []) ⌝ }
+{
+    let mut all = [e; KEPT];
     let mut i = 0;
     while i < KEPT - 1 {
-        all[i] = all[i + 1];
+        all[i] = edits[i + 1];
         i += 1;
     }
-    all[KEPT - 1] = e;
     all
 }
 
 // The session with the edit recorded.
-fn record(s: Session, e: Edit, count: Cells) -> Session {
+fn on_record(e: Edit, count: Cells, s: Session) -> Session
+    ensures { λ r. ⌜ r ≡ onRecord e (count .0) s ⌝ }
+{
     let mut edits = s.edits;
     if KEPT <= s.recorded as usize {
         return Session {
             count,
             recorded: s.recorded,
-            edits: pushed(edits, e),
+            edits: shifted(edits, e),
         };
     }
     edits[s.recorded as usize] = e;
@@ -129,66 +150,92 @@ fn record(s: Session, e: Edit, count: Cells) -> Session {
 }
 
 // The session with the newest edit off the record.
-fn off_record(s: Session, count: Cells) -> Session {
+fn off_record(count: Cells, s: Session) -> Session
+    requires { ⌜ 1 ≤ s .recorded ⌝ }
+    ensures { λ r. ⌜ r ≡ offRecord (count .0) s ⌝ }
+{
+    let edits = s.edits;
     Session {
         count,
         recorded: s.recorded - 1,
-        edits: s.edits,
+        edits,
     }
 }
 
-fn changed(c: Command, e: Edit, count: Cells, s: Session) -> Session {
-    if takes_back(c) {
-        return off_record(s, count);
+// The session after a command whose edit is made.
+fn changed(c: Command, e: Edit, count: Cells, s: Session) -> Session
+    requires { ⌜ ready c s ≡ true ⌝ }
+    ensures { λ r. ⌜ r ≡ changed c e (count .0) s ⌝ }
+{
+    match c {
+        Command::Bulge(_, _) => on_record(e, count, s),
+        Command::Press(_) => on_record(e, count, s),
+        Command::TakeBack => off_record(count, s),
     }
-    record(s, e, count)
 }
 
-// How many bytes the list takes after the edit.
-fn bytes_after(bytes: usize, e: Edit) -> usize {
-    if e.bulge { bytes + 4 } else { bytes - 4 }
+// How many cells the list has after an edit.
+fn cells_after(cells: usize, e: Edit) -> usize
+    requires { ⌜ (2 ≤ cells) × (cells ≤ 16384) ⌝ }
+    ensures { λ r. ⌜ r ≡ cond (e .bulge) (cells + 2) (cells - 2) ⌝ }
+{
+    if e.bulge { cells + 2 } else { cells - 2 }
 }
 
-fn refused(s: Session, r: Refusal) -> Edited {
+// 22, then 5, of an edit of the list of so many cells in front of a buffer.
+fn check_edit(p: Panel, e: Edit, cells: usize, list: &[u8]) -> Check
+    requires { ⌜ (2 * cells ≤ length (now list)) × (cells ≤ 16384) ⌝ }
+    ensures { λ r. ⌜ r ≡ editTest p e (front cells (now (list .entry))) (length (now (list .entry))) ⌝ }
+{
+    if !can_edit(p, &list[..2 * cells], e) {
+        return Check::Refused(Refusal::NoSuchEdit);
+    }
+    let enough = 2 * cells_after(cells, e) <= list.len();
+    expect(enough, Refusal::ShortBuffer, Check::Good)
+}
+
+fn refused(s: Session, r: Refusal) -> Edited
+    ensures { λ d. ⌜ (d .session ≡ s) × (d .answer ≡ Refused r) ⌝ }
+{
     Edited {
         session: s,
         answer: CellsAnswer::Refused(r),
     }
 }
 
-// 22, then 5, of an edit of the list in front of a buffer.
-fn check_edit(p: Panel, e: Edit, list: &[u8], bytes: usize) -> Check {
-    if !can_edit(p, &list[..bytes], e) {
-        return Check::Refused(Refusal::NoSuchEdit);
+// The edit of a list that Judge accepts, behind 22 and 5.
+fn edit_judged(s: Session, c: Command, e: Edit, p: Panel, cells: usize, list: &mut [u8]) -> Edited
+    requires held { ⌜ (2 * cells ≤ length (now list)) × (cells ≤ 16384) ⌝ }
+    requires good { ⌜ goodSides p ≡ true ⌝ }
+    requires taken { ⌜ ready c s ≡ true ⌝ }
+    ensures { λ r. ⌜ Leaves (editTest p e (front cells (now (list .entry))) (length (now (list .entry)))) c e (front cells (now (list .entry))) s (now (list .entry)) (r .session) (now (list .exit)) (r .answer) ⌝ }
+{
+    let told = check_edit(p, e, cells, list);
+    if let Check::Refused(r) = told {
+        return refused(s, r);
     }
-    expect(bytes_after(bytes, e) <= list.len(), Refusal::ShortBuffer, Check::Good)
+    make(list, cells, e);
+    let count = Cells(cells_after(cells, e) as u32);
+    Edited {
+        session: changed(c, e, count, s),
+        answer: CellsAnswer::Given(count),
+    }
 }
 
 // What the call does, with the session by value.
 pub fn edit_value(s: Session, c: Command, p: Panel, entry: Cell, exit: Cell, list: &mut [u8], scratch: &mut [u8]) -> Edited
     ensures { λ r. ⌜ Edits p entry exit c s (now (list .entry)) (now (scratch .entry)) (r .session) (now (list .exit)) (now (scratch .exit)) (r .answer) ⌝ }
 {
-    let bytes = list_bytes(s, list.len());
-    let judged = judge(p, entry, exit, &list[..bytes], scratch);
+    let cells = list_cells(s, list.len());
+    let judged = judge(p, entry, exit, &list[..2 * cells], scratch);
     if let CellsAnswer::Refused(r) = judged {
         return refused(s, r);
     }
-    if takes_back(c) {
-        if s.recorded == 0 {
-            return refused(s, Refusal::NothingRecorded);
-        }
+    if !ready(c, s) {
+        return refused(s, Refusal::NothingRecorded);
     }
-    let e = meant(c, s, &list[..bytes]);
-    let checked = check_edit(p, e, list, bytes);
-    if let Check::Refused(r) = checked {
-        return refused(s, r);
-    }
-    make(list, bytes, e);
-    let count = Cells((bytes_after(bytes, e) / 2) as u32);
-    Edited {
-        session: changed(c, e, count, s),
-        answer: CellsAnswer::Given(count),
-    }
+    let e = meant(c, s, &list[..2 * cells]);
+    edit_judged(s, c, e, p, cells, list)
 }
 
 // Edits the drawing in the caller's hands.
