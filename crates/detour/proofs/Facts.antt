@@ -40,7 +40,7 @@ pub record IsDetour (left : Bool) (k : ℕ) (l : List Cell) : Type 0 where
   pub second : cellNo l (k + 2) ≡ beside left (cellNo l k) (cellNo l (k + 3)) (cellNo l (k + 3))
 
 module _ (p : Panel) (left : Bool) (k : ℕ) (l : List Cell) where
-  bulge : canBulge p left k l ≡ true → CanBulge p left k l
+  pub bulge : canBulge p left k l ≡ true → CanBulge p left k l
   bulge e =
       let (low, high, free) = placed k (k + 1) (length l) _ e in
       let (first, second) = and-parts _ _ free in
@@ -50,7 +50,7 @@ pub is-bulge : {p : Panel} {left : Bool} {k : ℕ} {l : List Cell} → CanBulge 
 is-bulge {k = k} {l = l} c = is-placed k (k + 1) (length l) _ (c .low) (c .high) (and-both (c .first) (c .second))
 
 module _ (left : Bool) (k : ℕ) (l : List Cell) where
-  press : isDetour left k l ≡ true → IsDetour left k l
+  pub press : isDetour left k l ≡ true → IsDetour left k l
   press e =
       let (low, high, square) = placed k (k + 3) (length l) _ e in
       let (step, cells) = and-parts _ _ square in

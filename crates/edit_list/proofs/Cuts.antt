@@ -87,8 +87,13 @@ module _ (b : List ℕ) (n : ℕ) (held : 2 * n ≤ length b) where
 
     filled-size : length (filled ++ moved) ≡ 2 * (n + 2)
     filled-size =
-        omega (arith, length-append filled moved, length-append (take (2 * k) b) (bytes (c ∷ d ∷ [])), moved-size,
-          length-take-le (2 * k) b (omega arith))
+        omega (
+          arith,
+          length-append filled moved,
+          length-append (take (2 * k) b) (bytes (c ∷ d ∷ [])),
+          moved-size,
+          length-take-le (2 * k) b (omega arith),
+        )
 
     pub opened-cells : take (2 * (n + 2)) opened ≡ bytes (take k (front n b) ++ (c ∷ d ∷ [] ++ drop k (front n b)))
     opened-cells =

@@ -4,8 +4,8 @@ use native.Mathlib.Omega.{arith}
 use mathlib.Core.Path.{_≡_, sym, ap, _∙_}
 use mathlib.Core.Bool.{Bool, true, false, not, cond}
 use mathlib.Core.List.{List, [], _∷_, _++_}
-use lib.ListN.{length, take, drop, replicate, length-append, length-drop}
-use lib.Seq.{paste, length-paste, length-take-le}
+use lib.ListN.{length, take, drop, replicate, length-drop}
+use lib.Seq.{paste, length-paste}
 use Rattle.grid.specs.declared.Panel.{Panel}
 use Rattle.grid.specs.declared.Cell.{Cell}
 use Rattle.grid.specs.Panel.{maxSide, goodSides, onPanel}
@@ -14,8 +14,9 @@ use Rattle.grid.proofs.Facts.{and-left, sides, on}
 use Rattle.list.specs.List.{among}
 use Rattle.detour.specs.declared.Edit.{Edit}
 use Rattle.detour.specs.Detour.{cellNo, beside, isFree, canBulge, isDetour, bulged, pressed, edited, canEdit, withZeros}
-use Rattle.detour.proofs.Facts.{bulge, detours}
-use Rattle.edit_list.proofs.Cuts.{length-front, opened, opened-cells, closed-cells}
+use Rattle.detour.proofs.Facts.{bulge, press}
+use Rattle.detour.proofs.Lists.{bulged-length, pressed-length}
+use Rattle.edit_list.proofs.Cuts.{length-front, opened-cells, closed-cells}
 
 -- a cell goes into two bytes
 abbrev pub Small : Cell → Type 0
@@ -38,7 +39,7 @@ module _ (b : List ℕ) (n k : ℕ) (left : Bool) where
 
   module _ (held : 2 * n ≤ length b) (p : Panel) (can : canBulge p left k l ≡ true) where
     pub step-within : k + 1 ≤ n
-    step-within = omega (arith, bulge {left = left} {k = k} {l = l} {p = p} can .high, length-front b n held)
+    step-within = omega (arith, bulge p left k l can .high, length-front b n held)
 
     abbrev first : Cell
     first = beside left (cellNo l k) (cellNo l (k + 1)) (cellNo l k)
@@ -47,15 +48,13 @@ module _ (b : List ℕ) (n k : ℕ) (left : Bool) where
     second = beside left (cellNo l k) (cellNo l (k + 1)) (cellNo l (k + 1))
 
     pub first-small : goodSides p ≡ true → Small first
-    first-small good = small p l first good (bulge {left = left} {k = k} {l = l} {p = p} can .first)
+    first-small good = small p l first good (bulge p left k l can .first)
 
     pub second-small : goodSides p ≡ true → Small second
-    second-small good = small p l second good (bulge {left = left} {k = k} {l = l} {p = p} can .second)
+    second-small good = small p l second good (bulge p left k l can .second)
 
     pub count-bulged : n + 2 ≡ length (bulged left k l)
-    count-bulged =
-        omega (arith, length-append (take k l) (first ∷ second ∷ drop k l), length-take-le k l (omega (arith, length-front b n held, step-within)),
-          length-drop k l, length-front b n held, step-within)
+    count-bulged = omega (arith, bulged-length (bulge p left k l can), length-front b n held)
 
     pub bulge-made : 2 * (n + 2) ≤ length b → {slid put last : List ℕ} → slid ≡ paste b (2 * k + 4) (drop (2 * k) b) (2 * (n - k))
         → put ≡ paste slid (2 * k) (bytes (first ∷ second ∷ [])) 4
@@ -64,32 +63,30 @@ module _ (b : List ℕ) (n k : ℕ) (left : Bool) where
     bulge-made room {slid} {put} e f g =
         let within : k ≤ n = omega (arith, step-within) in
         let slid-size : length slid ≡ length b =
-          ap length e ∙ length-paste b (2 * k + 4) (drop (2 * k) b) (2 * (n - k)) (omega arith) (omega (arith, length-drop (2 * k) b)) in
+        ap length e ∙ length-paste b (2 * k + 4) (drop (2 * k) b) (2 * (n - k)) (omega arith) (omega (arith, length-drop (2 * k) b)) in
         let put-size : length put ≡ length b =
-          ap length f ∙ length-paste slid (2 * k) (bytes (first ∷ second ∷ [])) 4 (omega (arith, slid-size)) (omega arith) ∙ slid-size in
+        ap length f ∙ length-paste slid (2 * k) (bytes (first ∷ second ∷ [])) 4 (omega (arith, slid-size)) (omega arith) ∙ slid-size in
         let is = f ∙ ap (λ (m : List ℕ). paste m (2 * k) (bytes (first ∷ second ∷ [])) 4) e in
         zeros-behind (bulged left k l) (n + 2) b put put-size
-          (ap (take (2 * (n + 2))) is ∙ opened-cells b n held room k within first second) count-bulged g
+        (ap (take (2 * (n + 2))) is ∙ opened-cells b n held room k within first second) count-bulged g
 
   module _ (held : 2 * n ≤ length b) (there : isDetour left k l ≡ true) where
     pub detour-within : k + 3 ≤ n
-    detour-within = omega (arith, detours {left = left} {k = k} {l = l} there .high, length-front b n held)
+    detour-within = omega (arith, press left k l there .high, length-front b n held)
 
     count-pressed : n - 2 ≡ length (pressed k l)
-    count-pressed =
-        omega (arith, length-append (take k l) (drop (k + 2) l), length-take-le k l (omega (arith, length-front b n held, detour-within)),
-          length-drop (k + 2) l, length-front b n held, detour-within)
+    count-pressed = omega (arith, pressed-length (press left k l there), length-front b n held)
 
     pub press-made : {slid last : List ℕ} → slid ≡ paste b (2 * k) (drop (2 * k + 4) b) (2 * (n - k - 2))
         → last ≡ take (2 * (n - 2)) slid ++ replicate (length slid - 2 * (n - 2)) 0
         → last ≡ withZeros (pressed k l) (length b)
     press-made {slid} e g =
         let size : length slid ≡ length b =
-          ap length e
-          ∙ length-paste b (2 * k) (drop (2 * k + 4) b) (2 * (n - k - 2)) (omega (arith, detour-within))
-              (omega (arith, length-drop (2 * k + 4) b, detour-within)) in
+        ap length e
+        ∙ length-paste b (2 * k) (drop (2 * k + 4) b) (2 * (n - k - 2)) (omega (arith, detour-within))
+        (omega (arith, length-drop (2 * k + 4) b, detour-within)) in
         zeros-behind (pressed k l) (n - 2) b slid size
-          (ap (take (2 * (n - 2))) e ∙ closed-cells b n held k (omega (arith, detour-within))) count-pressed g
+        (ap (take (2 * (n - 2))) e ∙ closed-cells b n held k (omega (arith, detour-within))) count-pressed g
 
 -- ---- an edit is a bulge or a press
 

@@ -63,7 +63,7 @@ module _ {ℓ} {A : Type ℓ} (l : List A) (s g n : ℕ) where
         let zero : s + 0 ≡ s = omega arith in
         let behind : s + n + g ≡ s + g + n = omega arith in
         let part : slice s (s + n) l ≡ take n (drop s l) =
-          ap (drop s) (take-add s n l) ∙ drop-at (take s l) (take n (drop s l)) s (length-take-le s l (omega arith)) in
+        ap (drop s) (take-add s n l) ∙ drop-at (take s l) (take n (drop s l)) s (length-take-le s l (omega arith)) in
         ap (λ (k : ℕ). take (k + g) l ++ slice k (s + n) l ++ drop (s + n + g) l) zero
         ∙ (λ j. take (s + g) l ++ part j ++ drop (behind j) l)
 
@@ -86,14 +86,14 @@ module _ {ℓ} {A : Type ℓ} (l : List A) (s g n : ℕ) where
           let next : s + (i + 1) + g ≡ suc at = omega arith in
           let after : s + (i + 1) ≡ suc (s + i) = omega arith in
           let head : take (s + (i + 1) + g) l ≡ take at l ++ getD l at z ∷ [] =
-            ap (λ (k : ℕ). take k l) next ∙ take-suc l at z (omega arith) in
+          ap (λ (k : ℕ). take k l) next ∙ take-suc l at z (omega arith) in
           let cut : up l s g n (i + 1) ≡ take at l ++ getD l at z ∷ (moved ++ rest) =
-            append-assoc (take (s + (i + 1) + g) l) moved rest
-            ∙ ap (λ (m : List A). m ++ (moved ++ rest)) head
-            ∙ append-assoc (take at l) (getD l at z ∷ []) (moved ++ rest) in
+          append-assoc (take (s + (i + 1) + g) l) moved rest
+          ∙ ap (λ (m : List A). m ++ (moved ++ rest)) head
+          ∙ append-assoc (take at l) (getD l at z ∷ []) (moved ++ rest) in
           let grown : getD l (s + i) z ∷ moved ≡ slice (s + i) (s + n) l =
-            ap (λ (k : ℕ). getD l (s + i) z ∷ slice k (s + n) l) after
-            ∙ sym (slice-cons (s + i) (s + n) l z (omega arith) (omega arith)) in
+          ap (λ (k : ℕ). getD l (s + i) z ∷ slice k (s + n) l) after
+          ∙ sym (slice-cons (s + i) (s + n) l z (omega arith) (omega arith)) in
           ap (set (up l s g n (i + 1)) at) here
           ∙ ap (λ (m : List A). set m at (getD l (s + i) z)) cut
           ∙ set-at (take at l) (getD l at z) (moved ++ rest) (getD l (s + i) z) at (length-take-le at l (omega arith))

@@ -223,7 +223,15 @@ fn edit_judged(s: Session, c: Command, e: Edit, p: Panel, cells: usize, list: &m
 }
 
 // What the call does, with the session by value.
-pub fn edit_value(s: Session, c: Command, p: Panel, entry: Cell, exit: Cell, list: &mut [u8], scratch: &mut [u8]) -> Edited
+pub fn edit_value(
+    s: Session,
+    c: Command,
+    p: Panel,
+    entry: Cell,
+    exit: Cell,
+    list: &mut [u8],
+    scratch: &mut [u8],
+) -> Edited
     ensures { λ r. ⌜ Edits p entry exit c s (now (list .entry)) (now (scratch .entry)) (r .session) (now (list .exit)) (now (scratch .exit)) (r .answer) ⌝ }
 {
     let cells = list_cells(s, list.len());
@@ -239,7 +247,15 @@ pub fn edit_value(s: Session, c: Command, p: Panel, entry: Cell, exit: Cell, lis
 }
 
 // Edits the drawing in the caller's hands.
-pub fn edit_drawing(s: &mut Session, c: Command, p: Panel, entry: Cell, exit: Cell, list: &mut [u8], scratch: &mut [u8]) -> CellsAnswer
+pub fn edit_drawing(
+    s: &mut Session,
+    c: Command,
+    p: Panel,
+    entry: Cell,
+    exit: Cell,
+    list: &mut [u8],
+    scratch: &mut [u8],
+) -> CellsAnswer
     ensures { λ r. ⌜ Edits p entry exit c (now (s .entry)) (now (list .entry)) (now (scratch .entry)) (now (s .exit)) (now (list .exit)) (now (scratch .exit)) r ⌝ }
 {
     let was = *s;
@@ -249,7 +265,15 @@ pub fn edit_drawing(s: &mut Session, c: Command, p: Panel, entry: Cell, exit: Ce
 }
 
 // The same for a caller that has the session by value: it is lent, and handed back.
-pub fn edit_lent(s: Session, c: Command, p: Panel, entry: Cell, exit: Cell, list: &mut [u8], scratch: &mut [u8]) -> Edited
+pub fn edit_lent(
+    s: Session,
+    c: Command,
+    p: Panel,
+    entry: Cell,
+    exit: Cell,
+    list: &mut [u8],
+    scratch: &mut [u8],
+) -> Edited
     ensures { λ r. ⌜ Edits p entry exit c s (now (list .entry)) (now (scratch .entry)) (r .session) (now (list .exit)) (now (scratch .exit)) (r .answer) ⌝ }
 {
     let mut lent = s;

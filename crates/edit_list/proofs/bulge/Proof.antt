@@ -29,7 +29,7 @@ within c = let a = c .args in step-within (a .list .now) (a .cells) (a .place) (
 placed : (c : tie.Start) → 1 ≤ c .args .place
 placed c =
     let a = c .args in
-    bulgeable {left = a .left} {k = a .place} {l = front (a .cells) (a .list .now)} {p = c .pre .1 .panel} (c .pre .1 .can) .low
+    bulgeable (c .pre .1 .panel) (a .left) (a .place) (front (a .cells) (a .list .now)) (c .pre .1 .can) .low
 
 counted : (c : tie.Start) → length (front (c .args .cells) (c .args .list .now)) ≡ c .args .cells
 counted c = length-front (c .args .list .now) (c .args .cells) (held c)
@@ -108,9 +108,9 @@ put-detour-requires c κs =
     let s = begin c in
     let a = s .args in
     let one = subst⁻¹ Small (first-is c)
-      (first-small (a .list .now) (a .cells) (a .place) (a .left) (held s) (s .pre .1 .panel) (s .pre .1 .can) (s .pre .1 .sides)) in
+    (first-small (a .list .now) (a .cells) (a .place) (a .left) (held s) (s .pre .1 .panel) (s .pre .1 .can) (s .pre .1 .sides)) in
     let two = subst⁻¹ Small (second-is c)
-      (second-small (a .list .now) (a .cells) (a .place) (a .left) (held s) (s .pre .1 .panel) (s .pre .1 .can) (s .pre .1 .sides)) in
+    (second-small (a .list .now) (a .cells) (a .place) (a .left) (held s) (s .pre .1 .panel) (s .pre .1 .can) (s .pre .1 .sides)) in
     (one .0, one .1, two .0, two .1, omega (arith, within s, s .pre .0))
 
 add-clear-behind : tie.Need-add-clear-behind
@@ -132,7 +132,7 @@ returns c =
     let found = c .before .before .before .before .before .before .before in
     let put = c .before .before .before .before .before .before .put-detour .ensures ∙ (λ i. paste (c .before .before .before .before .before .before .before .before .before .before .before .before .slide-up .last .0) (2 * a .place) (bytes (first-is found i ∷ second-is found i ∷ [])) 4) in
     bulge-made (a .list .now) (a .cells) (a .place) (a .left) (held s) (s .pre .1 .panel) (s .pre .1 .can) (s .pre .0)
-      (c .before .before .before .before .before .before .before .before .before .before .before .before .slide-up .ensures) put (c .before .before .clear-behind .ensures)
+    (c .before .before .before .before .before .before .before .before .before .before .before .before .slide-up .ensures) put (c .before .before .clear-behind .ensures)
 
 pub bulge-spec : {M : Type 1} → statement M
 bulge-spec =

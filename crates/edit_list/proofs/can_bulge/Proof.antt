@@ -82,7 +82,7 @@ decided : (c : tie.Else2) {r : Bool} →
     let s = c .before .before .before .args in
     let l = cellsIn (s .list .now) in
     r ≡ (isFree (s .p) l (beside (s .left) (cellNo l (s .place)) (cellNo l (s .place + 1)) (cellNo l (s .place)))
-      && isFree (s .p) l (beside (s .left) (cellNo l (s .place)) (cellNo l (s .place + 1)) (cellNo l (s .place + 1))))
+    && isFree (s .p) l (beside (s .left) (cellNo l (s .place)) (cellNo l (s .place + 1)) (cellNo l (s .place + 1))))
     → r ≡ canBulge (s .p) (s .left) (s .place) l
 decided c e = and-yes _ (le-leb 1 _ (placed (c .before))) (and-yes _ (le-leb _ _ (there c)) e)
 

@@ -25,9 +25,10 @@ returns : tie.Need-returns
 returns c =
     let s = c .before .before in
     let pre = s .pre in
-    let byte = c .before .shared-slice-known .given in
-    (c .cell-at .ensures ∙ cell-index (s .args .list .now) (s .args .place - 1) (omega arith),
-      cell-bytes (s .args .list .now) (λ i. byte i .fits) (2 * (s .args .place - 1)) (c .cell-at .ensures))
+    let byte = c .before .shared-slice-known .given in (
+      c .cell-at .ensures ∙ cell-index (s .args .list .now) (s .args .place - 1) (omega arith),
+      cell-bytes (s .args .list .now) (λ i. byte i .fits) (2 * (s .args .place - 1)) (c .cell-at .ensures),
+    )
 
 pub cell-no-spec : {M : Type 1} → statement M
 cell-no-spec = tie.close (tie.spec sub-cell-at mul-cell-at cell-at-requires returns)

@@ -89,8 +89,8 @@ decided : (c : tie.Else2) {r : Bool} →
     let s = c .before .before .before .args in
     let l = cellsIn (s .list .now) in
     r ≡ (neighbours (cellNo l (s .place)) (cellNo l (s .place + 3))
-      && (sameCell (cellNo l (s .place + 1)) (beside (s .left) (cellNo l (s .place)) (cellNo l (s .place + 3)) (cellNo l (s .place)))
-      && sameCell (cellNo l (s .place + 2)) (beside (s .left) (cellNo l (s .place)) (cellNo l (s .place + 3)) (cellNo l (s .place + 3)))))
+    && (sameCell (cellNo l (s .place + 1)) (beside (s .left) (cellNo l (s .place)) (cellNo l (s .place + 3)) (cellNo l (s .place)))
+    && sameCell (cellNo l (s .place + 2)) (beside (s .left) (cellNo l (s .place)) (cellNo l (s .place + 3)) (cellNo l (s .place + 3)))))
     → r ≡ isDetour (s .left) (s .place) l
 decided c e = and-yes _ (le-leb 1 _ (placed (c .before))) (and-yes _ (le-leb _ _ (there c)) e)
 

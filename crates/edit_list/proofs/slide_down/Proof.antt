@@ -44,11 +44,12 @@ loop-again : tie.Need-loop-again Inv-loop μ-loop
 loop-again c =
     let l = c .before .before .loop in
     let a = c .before .before .before .args in
-    let old = a .list .now in
-    (ap (λ (m : List ℕ). set m (a .start + l .i) (getD m (a .start + l .i + 4) 0)) (l .inv .0)
-      ∙ down-next old (a .start) 4 (l .i) 0 (omega (arith, c .before .before .before .pre)),
+    let old = a .list .now in (
+      ap (λ (m : List ℕ). set m (a .start + l .i) (getD m (a .start + l .i + 4) 0)) (l .inv .0)
+          ∙ down-next old (a .start) 4 (l .i) 0 (omega (arith, c .before .before .before .pre)),
       omega arith,
-      length-set (l .list) (a .start + l .i) (getD (l .list) (a .start + l .i + 4) 0) ∙ l .inv .2)
+      length-set (l .list) (a .start + l .i) (getD (l .list) (a .start + l .i + 4) 0) ∙ l .inv .2,
+    )
 
 same-length : tie.Need-same-length Inv-loop μ-loop
 same-length c = c .before .loop .inv .2

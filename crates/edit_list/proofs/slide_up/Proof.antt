@@ -44,11 +44,12 @@ loop-again c =
     let a = c .before .before .before .args in
     let i = l .left - 1 in
     let next : l .left ≡ i + 1 = omega arith in
-    let was = l .inv .0 ∙ ap (up (a .list .now) (a .start) 4 (a .count)) next in
-    (ap (λ (m : List ℕ). set m (a .start + i + 4) (getD m (a .start + i) 0)) was
-      ∙ up-next (a .list .now) (a .start) 4 (a .count) (c .before .before .before .pre) i 0 (omega arith),
+    let was = l .inv .0 ∙ ap (up (a .list .now) (a .start) 4 (a .count)) next in (
+      ap (λ (m : List ℕ). set m (a .start + i + 4) (getD m (a .start + i) 0)) was
+          ∙ up-next (a .list .now) (a .start) 4 (a .count) (c .before .before .before .pre) i 0 (omega arith),
       omega arith,
-      length-set (l .list) (a .start + i + 4) (getD (l .list) (a .start + i) 0) ∙ l .inv .2)
+      length-set (l .list) (a .start + i + 4) (getD (l .list) (a .start + i) 0) ∙ l .inv .2,
+    )
 
 same-length : tie.Need-same-length Inv-loop μ-loop
 same-length c = c .before .loop .inv .2

@@ -20,10 +20,10 @@ cast-if2 : tie.Need-cast-if2
 cast-if2 c = search needs
 
 returns-2 : tie.Need-returns-2
-returns-2 c = cond-no _ _ (sym (and-yes _ (le-leb _ _ (c .before .if1 .left)) (sym (lt-leb _ _ (c .if2 .taken))))) refl
+returns-2 c = cond-no _ _ (sym (and-yes _ (le-leb _ _ (c .before .before .if1 .left)) (sym (lt-leb _ _ (c .if2 .taken))))) refl
 
 returns-3 : tie.Need-returns-3
-returns-3 c = cond-yes _ _ (and-both (le-leb _ _ (c .before .if1 .left)) (le-leb _ _ (c .if2 .left))) refl
+returns-3 c = cond-yes _ _ (and-both (le-leb _ _ (c .before .before .if1 .left)) (le-leb _ _ (c .if2 .left))) refl
 
 pub list-cells-spec : {M : Type 1} → statement M
 list-cells-spec = tie.close (tie.spec cast-cells mul-if1 returns cast-if2 returns-2 returns-3)

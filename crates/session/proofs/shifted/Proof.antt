@@ -1,11 +1,15 @@
 -- The edits from the second on come to the front, one a turn; behind them stands the new one.
 use borrow.Author.Needs.{needs}
+use native.Mathlib.Numerals.{add-one}
+use native.Mathlib.Nat.{add-comm, zero-add}
 use native.Mathlib.Omega.{arith}
 use Prim.Native.Nat.{ℕ, _+_, _-_, _≤_}
 use mathlib.Core.Path.{_≡_, refl, sym, ap, _∙_}
 use mathlib.Core.List.{List, [], _∷_, _++_}
 use lib.ListN.{length, take, drop, getD, set, replicate, length-drop}
-use lib.Seq.{paste, paste-zero, paste-suc, take-all}
+use lib.Seq.{paste, paste-suc, getD-drop, take-all}
+use Rattle.detour.specs.declared.Edit.{Edit}
+use Rattle.session.specs.Session.{noEdit}
 use Rattle.session.proofs.shifted.Statement.{statement}
 use Rattle.session.proofs.shifted.Tie as tie
 
@@ -43,10 +47,24 @@ loop-less : tie.Need-loop-less Inv-loop μ-loop
 loop-less c = omega arith
 
 loop-again : tie.Need-loop-again Inv-loop μ-loop
-loop-again c = ?
+loop-again c =
+    let l = c .before .before .loop in
+    let edits = c .before .before .before .args .t1 in
+    let i = l .i in
+    let value : getD edits (i + 1) noEdit ≡ getD (drop 1 edits) i noEdit =
+    ap (λ (j : ℕ). getD edits j noEdit) (add-comm i 1) ∙ sym (getD-drop 1 edits i noEdit) in
+    let stored = (λ k. set (l .inv .0 k) (sym (zero-add i) k) (value k))
+    ∙ paste-suc _ 0 (drop 1 edits) i noEdit (omega arith) (omega (arith, length-drop 1 edits, l .inv .2)) in
+    (stored ∙ ap (paste _ 0 (drop 1 edits)) (sym (add-one i)), omega arith, l .inv .2, l .inv .3)
 
 returns : tie.Need-returns Inv-loop μ-loop
-returns c = ?
+returns c =
+    let l = c .before .loop in
+    let a = c .before .before .args in
+    let last : l .i ≡ 31 = omega arith in
+    l .inv .0
+    ∙ ap (paste (replicate 32 (a .e)) 0 (drop 1 (a .t1))) last
+    ∙ ap (λ (m : List Edit). m ++ (a .e ∷ [])) (take-all 31 (drop 1 (a .t1)) (omega (arith, length-drop 1 (a .t1), l .inv .2)))
 
 pub shifted-spec : {M : Type 1} → statement M
 shifted-spec =
