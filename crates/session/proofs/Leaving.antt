@@ -82,17 +82,20 @@ module _ (s : Session) (buffer : List ℕ) where
   n = listCells s (length buffer)
 
   by-test : (b : Bool) → (leb (2 * s .count .0) (length buffer) && leb (s .recorded) kept) ≡ b
-      → (2 * cond b (s .count .0) 0 ≤ length buffer) × (1 ≤ cond b (s .count .0) 0 → s .recorded ≤ kept)
+      → (2 * cond b (s .count .0) 0 ≤ length buffer) × (1 ≤ cond b (s .count .0) 0 → (s .recorded ≤ kept) × (cond b (s .count .0) 0 ≡ s .count .0))
   by-test true f =
       let fits = leb (2 * s .count .0) (length buffer) in
-      (leb-true _ _ (and-left fits (leb (s .recorded) kept) f), λ h. leb-true _ _ (and-right fits (leb (s .recorded) kept) f))
+      (leb-true _ _ (and-left fits (leb (s .recorded) kept) f), λ h. (leb-true _ _ (and-right fits (leb (s .recorded) kept) f), refl))
   by-test false f = (omega arith, λ h. absurd (omega arith))
 
   pub held : 2 * n ≤ length buffer
   held = by-test _ refl .0
 
   pub few-recorded : 1 ≤ n → s .recorded ≤ kept
-  few-recorded = by-test _ refl .1
+  few-recorded h = by-test _ refl .1 h .0
+
+  pub all-counted : 1 ≤ n → n ≡ s .count .0
+  all-counted h = by-test _ refl .1 h .1
 
   pub list-size : length (listOf s buffer) ≡ 2 * n
   list-size = length-take-le (2 * n) buffer held

@@ -1,0 +1,188 @@
+-- Document 02, R-12: from a list that Judge accepts any run of edits and takings back keeps a track between the same ends; taking back right after
+-- an edit is accepted and restores list and record; and n takings back in a row undo n edits, up to 32.
+use Prim.Native.Nat.{ℕ, zero, suc, _+_, _-_, _*_, _≤_, _<_}
+use native.Mathlib.Omega.{arith}
+use borrow.Author.Tests.{le-leb}
+use mathlib.Core.Path.{_≡_, refl, sym, ap, subst, _∙_}
+use mathlib.Core.Bool.{Bool, true, false, false≢true}
+use mathlib.Core.List.{List, [], _∷_}
+use lib.ListN.{length, take, drop}
+use Rattle.grid.specs.declared.Panel.{Panel}
+use Rattle.grid.specs.declared.Cell.{Cell}
+use Rattle.grid.specs.declared.Refusal.the-variants.{NoSuchEdit, NothingRecorded, ShortBuffer}
+use Rattle.grid.specs.declared.Check.the-variants.{Good}
+use Rattle.grid.specs.Bytes.{cellsIn}
+use Rattle.grid.specs.Track.{Track}
+use Rattle.grid.proofs.Tests.{expect-yes, after-good}
+use Rattle.judge.specs.Judge.{judgeCheck}
+use Rattle.detour.specs.declared.Edit.{Edit}
+use Rattle.detour.specs.Detour.{bulgeAt, pressAt, edited, canEdit, opposite}
+use Rattle.detour.proofs.Kept.{bulge-adds, press-takes}
+use Rattle.detour.proofs.Undone.{undone}
+use Rattle.session.specs.declared.Session.{Session}
+use Rattle.session.specs.declared.Command.{Command}
+use Rattle.session.specs.declared.Command.the-variants.{Bulge, Press, TakeBack}
+use Rattle.session.specs.Session.{kept, listOf, newest, onRecord, changed}
+use Rattle.session.specs.Edits.{editOf}
+use Rattle.history.specs.Run.{Desk, drawing, recordOf, Whole, isEdit, Judged, Accepted, after, Run, Edited, TakenBack}
+use Rattle.history.proofs.Step.{is-track, was-judged, was-few, can, next-session, next-length, next-drawing, next-judged, is-held, is-counted}
+use Rattle.history.proofs.Records.{newestOf, recorded-first, recorded-more, recorded-whole, off-full, off-open}
+
+-- an edit is recorded
+edit-recorded : (c : Command) (e : Edit) (n : ℕ) (s : Session) → isEdit c ≡ true → changed c e n s ≡ onRecord e n s
+edit-recorded (Bulge k left) e n s h = refl
+edit-recorded (Press k) e n s h = refl
+edit-recorded TakeBack e n s h = absurd (false≢true h)
+
+-- the opposites of edits, one behind the other, lead from a list to another, and a buffer of n bytes holds all between
+data Undoes (p : Panel) (n : ℕ) : List Edit → List Cell → List Cell → Type 0 where
+  none : {l : List Cell} → Undoes p n [] l l
+  more : {e : Edit} {r : List Edit} {l m : List Cell} → canEdit p (opposite e) l ≡ true → 2 * length (edited (opposite e) l) ≤ n
+      → Undoes p n r (edited (opposite e) l) m → Undoes p n (e ∷ r) l m
+
+module _ (p : Panel) (a z : Cell) (room : ℕ) where
+  -- ---- any run
+
+  pub run-judged : {d f : Desk} → Run p a z room d f → Judged p a z room d → Judged p a z room f
+  run-judged Run.none j = j
+  run-judged (Run.more {f = f} r c ok) j = next-judged p a z room c f ok
+
+  -- from a list that Judge accepts any run keeps a track between the same ends
+  pub run-track : {d f : Desk} → Run p a z room d f → Judged p a z room d → Track p a z (drawing f)
+  run-track {f = f} r j = is-track p a z room (listOf (f .session) (f .buffer)) (run-judged r j)
+
+  -- a bulge adds two cells, a press takes two
+  pub bulge-longer : (k : ℕ) (left : Bool) (d : Desk) → Accepted p a z room (Bulge k left) d
+      → length (drawing (after p a z room (Bulge k left) d)) ≡ length (drawing d) + 2
+  bulge-longer k left d ok =
+      ap length (next-drawing p a z room (Bulge k left) d ok)
+      ∙ bulge-adds p (bulgeAt k left) (drawing d) refl (can p a z room (Bulge k left) d ok)
+
+  pub press-shorter : (k : ℕ) (d : Desk) → Accepted p a z room (Press k) d
+      → length (drawing (after p a z room (Press k) d)) + 2 ≡ length (drawing d)
+  press-shorter k d ok =
+      ap (λ (l : List Cell). length l + 2) (next-drawing p a z room (Press k) d ok)
+      ∙ press-takes p (pressAt k (drawing d)) (drawing d) refl (can p a z room (Press k) d ok)
+
+  -- ---- one taking back
+
+  module _ (d : Desk) (judged : Judged p a z room d) (some : 1 ≤ d .session .recorded) where
+    accepted : canEdit p (opposite (newest (d .session))) (drawing d) ≡ true
+        → 2 * length (edited (opposite (newest (d .session))) (drawing d)) ≤ length (d .buffer) → Accepted p a z room TakeBack d
+    accepted able fits =
+        sym (after-good _ judged (expect-yes NothingRecorded _ (le-leb 1 _ some)
+        (expect-yes NoSuchEdit _ able (expect-yes ShortBuffer _ (le-leb _ _ fits) refl))))
+
+  -- ---- as many as the opposites of the newest edits lead back
+
+  pub record Back (n : ℕ) (d : Desk) (m : List Cell) : Type 0 where
+    pub end : Desk
+    pub way : TakenBack p a z room n d end
+    pub list : drawing end ≡ m
+    pub judged : Judged p a z room end
+
+  back : (n size : ℕ) (d : Desk) (l m : List Cell) → Judged p a z room d → n ≤ d .session .recorded → length (d .buffer) ≡ size → drawing d ≡ l
+      → Undoes p size (newestOf (d .session .edits) (d .session .recorded) n) l m → Back n d m
+  back zero size d l m j h b q Undoes.none = record { end = d; way = TakenBack.none; list = q; judged = j }
+  back (suc n) size d l m j h b q (Undoes.more able fits u) =
+      let s = d .session in
+      let e = opposite (newest s) in
+      let could = ap (canEdit p e) q ∙ able in
+      let room-for : 2 * length (edited e (drawing d)) ≤ length (d .buffer) = omega (arith, ap (λ (k : List Cell). length (edited e k)) q, b, fits) in
+      let ok = accepted d j (omega arith) could room-for in
+      let f = after p a z room TakeBack d in
+      let left = next-session p a z room TakeBack d ok in
+      let rest = subst (λ (t : Session). Undoes p size (newestOf (t .edits) (t .recorded) n) (edited e l) m) (sym left) u in
+      let fewer : n ≤ f .session .recorded = omega (arith, ap (λ (t : Session). t .recorded) left, h) in
+      let list = next-drawing p a z room TakeBack d ok ∙ ap (edited e) q in
+      let r = back n size f (edited e l) m (next-judged p a z room TakeBack d ok) fewer (next-length p a z room TakeBack d ok ∙ b) list rest in
+      record { end = r .end; way = TakenBack.more ok (r .way); list = r .list; judged = r .judged }
+
+  -- ---- edits, one behind the other, and what undoes them
+
+  record Unwinds (n : ℕ) (d f : Desk) : Type 0 where
+    pub judged : Judged p a z room f
+    pub whole : Whole f
+    pub size : length (f .buffer) ≡ length (d .buffer)
+    pub enough : n ≤ f .session .recorded
+    pub undoes : Undoes p (length (d .buffer)) (newestOf (f .session .edits) (f .session .recorded) n) (drawing f) (drawing d)
+
+  unwinds : {n : ℕ} {d f : Desk} → Edited p a z room n d f → n ≤ kept → Judged p a z room d → Whole d → Unwinds n d f
+  unwinds Edited.none h j w = record { judged = j; whole = w; size = refl; enough = omega arith; undoes = Undoes.none }
+  unwinds {n = suc n} {d = d} (Edited.more {f = f} run c is ok) h j w =
+      let was = unwinds run (omega arith) j w in
+      let s = f .session in
+      let l = drawing f in
+      let e = editOf c s (f .buffer) in
+      let g = after p a z room c f in
+      let few = was-few p a z room c f ok in
+      let left : g .session ≡ onRecord e (length (edited e l)) s =
+      next-session p a z room c f ok ∙ edit-recorded c e (length (edited e l)) s is in
+      let next = next-drawing p a z room c f ok in
+      let (again, same) = undone p a z e l (is-track p a z room (listOf s (f .buffer)) (was .judged)) (can p a z room c f ok) in
+      let fits : 2 * length (edited (opposite e) (edited e l)) ≤ length (d .buffer) =
+      omega (arith, ap length same, is-held p a z room f (was .judged), was .size) in
+      let rest = subst (λ (k : List Cell). Undoes p (length (d .buffer)) (newestOf (s .edits) (s .recorded) n) k (drawing d)) (sym same) (was .undoes) in
+      let first = recorded-first e (length (edited e l)) s (was .whole) few n (was .enough) (omega arith) in
+      let all = sym first ∙ ap (λ (t : Session). newestOf (t .edits) (t .recorded) (suc n)) (sym left) in
+      let more-recorded = recorded-more e (length (edited e l)) s (was .whole) few n (was .enough) (omega arith) in
+      let newer = newestOf (g .session .edits) (g .session .recorded) (suc n) in
+      let edit-undone : Undoes p (length (d .buffer)) newer (edited e l) (drawing d) =
+      subst (λ (r : List Edit). Undoes p (length (d .buffer)) r (edited e l) (drawing d)) all (Undoes.more again fits rest) in
+      record {
+        judged = next-judged p a z room c f ok;
+        whole = ap (λ (t : Session). length (t .edits)) left ∙ recorded-whole e (length (edited e l)) s (was .whole) few;
+        size = next-length p a z room c f ok ∙ was .size;
+        enough = omega (arith, more-recorded, ap (λ (t : Session). t .recorded) left);
+        undoes = subst (λ (k : List Cell). Undoes p (length (d .buffer)) newer k (drawing d)) (sym next) edit-undone;
+      }
+
+  -- n takings back in a row undo n edits, up to 32, whatever was recorded before
+  pub undo : (n : ℕ) (d f : Desk) → n ≤ kept → Judged p a z room d → Whole d → Edited p a z room n d f → Back n f (drawing d)
+  undo n d f h j w run =
+      let u = unwinds run h j w in
+      back n (length (d .buffer)) f (drawing f) (drawing d) (u .judged) (u .enough) (u .size) refl (u .undoes)
+
+  -- ---- taking back right after an edit
+
+  -- g is what an edit of d left, or has its session, its list and a buffer of its length: a taking back is accepted, the list is that of d, and
+  -- the record too, but for an oldest one that was dropped
+  pub record Restored (d g : Desk) : Type 0 where
+    pub ok : Accepted p a z room TakeBack g
+    pub list : drawing (after p a z room TakeBack g) ≡ drawing d
+    pub count : after p a z room TakeBack g .session .count .0 ≡ d .session .count .0
+    pub record-open : d .session .recorded < kept → recordOf (after p a z room TakeBack g) ≡ recordOf d
+    pub record-full : kept ≤ d .session .recorded → recordOf (after p a z room TakeBack g) ≡ drop 1 (recordOf d)
+
+  one-back : {g end : Desk} → TakenBack p a z room 1 g end → Accepted p a z room TakeBack g × (after p a z room TakeBack g ≡ end)
+  one-back (TakenBack.more ok TakenBack.none) = (ok, refl)
+
+  pub taken-back : (c : Command) (d g : Desk) → isEdit c ≡ true → Accepted p a z room c d → Whole d → let f = after p a z room c d in
+      g .session ≡ f .session → length (g .buffer) ≡ length (f .buffer) → listOf (g .session) (g .buffer) ≡ listOf (f .session) (f .buffer)
+      → Restored d g
+  taken-back c d g is ok w same-session same-length same-list =
+      let s = d .session in
+      let e = editOf c s (d .buffer) in
+      let n = length (edited e (drawing d)) in
+      let judged = was-judged p a z room c d ok in
+      let few = was-few p a z room c d ok in
+      let u = unwinds {n = 1} {d = d} {f = after p a z room c d} (Edited.more Edited.none c is ok) (omega arith) judged w in
+      let recorded : g .session ≡ onRecord e n s = same-session ∙ next-session p a z room c d ok ∙ edit-recorded c e n s is in
+      let g-judged : Judged p a z room g = ap (λ (b : List ℕ). judgeCheck p a z b room) same-list ∙ u .judged in
+      let g-undoes = subst (λ (t : Session). Undoes p (length (d .buffer)) (newestOf (t .edits) (t .recorded) 1) (drawing (after p a z room c d)) (drawing d))
+      (sym same-session) (u .undoes) in
+      let enough : 1 ≤ g .session .recorded = omega (arith, ap (λ (t : Session). t .recorded) same-session, u .enough) in
+      let b = back 1 (length (d .buffer)) g (drawing (after p a z room c d)) (drawing d) g-judged enough (same-length ∙ u .size) (ap cellsIn same-list) g-undoes in
+      let (back-ok, end) = one-back (b .way) in
+      let list = ap drawing end ∙ b .list in
+      let h = after p a z room TakeBack g in
+      let off : recordOf h ≡ take (onRecord e n s .recorded - 1) (onRecord e n s .edits) =
+      ap (λ (t : Session). take (t .recorded) (t .edits)) (next-session p a z room TakeBack g back-ok)
+      ∙ ap (λ (t : Session). take (t .recorded - 1) (t .edits)) recorded in
+      record {
+        ok = back-ok;
+        list = list;
+        count = sym (is-counted p a z room h (next-judged p a z room TakeBack g back-ok)) ∙ ap length list ∙ is-counted p a z room d judged;
+        record-open = λ q. off ∙ off-open e n s w few q;
+        record-full = λ q. off ∙ off-full e n s w few q;
+      }
