@@ -18,7 +18,8 @@ ghost use lib.Seq.{paste};
 ghost use Rattle.grid.specs.Panel.{maxSide};
 ghost use Rattle.grid.specs.Bytes.{InBytes, bytes, cellsIn, front};
 ghost use Rattle.list.specs.List.{among};
-ghost use Rattle.detour.specs.Detour.{leftOf, beside, cellNo, isFree, canBulge, isDetour, canEdit, opposite, bulgeAt, pressAt, bulged, pressed, edited, withZeros};
+ghost use Rattle.detour.specs.Detour.{leftOf, beside, cellNo, isFree, canBulge, isDetour, canEdit};
+ghost use Rattle.detour.specs.Detour.{opposite, bulgeAt, pressAt, bulged, pressed, edited, withZeros};
 ghost use Rattle.edit_list.specs.Possible.{Possible};
 
 // How far a is above b; 0 where it is not, so that a cell off the panel has a 0 in it.

@@ -122,7 +122,8 @@ module _ (p : Panel) (a z : Cell) (room : ℕ) where
       let (again, same) = undone p a z e l (is-track p a z room (listOf s (f .buffer)) (was .judged)) (can p a z room c f ok) in
       let fits : 2 * length (edited (opposite e) (edited e l)) ≤ length (d .buffer) =
       omega (arith, ap length same, is-held p a z room f (was .judged), was .size) in
-      let rest = subst (λ (k : List Cell). Undoes p (length (d .buffer)) (newestOf (s .edits) (s .recorded) n) k (drawing d)) (sym same) (was .undoes) in
+      let older = newestOf (s .edits) (s .recorded) n in
+      let rest = subst (λ (k : List Cell). Undoes p (length (d .buffer)) older k (drawing d)) (sym same) (was .undoes) in
       let first = recorded-first e (length (edited e l)) s (was .whole) few n (was .enough) (omega arith) in
       let all = sym first ∙ ap (λ (t : Session). newestOf (t .edits) (t .recorded) (suc n)) (sym left) in
       let more-recorded = recorded-more e (length (edited e l)) s (was .whole) few n (was .enough) (omega arith) in
@@ -166,13 +167,15 @@ module _ (p : Panel) (a z : Cell) (room : ℕ) where
       let n = length (edited e (drawing d)) in
       let judged = was-judged p a z room c d ok in
       let few = was-few p a z room c d ok in
-      let u = unwinds {n = 1} {d = d} {f = after p a z room c d} (Edited.more Edited.none c is ok) (omega arith) judged w in
+      let f = after p a z room c d in
+      let u = unwinds {n = 1} {d = d} {f = f} (Edited.more Edited.none c is ok) (omega arith) judged w in
       let recorded : g .session ≡ onRecord e n s = same-session ∙ next-session p a z room c d ok ∙ edit-recorded c e n s is in
       let g-judged : Judged p a z room g = ap (λ (b : List ℕ). judgeCheck p a z b room) same-list ∙ u .judged in
-      let g-undoes = subst (λ (t : Session). Undoes p (length (d .buffer)) (newestOf (t .edits) (t .recorded) 1) (drawing (after p a z room c d)) (drawing d))
+      let g-undoes = subst (λ (t : Session). Undoes p (length (d .buffer)) (newestOf (t .edits) (t .recorded) 1) (drawing f) (drawing d))
       (sym same-session) (u .undoes) in
       let enough : 1 ≤ g .session .recorded = omega (arith, ap (λ (t : Session). t .recorded) same-session, u .enough) in
-      let b = back 1 (length (d .buffer)) g (drawing (after p a z room c d)) (drawing d) g-judged enough (same-length ∙ u .size) (ap cellsIn same-list) g-undoes in
+      let size = same-length ∙ u .size in
+      let b = back 1 (length (d .buffer)) g (drawing f) (drawing d) g-judged enough size (ap cellsIn same-list) g-undoes in
       let (back-ok, end) = one-back (b .way) in
       let list = ap drawing end ∙ b .list in
       let h = after p a z room TakeBack g in

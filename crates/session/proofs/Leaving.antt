@@ -156,7 +156,8 @@ module _ (p : Panel) (a z : Cell) (c : Command) (s : Session) (buffer old : List
         → Leaves (editTest p e (front m buffer) (length buffer)) c e (front m buffer) s buffer s' buffer' d
         → Edits p a z c s buffer old s' buffer' new d
     by-edit h {m} count is {s'} {buffer'} {d} left =
-        let Left : ℕ → Edit → Type 0 = λ (i : ℕ) (b : Edit). Leaves (editTest p b (front i buffer) (length buffer)) c b (front i buffer) s buffer s' buffer' d in
+        let Left : ℕ → Edit → Type 0 =
+        λ (i : ℕ) (b : Edit). Leaves (editTest p b (front i buffer) (length buffer)) c b (front i buffer) s buffer s' buffer' d in
         let meant-left : Left m (meant c s (front m buffer)) = subst (Left m) is left in
         let own : Left (listCells s (length buffer)) (editOf c s buffer) = subst (λ (i : ℕ). Left i (meant c s (front i buffer))) count meant-left in
         let test = after-good after-judge accepted (expect-yes NothingRecorded _ h refl) in

@@ -208,7 +208,8 @@ fn edit_judged(s: Session, c: Command, e: Edit, p: Panel, cells: usize, list: &m
     requires held { ⌜ (2 * cells ≤ length (now list)) × (cells ≤ 16384) ⌝ }
     requires good { ⌜ goodSides p ≡ true ⌝ }
     requires taken { ⌜ ready c s ≡ true ⌝ }
-    ensures { λ r. ⌜ Leaves (editTest p e (front cells (now (list .entry))) (length (now (list .entry)))) c e (front cells (now (list .entry))) s (now (list .entry)) (r .session) (now (list .exit)) (r .answer) ⌝ }
+    ensures { λ r. ⌜ Leaves (editTest p e (front cells (now (list .entry))) (length (now (list .entry))))
+        c e (front cells (now (list .entry))) s (now (list .entry)) (r .session) (now (list .exit)) (r .answer) ⌝ }
 {
     let told = check_edit(p, e, cells, list);
     if let Check::Refused(r) = told {
@@ -223,7 +224,7 @@ fn edit_judged(s: Session, c: Command, e: Edit, p: Panel, cells: usize, list: &m
 }
 
 // What the call does, with the session by value.
-pub fn edit_value(
+fn edit_value(
     s: Session,
     c: Command,
     p: Panel,
@@ -232,7 +233,8 @@ pub fn edit_value(
     list: &mut [u8],
     scratch: &mut [u8],
 ) -> Edited
-    ensures { λ r. ⌜ Edits p entry exit c s (now (list .entry)) (now (scratch .entry)) (r .session) (now (list .exit)) (now (scratch .exit)) (r .answer) ⌝ }
+    ensures { λ r. ⌜ Edits p entry exit c s (now (list .entry)) (now (scratch .entry))
+        (r .session) (now (list .exit)) (now (scratch .exit)) (r .answer) ⌝ }
 {
     let cells = list_cells(s, list.len());
     let judged = judge(p, entry, exit, &list[..2 * cells], scratch);
@@ -256,7 +258,8 @@ pub fn edit_drawing(
     list: &mut [u8],
     scratch: &mut [u8],
 ) -> CellsAnswer
-    ensures { λ r. ⌜ Edits p entry exit c (now (s .entry)) (now (list .entry)) (now (scratch .entry)) (now (s .exit)) (now (list .exit)) (now (scratch .exit)) r ⌝ }
+    ensures { λ r. ⌜ Edits p entry exit c (now (s .entry)) (now (list .entry)) (now (scratch .entry))
+        (now (s .exit)) (now (list .exit)) (now (scratch .exit)) r ⌝ }
 {
     let was = *s;
     let done = edit_value(was, c, p, entry, exit, list, scratch);
@@ -274,7 +277,8 @@ pub fn edit_lent(
     list: &mut [u8],
     scratch: &mut [u8],
 ) -> Edited
-    ensures { λ r. ⌜ Edits p entry exit c s (now (list .entry)) (now (scratch .entry)) (r .session) (now (list .exit)) (now (scratch .exit)) (r .answer) ⌝ }
+    ensures { λ r. ⌜ Edits p entry exit c s (now (list .entry)) (now (scratch .entry))
+        (r .session) (now (list .exit)) (now (scratch .exit)) (r .answer) ⌝ }
 {
     let mut lent = s;
     let answer = edit_drawing(&mut lent, c, p, entry, exit, list, scratch);

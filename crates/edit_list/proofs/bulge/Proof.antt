@@ -71,7 +71,7 @@ mul-slide-up-2 : tie.Need-mul-slide-up-2
 mul-slide-up-2 c = search needs
 
 slide-up-requires : tie.Need-slide-up-requires
-slide-up-requires c κs = omega (arith, within (c .before .before .before .before .before .before), c .before .before .before .before .before .before .pre .0)
+slide-up-requires c κs = let s = c .before .before .before .before .before .before in omega (arith, within s, s .pre .0)
 
 mul-put-detour : tie.Need-mul-put-detour
 mul-put-detour c = search needs
@@ -83,17 +83,20 @@ beside-requires-2 : tie.Need-beside-requires-2
 beside-requires-2 c κs = search needs
 
 -- the cells of the detour are those beside the step
+abbrev ends : tie.After-beside2 → tie.After-cell-no2
+ends c = c .before .before .before .before .before .before .before
+
 abbrev begin : tie.After-beside2 → tie.Start
-begin c = c .before .before .before .before .before .before .before .before .before .before .before .before
+begin c = ends c .before .before .before .before .before
 
 abbrev listed : tie.After-beside2 → List Cell
 listed c = front (begin c .args .cells) (begin c .args .list .now)
 
-a-is : (c : tie.After-beside2) → c .before .before .before .before .before .before .before .before .before .cell-no .result ≡ cellNo (listed c) (begin c .args .place)
-a-is c = c .before .before .before .before .before .before .before .before .before .cell-no .ensures .0
+a-is : (c : tie.After-beside2) → ends c .before .before .cell-no .result ≡ cellNo (listed c) (begin c .args .place)
+a-is c = ends c .before .before .cell-no .ensures .0
 
-b-is : (c : tie.After-beside2) → c .before .before .before .before .before .before .before .cell-no2 .result ≡ cellNo (listed c) (begin c .args .place + 1)
-b-is c = c .before .before .before .before .before .before .before .cell-no2 .ensures .0
+b-is : (c : tie.After-beside2) → ends c .cell-no2 .result ≡ cellNo (listed c) (begin c .args .place + 1)
+b-is c = ends c .cell-no2 .ensures .0
 
 first-is : (c : tie.After-beside2) → let a = begin c .args in
     c .before .beside .result ≡ beside (a .left) (cellNo (listed c) (a .place)) (cellNo (listed c) (a .place + 1)) (cellNo (listed c) (a .place))
@@ -127,12 +130,15 @@ same-length c = search needs
 
 returns : tie.Need-returns
 returns c =
-    let s = c .before .before .before .before .before .before .before .before .before .before .before .before .before .before .before .before .before .before .before in
+    let put = c .before .before .before .before .before .before in
+    let found = put .before in
+    let slid = found .before .before .before .before .before .slide-up in
+    let s = begin found in
     let a = s .args in
-    let found = c .before .before .before .before .before .before .before in
-    let put = c .before .before .before .before .before .before .put-detour .ensures ∙ (λ i. paste (c .before .before .before .before .before .before .before .before .before .before .before .before .slide-up .last .0) (2 * a .place) (bytes (first-is found i ∷ second-is found i ∷ [])) 4) in
+    let cells = put .put-detour .ensures
+    ∙ (λ i. paste (slid .last .0) (2 * a .place) (bytes (first-is found i ∷ second-is found i ∷ [])) 4) in
     bulge-made (a .list .now) (a .cells) (a .place) (a .left) (held s) (s .pre .1 .panel) (s .pre .1 .can) (s .pre .0)
-    (c .before .before .before .before .before .before .before .before .before .before .before .before .slide-up .ensures) put (c .before .before .clear-behind .ensures)
+    (slid .ensures) cells (c .before .before .clear-behind .ensures)
 
 pub bulge-spec : {M : Type 1} → statement M
 bulge-spec =

@@ -44,7 +44,8 @@ judged : (c : tie.After-judge) → let a = start (c .before .before .before) .ar
 judged c =
     let t = c .before .before .before in
     let a = start t .args in
-    subst (λ (k : ℕ). Judges (a .p) (a .entry) (a .exit) (take (2 * k) (a .list .now)) (a .scratch .now) (c .judge .last .1 .1 .1 .1 .0) (c .judge .result))
+    let new = c .judge .last .1 .1 .1 .1 .0 in
+    subst (λ (k : ℕ). Judges (a .p) (a .entry) (a .exit) (take (2 * k) (a .list .now)) (a .scratch .now) new (c .judge .result))
     (t .list-cells .ensures) (c .judge .ensures)
 
 judge-requires : tie.Need-judge-requires
@@ -64,9 +65,9 @@ same-length-2 c = search needs
 
 returns : tie.Need-returns
 returns c =
-    let s = c .before .before .before .before .before .before .before .before .before .before .before .before in
-    let a = s .args in
-    by-judge (a .p) (a .entry) (a .exit) (a .c) (a .s) (a .list .now) (a .scratch .now) (judged (c .before .before .before .before .before .before)) (c .before .before .judged .given .1)
+    let j = c .before .before .before .before .before .before in
+    let a = start (j .before .before .before) .args in
+    by-judge (a .p) (a .entry) (a .exit) (a .c) (a .s) (a .list .now) (a .scratch .now) (judged j) (c .before .before .judged .given .1)
     (c .refused .ensures)
 
 enum-told : tie.Need-enum-told
@@ -87,8 +88,9 @@ same-length-4 c = search needs
 returns-2 : tie.Need-returns-2
 returns-2 c =
     let t = c .before .before in
-    let a = start (t .before .before .before .before .before .before .before .before) .args in
-    by-record (a .p) (a .entry) (a .exit) (a .c) (a .s) (a .list .now) (a .scratch .now) (judged (t .before .before .before .before .before)) (t .before .enum-told .given .1)
+    let j = t .before .before .before .before .before in
+    let a = start (j .before .before .before) .args in
+    by-record (a .p) (a .entry) (a .exit) (a .c) (a .s) (a .list .now) (a .scratch .now) (judged j) (t .before .enum-told .given .1)
     (sym (t .ready .ensures) ∙ not-true _ (c .before .if1 .taken)) (c .refused2 .ensures)
 
 mul-meant : tie.Need-mul-meant
@@ -102,14 +104,22 @@ slice-aggregate-meant c = taken (c .before .before .before .before .before .befo
 
 -- behind both tests
 module _ (c : tie.Else1) where
+  abbrev answered : tie.After-judge
+  answered = c .before .before .before .before .before .before
+
+  abbrev sized : tie.After-list-cells
+  sized = answered .before .before .before
+
   abbrev begun : tie.Start
-  begun = start (c .before .before .before .before .before .before .before .before .before)
+  begun = start sized
 
   recorded : ready (begun .args .c) (begun .args .s) ≡ true
   recorded = sym (c .before .ready .ensures) ∙ not-false _ (c .if1 .left)
 
   good : let a = begun .args in judgeCheck (a .p) (a .entry) (a .exit) (listOf (a .s) (a .list .now)) (length (a .scratch .now)) ≡ Good
-  good = let a = begun .args in judge-good (a .s) (a .list .now) (a .p) (a .entry) (a .exit) (a .scratch .now) (judged (c .before .before .before .before .before .before)) (c .before .before .enum-told .given .1)
+  good =
+      let a = begun .args in
+      judge-good (a .s) (a .list .now) (a .p) (a .entry) (a .exit) (a .scratch .now) (judged answered) (c .before .before .enum-told .given .1)
 
   few : begun .args .s .recorded ≤ kept
   few =
@@ -125,7 +135,7 @@ edit-judged-requires c κs =
     let a = begun t .args in
     let cells = few-cells (a .s) (a .list .now) (a .p) (a .entry) (a .exit) (length (a .scratch .now)) (good t) in
     let sides = sides-good (a .s) (a .list .now) (a .p) (a .entry) (a .exit) (length (a .scratch .now)) (good t) in
-    ((fits (t .before .before .before .before .before .before .before .before .before), omega (arith, cells, t .before .before .before .before .before .before .before .before .before .list-cells .ensures)), (sides, recorded t))
+    ((fits (sized t), omega (arith, cells, sized t .list-cells .ensures)), (sides, recorded t))
 
 same-length-5 : tie.Need-same-length-5
 same-length-5 c = search needs
@@ -137,8 +147,9 @@ returns-3 : tie.Need-returns-3
 returns-3 c =
     let t = c .before .before .before .before .before .before in
     let a = begun t .args in
-    by-edit (a .p) (a .entry) (a .exit) (a .c) (a .s) (a .list .now) (a .scratch .now) (judged (t .before .before .before .before .before .before)) (t .before .before .enum-told .given .1) (recorded t)
-    (t .before .before .before .before .before .before .before .before .before .list-cells .ensures) (c .before .before .before .before .meant .ensures) (c .before .before .edit-judged .ensures)
+    let accepted = t .before .before .enum-told .given .1 in
+    by-edit (a .p) (a .entry) (a .exit) (a .c) (a .s) (a .list .now) (a .scratch .now) (judged (answered t)) accepted (recorded t)
+    (sized t .list-cells .ensures) (c .before .before .before .before .meant .ensures) (c .before .before .edit-judged .ensures)
 
 pub edit-value-spec : {M : Type 1} → statement M
 edit-value-spec =
