@@ -17,7 +17,7 @@ use Rattle.detour.proofs.Cut.{halves}
 use Rattle.detour.proofs.Square.{around, next-ne}
 use Rattle.detour.proofs.Facts.{CanBulge, IsDetour, by-kind}
 use Rattle.detour.proofs.Lists.{bulged-length, pressed-length, bulged-pressed}
-use Rattle.detour.proofs.Clean.{Clean, track-clean, inserted, taken-out, put-two, two-free}
+use Rattle.detour.proofs.Tidy.{Tidy, track-tidy, inserted, taken-out, put-two, two-free}
 
 -- ---- tracks
 
@@ -27,7 +27,7 @@ module _ {p : Panel} {s t : Cell} {left : Bool} {k : ℕ} {l : List Cell} (r : T
       let on = is-all-on (r .within) in
       let h = halves (r .walk) k (k + 1) (c .low) refl (c .high) in
       let w = around left (h .step) (on-index p l (k - 1) on (omega arith)) (on-index p l (k + 1 - 1) on (omega arith)) in
-      let front = put-two (next-ne (w .along)) (c .first) (c .second) (track-clean r) in
+      let front = put-two (next-ne (w .along)) (c .first) (c .second) (track-tidy r) in
       let q = inserted (detour left (cellNo l k) (cellNo l (k + 1))) k l front in
       record {
         walk = walk-append (h .to) (w .out) (Walk.step (w .along) (Walk.step (w .back) (h .from)));
@@ -37,10 +37,10 @@ module _ {p : Panel} {s t : Cell} {left : Bool} {k : ℕ} {l : List Cell} (r : T
 
   module _ (c : IsDetour left k l) where
     -- the cells that a press takes out are free then, so a bulge can put them in again
-    pub press-frees : CanBulge p left k (pressed k l) × Clean p (pressed k l)
+    pub press-frees : CanBulge p left k (pressed k l) × Tidy p (pressed k l)
     press-frees =
         let m = pressed k l in
-        let whole = subst⁻¹ (Clean p) (bulged-pressed c) (track-clean r) in
+        let whole = subst⁻¹ (Tidy p) (bulged-pressed c) (track-tidy r) in
         let (first, second, rest) = two-free (taken-out (detour left (cellNo m k) (cellNo m (k + 1))) k m whole) in
         (record { low = c .low; high = omega (arith, pressed-length c); first = first; second = second }, rest)
 

@@ -3,7 +3,7 @@ pub mod Cut
 pub mod Square
 pub mod Facts
 pub mod Lists
-pub mod Clean
+pub mod Tidy
 pub mod Kept
 pub mod Undone
 pub mod Sides

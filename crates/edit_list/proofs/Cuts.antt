@@ -1,13 +1,12 @@
 -- The bytes of the first n cells of a buffer, cut at a place; and what is put into the buffer there, or taken out.
-use Prim.Native.Nat.{ℕ, suc, _+_, _-_, _*_, _≤_, _%_}
-use native.Mathlib.Numerals.{add-one, add-two}
+use Prim.Native.Nat.{ℕ, _+_, _-_, _*_, _≤_}
 use native.Mathlib.Omega.{arith}
-use mathlib.Core.Path.{_≡_, refl, sym, ap, _∙_}
+use mathlib.Core.Path.{_≡_, sym, ap, _∙_}
 use mathlib.Core.List.{List, [], _∷_, _++_, append-assoc}
-use lib.ListN.{length, take, drop, set, length-drop, length-append, take-append-drop}
-use lib.Seq.{paste, sets, sets-eq, length-take-le, take-take, take-add, take-at, drop-at, take-append-le, take-paste, length-paste}
+use lib.ListN.{length, take, drop, length-drop, length-append, take-append-drop}
+use lib.Seq.{paste, length-take-le, take-take, take-add, take-at, drop-at, take-append-le, take-paste}
 use Rattle.grid.specs.declared.Cell.{Cell}
-use Rattle.grid.specs.Bytes.{bytes, cellsIn, front}
+use Rattle.grid.specs.Bytes.{bytes, front}
 use Rattle.grid.proofs.Bytes.{bytes-append, length-bytes}
 use Rattle.list.proofs.Cells.{bytes-cells, length-cells}
 

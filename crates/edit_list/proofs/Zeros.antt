@@ -20,9 +20,9 @@ cleared-behind b s h =
     (λ i. take s b ++ (replicate k 0 ++ part i ++ post i))
     ∙ ap (λ (m : List ℕ). take s b ++ m) (append-nil (replicate k 0 ++ []) ∙ append-nil (replicate k 0))
 
-pub put-two : (b : List ℕ) (s : ℕ) (c d : Cell) → s + 4 ≤ length b
+pub put-both : (b : List ℕ) (s : ℕ) (c d : Cell) → s + 4 ≤ length b
     → set (set (set (set b s (c .x)) (s + 1) (c .y)) (s + 2) (d .x)) (s + 2 + 1) (d .y) ≡ paste b s (bytes (c ∷ d ∷ [])) 4
-put-two b s c d h =
+put-both b s c d h =
     let one : s + 1 ≡ suc s = omega arith in
     let two : s + 2 ≡ suc (suc s) = omega arith in
     let three : s + 2 + 1 ≡ suc (suc (suc s)) = omega arith in

@@ -11,7 +11,7 @@ use lib.Seq.{getD-set-same, getD-set-other, getD-drop, getD-at, take-set-le, tak
 use Rattle.grid.proofs.Tests.{both-branches}
 use Rattle.detour.specs.declared.Edit.{Edit}
 use Rattle.session.specs.declared.Session.{Session}
-use Rattle.session.specs.Session.{kept, noEdit, onRecord}
+use Rattle.session.specs.Session.{keptEdits, noEdit, onRecord}
 
 -- the newest j of k edits, newest first
 abbrev pub newestOf : List Edit → ℕ → ℕ → List Edit
@@ -36,27 +36,27 @@ moved l k (suc j) e h f =
     let rest = moved l (k - 1) j e (omega arith) (omega arith) ∙ ap (λ (i : ℕ). newestOf l i j) same in
     λ i. here i ∷ rest i
 
-module _ (e : Edit) (n : ℕ) (s : Session) (whole : length (s .edits) ≡ kept) (few : s .recorded ≤ kept) where
+module _ (e : Edit) (n : ℕ) (s : Session) (whole : length (s .edits) ≡ keptEdits) (few : s .recorded ≤ keptEdits) where
   -- a recorded edit is the newest, in front of what was
-  pub recorded-first : (j : ℕ) → j ≤ s .recorded → j ≤ kept - 1
+  pub recorded-first : (j : ℕ) → j ≤ s .recorded → j ≤ keptEdits - 1
       → newestOf (onRecord e n s .edits) (onRecord e n s .recorded) (suc j) ≡ e ∷ newestOf (s .edits) (s .recorded) j
   recorded-first j h f =
       both-branches (λ (t : Session). newestOf (t .edits) (t .recorded) (suc j) ≡ e ∷ newestOf (s .edits) (s .recorded) j)
-      (leb kept (s .recorded)) _ _ full open-place
+      (leb keptEdits (s .recorded)) _ _ full open-place
     where
-      full : leb kept (s .recorded) ≡ true
+      full : leb keptEdits (s .recorded) ≡ true
           → newestOf (drop 1 (s .edits) ++ (e ∷ [])) (s .recorded) (suc j) ≡ e ∷ newestOf (s .edits) (s .recorded) j
       full q =
-          let all = leb-true kept (s .recorded) q in
+          let all = leb-true keptEdits (s .recorded) q in
           let last : length (drop 1 (s .edits)) ≡ s .recorded - 1 = omega (arith, length-drop 1 (s .edits)) in
           let same : s .recorded - 1 + 1 ≡ s .recorded = omega arith in
           let rest = moved (s .edits) (s .recorded - 1) j e (omega arith) (omega arith) ∙ ap (λ (i : ℕ). newestOf (s .edits) i j) same in
           λ i. getD-at (drop 1 (s .edits)) e [] noEdit (s .recorded - 1) last i ∷ rest i
 
-      open-place : leb kept (s .recorded) ≡ false
+      open-place : leb keptEdits (s .recorded) ≡ false
           → newestOf (set (s .edits) (s .recorded) e) (s .recorded + 1) (suc j) ≡ e ∷ newestOf (s .edits) (s .recorded) j
       open-place q =
-          let room = leb-false kept (s .recorded) q in
+          let room = leb-false keptEdits (s .recorded) q in
           let same : s .recorded + 1 - 1 ≡ s .recorded = omega arith in
           let first = ap (λ (i : ℕ). getD (set (s .edits) (s .recorded) e) i noEdit) same
           ∙ getD-set-same (s .edits) (s .recorded) e noEdit (omega arith) in
@@ -64,14 +64,14 @@ module _ (e : Edit) (n : ℕ) (s : Session) (whole : length (s .edits) ≡ kept)
           ∙ before (s .edits) (s .recorded) (s .recorded) j e h (omega arith) in
           λ i. first i ∷ rest i
 
-  pub recorded-more : (j : ℕ) → j ≤ s .recorded → j ≤ kept - 1 → suc j ≤ onRecord e n s .recorded
+  pub recorded-more : (j : ℕ) → j ≤ s .recorded → j ≤ keptEdits - 1 → suc j ≤ onRecord e n s .recorded
   recorded-more j h f =
-      both-branches (λ (t : Session). suc j ≤ t .recorded) (leb kept (s .recorded)) _ _
-      (λ q. omega (arith, leb-true kept (s .recorded) q)) (λ q. omega arith)
+      both-branches (λ (t : Session). suc j ≤ t .recorded) (leb keptEdits (s .recorded)) _ _
+      (λ q. omega (arith, leb-true keptEdits (s .recorded) q)) (λ q. omega arith)
 
-  pub recorded-whole : length (onRecord e n s .edits) ≡ kept
+  pub recorded-whole : length (onRecord e n s .edits) ≡ keptEdits
   recorded-whole =
-      both-branches (λ (t : Session). length (t .edits) ≡ kept) (leb kept (s .recorded)) _ _
+      both-branches (λ (t : Session). length (t .edits) ≡ keptEdits) (leb keptEdits (s .recorded)) _ _
       (λ q. omega (arith, length-append (drop 1 (s .edits)) (e ∷ []), length-drop 1 (s .edits)))
       (λ q. length-set (s .edits) (s .recorded) e ∙ whole)
 
@@ -85,17 +85,17 @@ module _ (e : Edit) (n : ℕ) (s : Session) (whole : length (s .edits) ≡ kept)
   abbrev added : Session
   added = record { count = record { 0 = n }; recorded = s .recorded + 1; edits = set (s .edits) (s .recorded) e }
 
-  pub off-full : kept ≤ s .recorded → off ≡ drop 1 (take (s .recorded) (s .edits))
+  pub off-full : keptEdits ≤ s .recorded → off ≡ drop 1 (take (s .recorded) (s .edits))
   off-full h =
-      let is = ap (λ (b : Bool). cond b dropped added) (le-leb kept (s .recorded) h) in
+      let is = ap (λ (b : Bool). cond b dropped added) (le-leb keptEdits (s .recorded) h) in
       let size : length (drop 1 (s .edits)) ≡ s .recorded - 1 = omega (arith, length-drop 1 (s .edits)) in
       ap (λ (t : Session). take (t .recorded - 1) (t .edits)) is
       ∙ take-at (drop 1 (s .edits)) (e ∷ []) (s .recorded - 1) size
       ∙ sym (ap (drop 1) (take-all (s .recorded) (s .edits) (omega arith)))
 
-  pub off-open : s .recorded < kept → off ≡ take (s .recorded) (s .edits)
+  pub off-open : s .recorded < keptEdits → off ≡ take (s .recorded) (s .edits)
   off-open h =
-      let is = ap (λ (b : Bool). cond b dropped added) (lt-leb kept (s .recorded) h) in
+      let is = ap (λ (b : Bool). cond b dropped added) (lt-leb keptEdits (s .recorded) h) in
       let same : s .recorded + 1 - 1 ≡ s .recorded = omega arith in
       ap (λ (t : Session). take (t .recorded - 1) (t .edits)) is
       ∙ ap (λ (k : ℕ). take k (set (s .edits) (s .recorded) e)) same

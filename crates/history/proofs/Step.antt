@@ -1,10 +1,10 @@
 -- One accepted command: what its tests say, the list that it leaves, and that Judge accepts that list.
-use Prim.Native.Nat.{ℕ, _+_, _-_, _*_, _≤_}
+use Prim.Native.Nat.{ℕ, _-_, _*_, _≤_}
 use native.Mathlib.Omega.{arith}
 use borrow.Author.Tests.{leb-true, leb-false, le-leb}
 use mathlib.Core.Path.{_≡_, refl, sym, ap, subst, _∙_}
-use mathlib.Core.Bool.{Bool, true, false, cond, _&&_}
-use mathlib.Core.List.{List, _++_}
+use mathlib.Core.Bool.{true}
+use mathlib.Core.List.{List}
 use lib.Dec.{leb}
 use lib.ListN.{length, take, replicate, length-append, length-replicate}
 use lib.Seq.{take-at}
@@ -33,10 +33,10 @@ use Rattle.detour.proofs.Kept.{kept as kept-track}
 use Rattle.session.specs.declared.Session.{Session}
 use Rattle.session.specs.declared.Command.{Command}
 use Rattle.session.specs.declared.Command.the-variants.{Bulge, Press, TakeBack}
-use Rattle.session.specs.Session.{kept, listCells, listOf, ready, onRecord, changed}
-use Rattle.session.specs.Edits.{cellsOf, editOf, editTest, editCheck}
+use Rattle.session.specs.Session.{keptEdits, listCells, listOf, ready, onRecord, changed}
+use Rattle.session.specs.Edits.{editOf, editTest}
 use Rattle.session.proofs.Leaving.{held, few-recorded, all-counted, list-size, some-cells}
-use Rattle.history.specs.Run.{Desk, drawing, Judged, Accepted, after}
+use Rattle.history.specs.Run.{Desk, drawing, Judged, Accepted, deskAfter}
 
 -- ---- a list with zeros behind it, in a buffer that holds it, and a session that counts it and has no more edits than it keeps
 
@@ -47,7 +47,7 @@ module _ (l : List Cell) (n : ℕ) (fits : 2 * length l ≤ n) where
   pub size : length (withZeros l n) ≡ n
   size = omega (arith, length-append (bytes l) zeros, length-bytes l, length-replicate {A = ℕ} (n - 2 * length l) 0)
 
-  module _ (s : Session) (count : s .count .0 ≡ length l) (few : s .recorded ≤ kept) where
+  module _ (s : Session) (count : s .count .0 ≡ length l) (few : s .recorded ≤ keptEdits) where
     cells-are : listCells s (length (withZeros l n)) ≡ length l
     cells-are =
         let held : 2 * s .count .0 ≤ length (withZeros l n) = omega (arith, size, count) in
@@ -60,19 +60,19 @@ module _ (l : List Cell) (n : ℕ) (fits : 2 * length l ≤ n) where
 
 module _ (e : Edit) (n : ℕ) (s : Session) where
   on-count : onRecord e n s .count .0 ≡ n
-  on-count = both-branches (λ (t : Session). t .count .0 ≡ n) (leb kept (s .recorded)) _ _ (λ h. refl) (λ h. refl)
+  on-count = both-branches (λ (t : Session). t .count .0 ≡ n) (leb keptEdits (s .recorded)) _ _ (λ h. refl) (λ h. refl)
 
-  on-few : s .recorded ≤ kept → onRecord e n s .recorded ≤ kept
+  on-few : s .recorded ≤ keptEdits → onRecord e n s .recorded ≤ keptEdits
   on-few few =
-      both-branches (λ (t : Session). t .recorded ≤ kept) (leb kept (s .recorded)) _ _
-      (λ h. few) (λ h. omega (arith, leb-false kept (s .recorded) h))
+      both-branches (λ (t : Session). t .recorded ≤ keptEdits) (leb keptEdits (s .recorded)) _ _
+      (λ h. few) (λ h. omega (arith, leb-false keptEdits (s .recorded) h))
 
   pub new-count : (c : Command) → changed c e n s .count .0 ≡ n
   new-count (Bulge k left) = on-count
   new-count (Press k) = on-count
   new-count TakeBack = refl
 
-  new-few : (c : Command) → s .recorded ≤ kept → changed c e n s .recorded ≤ kept
+  new-few : (c : Command) → s .recorded ≤ keptEdits → changed c e n s .recorded ≤ keptEdits
   new-few (Bulge k left) few = on-few few
   new-few (Press k) few = on-few few
   new-few TakeBack few = omega arith
@@ -133,30 +133,30 @@ module _ (p : Panel) (a z : Cell) (room : ℕ) where
     pub fits : 2 * length (edited e l) ≤ length (d .buffer)
     fits = leb-true _ _ (expect-passed _ ShortBuffer Good (expect-rest (canEdit p e l) NoSuchEdit _ passed-test))
 
-    pub was-few : s .recorded ≤ kept
+    pub was-few : s .recorded ≤ keptEdits
     was-few = few-recorded s (d .buffer) (some-cells s (d .buffer) p a z room was-judged)
 
     -- what it leaves
-    pub next-session : after p a z room c d .session ≡ changed c e (length (edited e l)) s
+    pub next-session : deskAfter p a z room c d .session ≡ changed c e (length (edited e l)) s
     next-session = sym (answer-good (λ (r : Refusal). s) _ ok refl)
 
-    pub next-buffer : after p a z room c d .buffer ≡ withZeros (edited e l) (length (d .buffer))
+    pub next-buffer : deskAfter p a z room c d .buffer ≡ withZeros (edited e l) (length (d .buffer))
     next-buffer = sym (answer-good (λ (r : Refusal). d .buffer) _ ok refl)
 
-    pub next-length : length (after p a z room c d .buffer) ≡ length (d .buffer)
+    pub next-length : length (deskAfter p a z room c d .buffer) ≡ length (d .buffer)
     next-length = ap length next-buffer ∙ size (edited e l) (length (d .buffer)) fits
 
-    next-list : listOf (after p a z room c d .session) (after p a z room c d .buffer) ≡ bytes (edited e l)
+    next-list : listOf (deskAfter p a z room c d .session) (deskAfter p a z room c d .buffer) ≡ bytes (edited e l)
     next-list =
         let n = length (edited e l) in
         (λ i. listOf (next-session i) (next-buffer i))
         ∙ list-is (edited e l) (length (d .buffer)) fits (changed c e n s) (new-count e n s c) (new-few e n s c was-few)
 
-    pub next-drawing : drawing (after p a z room c d) ≡ edited e l
+    pub next-drawing : drawing (deskAfter p a z room c d) ≡ edited e l
     next-drawing = ap cellsIn next-list ∙ cells-bytes (edited e l)
 
     -- Judge accepts that
-    pub next-judged : Judged p a z room (after p a z room c d)
+    pub next-judged : Judged p a z room (deskAfter p a z room c d)
     next-judged =
         let track = kept-track p a z e l (is-track (listOf s (d .buffer)) was-judged) can in
         ap (λ (b : List ℕ). judgeCheck p a z b room) next-list ∙ track-judged (listOf s (d .buffer)) was-judged track

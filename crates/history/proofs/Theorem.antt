@@ -10,7 +10,6 @@ use lib.ListN.{length, take, drop}
 use Rattle.grid.specs.declared.Panel.{Panel}
 use Rattle.grid.specs.declared.Cell.{Cell}
 use Rattle.grid.specs.declared.Refusal.the-variants.{NoSuchEdit, NothingRecorded, ShortBuffer}
-use Rattle.grid.specs.declared.Check.the-variants.{Good}
 use Rattle.grid.specs.Bytes.{cellsIn}
 use Rattle.grid.specs.Track.{Track}
 use Rattle.grid.proofs.Tests.{expect-yes, after-good}
@@ -22,9 +21,9 @@ use Rattle.detour.proofs.Undone.{undone}
 use Rattle.session.specs.declared.Session.{Session}
 use Rattle.session.specs.declared.Command.{Command}
 use Rattle.session.specs.declared.Command.the-variants.{Bulge, Press, TakeBack}
-use Rattle.session.specs.Session.{kept, listOf, newest, onRecord, changed}
+use Rattle.session.specs.Session.{keptEdits, listOf, newest, onRecord, changed}
 use Rattle.session.specs.Edits.{editOf}
-use Rattle.history.specs.Run.{Desk, drawing, recordOf, Whole, isEdit, Judged, Accepted, after, Run, Edited, TakenBack}
+use Rattle.history.specs.Run.{Desk, drawing, recordOf, Whole, isEdit, Judged, Accepted, deskAfter, Run, EditRun, BackRun}
 use Rattle.history.proofs.Step.{is-track, was-judged, was-few, can, next-session, next-length, next-drawing, next-judged, is-held, is-counted}
 use Rattle.history.proofs.Records.{newestOf, recorded-first, recorded-more, recorded-whole, off-full, off-open}
 
@@ -53,13 +52,13 @@ module _ (p : Panel) (a z : Cell) (room : ℕ) where
 
   -- a bulge adds two cells, a press takes two
   pub bulge-longer : (k : ℕ) (left : Bool) (d : Desk) → Accepted p a z room (Bulge k left) d
-      → length (drawing (after p a z room (Bulge k left) d)) ≡ length (drawing d) + 2
+      → length (drawing (deskAfter p a z room (Bulge k left) d)) ≡ length (drawing d) + 2
   bulge-longer k left d ok =
       ap length (next-drawing p a z room (Bulge k left) d ok)
       ∙ bulge-adds p (bulgeAt k left) (drawing d) refl (can p a z room (Bulge k left) d ok)
 
   pub press-shorter : (k : ℕ) (d : Desk) → Accepted p a z room (Press k) d
-      → length (drawing (after p a z room (Press k) d)) + 2 ≡ length (drawing d)
+      → length (drawing (deskAfter p a z room (Press k) d)) + 2 ≡ length (drawing d)
   press-shorter k d ok =
       ap (λ (l : List Cell). length l + 2) (next-drawing p a z room (Press k) d ok)
       ∙ press-takes p (pressAt k (drawing d)) (drawing d) refl (can p a z room (Press k) d ok)
@@ -77,26 +76,26 @@ module _ (p : Panel) (a z : Cell) (room : ℕ) where
 
   pub record Back (n : ℕ) (d : Desk) (m : List Cell) : Type 0 where
     pub end : Desk
-    pub way : TakenBack p a z room n d end
+    pub way : BackRun p a z room n d end
     pub list : drawing end ≡ m
     pub judged : Judged p a z room end
 
   back : (n size : ℕ) (d : Desk) (l m : List Cell) → Judged p a z room d → n ≤ d .session .recorded → length (d .buffer) ≡ size → drawing d ≡ l
       → Undoes p size (newestOf (d .session .edits) (d .session .recorded) n) l m → Back n d m
-  back zero size d l m j h b q Undoes.none = record { end = d; way = TakenBack.none; list = q; judged = j }
+  back zero size d l m j h b q Undoes.none = record { end = d; way = BackRun.none; list = q; judged = j }
   back (suc n) size d l m j h b q (Undoes.more able fits u) =
       let s = d .session in
       let e = opposite (newest s) in
       let could = ap (canEdit p e) q ∙ able in
       let room-for : 2 * length (edited e (drawing d)) ≤ length (d .buffer) = omega (arith, ap (λ (k : List Cell). length (edited e k)) q, b, fits) in
       let ok = accepted d j (omega arith) could room-for in
-      let f = after p a z room TakeBack d in
+      let f = deskAfter p a z room TakeBack d in
       let left = next-session p a z room TakeBack d ok in
       let rest = subst (λ (t : Session). Undoes p size (newestOf (t .edits) (t .recorded) n) (edited e l) m) (sym left) u in
       let fewer : n ≤ f .session .recorded = omega (arith, ap (λ (t : Session). t .recorded) left, h) in
       let list = next-drawing p a z room TakeBack d ok ∙ ap (edited e) q in
       let r = back n size f (edited e l) m (next-judged p a z room TakeBack d ok) fewer (next-length p a z room TakeBack d ok ∙ b) list rest in
-      record { end = r .end; way = TakenBack.more ok (r .way); list = r .list; judged = r .judged }
+      record { end = r .end; way = BackRun.more ok (r .way); list = r .list; judged = r .judged }
 
   -- ---- edits, one behind the other, and what undoes them
 
@@ -107,14 +106,14 @@ module _ (p : Panel) (a z : Cell) (room : ℕ) where
     pub enough : n ≤ f .session .recorded
     pub undoes : Undoes p (length (d .buffer)) (newestOf (f .session .edits) (f .session .recorded) n) (drawing f) (drawing d)
 
-  unwinds : {n : ℕ} {d f : Desk} → Edited p a z room n d f → n ≤ kept → Judged p a z room d → Whole d → Unwinds n d f
-  unwinds Edited.none h j w = record { judged = j; whole = w; size = refl; enough = omega arith; undoes = Undoes.none }
-  unwinds {n = suc n} {d = d} (Edited.more {f = f} run c is ok) h j w =
+  unwinds : {n : ℕ} {d f : Desk} → EditRun p a z room n d f → n ≤ keptEdits → Judged p a z room d → Whole d → Unwinds n d f
+  unwinds EditRun.none h j w = record { judged = j; whole = w; size = refl; enough = omega arith; undoes = Undoes.none }
+  unwinds {n = suc n} {d = d} (EditRun.more {f = f} run c is ok) h j w =
       let was = unwinds run (omega arith) j w in
       let s = f .session in
       let l = drawing f in
       let e = editOf c s (f .buffer) in
-      let g = after p a z room c f in
+      let g = deskAfter p a z room c f in
       let few = was-few p a z room c f ok in
       let left : g .session ≡ onRecord e (length (edited e l)) s =
       next-session p a z room c f ok ∙ edit-recorded c e (length (edited e l)) s is in
@@ -139,7 +138,7 @@ module _ (p : Panel) (a z : Cell) (room : ℕ) where
       }
 
   -- n takings back in a row undo n edits, up to 32, whatever was recorded before
-  pub undo : (n : ℕ) (d f : Desk) → n ≤ kept → Judged p a z room d → Whole d → Edited p a z room n d f → Back n f (drawing d)
+  pub undo : (n : ℕ) (d f : Desk) → n ≤ keptEdits → Judged p a z room d → Whole d → EditRun p a z room n d f → Back n f (drawing d)
   undo n d f h j w run =
       let u = unwinds run h j w in
       back n (length (d .buffer)) f (drawing f) (drawing d) (u .judged) (u .enough) (u .size) refl (u .undoes)
@@ -150,15 +149,15 @@ module _ (p : Panel) (a z : Cell) (room : ℕ) where
   -- the record too, but for an oldest one that was dropped
   pub record Restored (d g : Desk) : Type 0 where
     pub ok : Accepted p a z room TakeBack g
-    pub list : drawing (after p a z room TakeBack g) ≡ drawing d
-    pub count : after p a z room TakeBack g .session .count .0 ≡ d .session .count .0
-    pub record-open : d .session .recorded < kept → recordOf (after p a z room TakeBack g) ≡ recordOf d
-    pub record-full : kept ≤ d .session .recorded → recordOf (after p a z room TakeBack g) ≡ drop 1 (recordOf d)
+    pub list : drawing (deskAfter p a z room TakeBack g) ≡ drawing d
+    pub count : deskAfter p a z room TakeBack g .session .count .0 ≡ d .session .count .0
+    pub record-open : d .session .recorded < keptEdits → recordOf (deskAfter p a z room TakeBack g) ≡ recordOf d
+    pub record-full : keptEdits ≤ d .session .recorded → recordOf (deskAfter p a z room TakeBack g) ≡ drop 1 (recordOf d)
 
-  one-back : {g end : Desk} → TakenBack p a z room 1 g end → Accepted p a z room TakeBack g × (after p a z room TakeBack g ≡ end)
-  one-back (TakenBack.more ok TakenBack.none) = (ok, refl)
+  one-back : {g end : Desk} → BackRun p a z room 1 g end → Accepted p a z room TakeBack g × (deskAfter p a z room TakeBack g ≡ end)
+  one-back (BackRun.more ok BackRun.none) = (ok, refl)
 
-  pub taken-back : (c : Command) (d g : Desk) → isEdit c ≡ true → Accepted p a z room c d → Whole d → let f = after p a z room c d in
+  pub taken-back : (c : Command) (d g : Desk) → isEdit c ≡ true → Accepted p a z room c d → Whole d → let f = deskAfter p a z room c d in
       g .session ≡ f .session → length (g .buffer) ≡ length (f .buffer) → listOf (g .session) (g .buffer) ≡ listOf (f .session) (f .buffer)
       → Restored d g
   taken-back c d g is ok w same-session same-length same-list =
@@ -167,8 +166,8 @@ module _ (p : Panel) (a z : Cell) (room : ℕ) where
       let n = length (edited e (drawing d)) in
       let judged = was-judged p a z room c d ok in
       let few = was-few p a z room c d ok in
-      let f = after p a z room c d in
-      let u = unwinds {n = 1} {d = d} {f = f} (Edited.more Edited.none c is ok) (omega arith) judged w in
+      let f = deskAfter p a z room c d in
+      let u = unwinds {n = 1} {d = d} {f = f} (EditRun.more EditRun.none c is ok) (omega arith) judged w in
       let recorded : g .session ≡ onRecord e n s = same-session ∙ next-session p a z room c d ok ∙ edit-recorded c e n s is in
       let g-judged : Judged p a z room g = ap (λ (b : List ℕ). judgeCheck p a z b room) same-list ∙ u .judged in
       let g-undoes = subst (λ (t : Session). Undoes p (length (d .buffer)) (newestOf (t .edits) (t .recorded) 1) (drawing f) (drawing d))
@@ -178,7 +177,7 @@ module _ (p : Panel) (a z : Cell) (room : ℕ) where
       let b = back 1 (length (d .buffer)) g (drawing f) (drawing d) g-judged enough size (ap cellsIn same-list) g-undoes in
       let (back-ok, end) = one-back (b .way) in
       let list = ap drawing end ∙ b .list in
-      let h = after p a z room TakeBack g in
+      let h = deskAfter p a z room TakeBack g in
       let off : recordOf h ≡ take (onRecord e n s .recorded - 1) (onRecord e n s .edits) =
       ap (λ (t : Session). take (t .recorded) (t .edits)) (next-session p a z room TakeBack g back-ok)
       ∙ ap (λ (t : Session). take (t .recorded - 1) (t .edits)) recorded in

@@ -13,7 +13,7 @@ use Rattle.detour.specs.declared.Edit.{Edit}
 use Rattle.session.specs.declared.Session.{Session}
 use Rattle.session.specs.declared.Command.{Command}
 use Rattle.session.specs.declared.Command.the-variants.{Bulge, Press, TakeBack}
-use Rattle.session.specs.Session.{kept, listOf}
+use Rattle.session.specs.Session.{keptEdits, listOf}
 use Rattle.session.specs.Edits.{cellsOf, editOf, editCheck, sessionAfter, bufferAfter}
 
 -- what the caller has in hand: the session and the buffer with the list
@@ -31,7 +31,7 @@ recordOf d = take (d .session .recorded) (d .session .edits)
 
 -- the session's array has its 32 places, as every array of its type has
 abbrev pub Whole : Desk → Type 0
-Whole d = length (d .session .edits) ≡ kept
+Whole d = length (d .session .edits) ≡ keptEdits
 
 -- a command that is an edit: a bulge or a press
 abbrev pub isEdit : Command → Bool
@@ -44,30 +44,30 @@ module _ (p : Panel) (a z : Cell) (room : ℕ) where
   abbrev pub Judged : Desk → Type 0
   Judged d = judgeCheck p a z (listOf (d .session) (d .buffer)) room ≡ Good
 
-  abbrev pub check : Command → Desk → Check
-  check c d = editCheck p a z c (d .session) (d .buffer) room
+  abbrev pub deskCheck : Command → Desk → Check
+  deskCheck c d = editCheck p a z c (d .session) (d .buffer) room
 
   -- the call accepts the command
   abbrev pub Accepted : Command → Desk → Type 0
-  Accepted c d = check c d ≡ Good
+  Accepted c d = deskCheck c d ≡ Good
 
   -- what the call leaves in hand
-  abbrev pub after : Command → Desk → Desk
-  after c d =
+  abbrev pub deskAfter : Command → Desk → Desk
+  deskAfter c d =
       let e = editOf c (d .session) (d .buffer) in
-      record { session = sessionAfter (check c d) c e (drawing d) (d .session); buffer = bufferAfter (check c d) e (drawing d) (d .buffer) }
+      record { session = sessionAfter (deskCheck c d) c e (drawing d) (d .session); buffer = bufferAfter (deskCheck c d) e (drawing d) (d .buffer) }
 
   -- any run of accepted commands
   pub data Run : Desk → Desk → Type 0 where
     none : {d : Desk} → Run d d
-    more : {d f : Desk} → Run d f → (c : Command) → Accepted c f → Run d (after c f)
+    more : {d f : Desk} → Run d f → (c : Command) → Accepted c f → Run d (deskAfter c f)
 
   -- n accepted edits, one behind the other
-  pub data Edited : ℕ → Desk → Desk → Type 0 where
-    none : {d : Desk} → Edited zero d d
-    more : {n : ℕ} {d f : Desk} → Edited n d f → (c : Command) → isEdit c ≡ true → Accepted c f → Edited (suc n) d (after c f)
+  pub data EditRun : ℕ → Desk → Desk → Type 0 where
+    none : {d : Desk} → EditRun zero d d
+    more : {n : ℕ} {d f : Desk} → EditRun n d f → (c : Command) → isEdit c ≡ true → Accepted c f → EditRun (suc n) d (deskAfter c f)
 
   -- n accepted takings back, one behind the other
-  pub data TakenBack : ℕ → Desk → Desk → Type 0 where
-    none : {d : Desk} → TakenBack zero d d
-    more : {n : ℕ} {d f : Desk} → Accepted TakeBack d → TakenBack n (after TakeBack d) f → TakenBack (suc n) d f
+  pub data BackRun : ℕ → Desk → Desk → Type 0 where
+    none : {d : Desk} → BackRun zero d d
+    more : {n : ℕ} {d f : Desk} → Accepted TakeBack d → BackRun n (deskAfter TakeBack d) f → BackRun (suc n) d f

@@ -34,8 +34,8 @@ use Rattle.detour.proofs.Facts.{by-kind}
 use Rattle.detour.proofs.Lists.{bulged-length, pressed-length}
 use Rattle.session.specs.declared.Session.{Session}
 use Rattle.session.specs.declared.Command.{Command}
-use Rattle.session.specs.Session.{kept, listCells, listOf, ready, meant, changed}
-use Rattle.session.specs.Edits.{cellsOf, editOf, editTest, editCheck, Leaves, Edits}
+use Rattle.session.specs.Session.{keptEdits, listCells, listOf, ready, meant, changed}
+use Rattle.session.specs.Edits.{cellsOf, editOf, editTest, editCheck, EditLeaves, Edits}
 
 -- ---- the list after an edit
 
@@ -60,7 +60,7 @@ module _ (p : Panel) (e : Edit) (l : List Cell) (can : canEdit p e l ≡ true) w
 -- ---- what is left
 
 module _ {k : Check} (c : Command) (e : Edit) (l : List Cell) (s : Session) (buffer : List ℕ) {s' : Session} {a : CellsAnswer} where
-  pub leaves-refused : {r : Refusal} → k ≡ Refused r → (s' ≡ s) × (a ≡ answers.Refused r) → Leaves k c e l s buffer s' buffer a
+  pub leaves-refused : {r : Refusal} → k ≡ Refused r → (s' ≡ s) × (a ≡ answers.Refused r) → EditLeaves k c e l s buffer s' buffer a
   leaves-refused f g = record {
     gives = gives-cells k (length (edited e l)) (g .1 ∙ answer-refused answers.Refused _ f);
     session = g .0 ∙ answer-refused (λ (r : Refusal). s) _ f;
@@ -68,7 +68,7 @@ module _ {k : Check} (c : Command) (e : Edit) (l : List Cell) (s : Session) (buf
   }
 
   pub leaves-made : k ≡ Good → {n : ℕ} → n ≡ length (edited e l) → s' ≡ changed c e n s → a ≡ answers.Given (record { 0 = n })
-      → {buffer' : List ℕ} → buffer' ≡ withZeros (edited e l) (length buffer) → Leaves k c e l s buffer s' buffer' a
+      → {buffer' : List ℕ} → buffer' ≡ withZeros (edited e l) (length buffer) → EditLeaves k c e l s buffer s' buffer' a
   leaves-made f size session given list = record {
     gives = gives-cells k (length (edited e l)) (answer-good answers.Refused _ f (given ∙ ap (λ (j : ℕ). answers.Given (record { 0 = j })) size));
     session = answer-good (λ (r : Refusal). s) _ f (session ∙ ap (λ (j : ℕ). changed c e j s) size);
@@ -81,17 +81,18 @@ module _ (s : Session) (buffer : List ℕ) where
   abbrev n : ℕ
   n = listCells s (length buffer)
 
-  by-test : (b : Bool) → (leb (2 * s .count .0) (length buffer) && leb (s .recorded) kept) ≡ b
-      → (2 * cond b (s .count .0) 0 ≤ length buffer) × (1 ≤ cond b (s .count .0) 0 → (s .recorded ≤ kept) × (cond b (s .count .0) 0 ≡ s .count .0))
+  by-test : (b : Bool) → (leb (2 * s .count .0) (length buffer) && leb (s .recorded) keptEdits) ≡ b
+      → (2 * cond b (s .count .0) 0 ≤ length buffer)
+      × (1 ≤ cond b (s .count .0) 0 → (s .recorded ≤ keptEdits) × (cond b (s .count .0) 0 ≡ s .count .0))
   by-test true f =
       let fits = leb (2 * s .count .0) (length buffer) in
-      (leb-true _ _ (and-left fits (leb (s .recorded) kept) f), λ h. (leb-true _ _ (and-right fits (leb (s .recorded) kept) f), refl))
+      (leb-true _ _ (and-left fits (leb (s .recorded) keptEdits) f), λ h. (leb-true _ _ (and-right fits (leb (s .recorded) keptEdits) f), refl))
   by-test false f = (omega arith, λ h. absurd (omega arith))
 
   pub held : 2 * n ≤ length buffer
   held = by-test _ refl .0
 
-  pub few-recorded : 1 ≤ n → s .recorded ≤ kept
+  pub few-recorded : 1 ≤ n → s .recorded ≤ keptEdits
   few-recorded h = by-test _ refl .1 h .0
 
   pub all-counted : 1 ≤ n → n ≡ s .count .0
@@ -153,15 +154,15 @@ module _ (p : Panel) (a z : Cell) (c : Command) (s : Session) (buffer old : List
 
     pub by-edit : ready c s ≡ true → {m : ℕ} {e : Edit} → m ≡ listCells s (length buffer) → e ≡ meant c s (front m buffer)
         → {s' : Session} {buffer' : List ℕ} {d : CellsAnswer}
-        → Leaves (editTest p e (front m buffer) (length buffer)) c e (front m buffer) s buffer s' buffer' d
+        → EditLeaves (editTest p e (front m buffer) (length buffer)) c e (front m buffer) s buffer s' buffer' d
         → Edits p a z c s buffer old s' buffer' new d
     by-edit h {m} count is {s'} {buffer'} {d} left =
         let Left : ℕ → Edit → Type 0 =
-        λ (i : ℕ) (b : Edit). Leaves (editTest p b (front i buffer) (length buffer)) c b (front i buffer) s buffer s' buffer' d in
+        λ (i : ℕ) (b : Edit). EditLeaves (editTest p b (front i buffer) (length buffer)) c b (front i buffer) s buffer s' buffer' d in
         let meant-left : Left m (meant c s (front m buffer)) = subst (Left m) is left in
         let own : Left (listCells s (length buffer)) (editOf c s buffer) = subst (λ (i : ℕ). Left i (meant c s (front i buffer))) count meant-left in
         let test = after-good after-judge accepted (expect-yes NothingRecorded _ h refl) in
         record {
-          leaves = subst (λ (k : Check). Leaves k c (editOf c s buffer) (cellsOf s buffer) s buffer s' buffer' d) test own;
+          leaves = subst (λ (k : Check). EditLeaves k c (editOf c s buffer) (cellsOf s buffer) s buffer s' buffer' d) test own;
           scratch = g .scratch;
         }

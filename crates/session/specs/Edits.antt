@@ -49,7 +49,7 @@ abbrev pub bufferAfter : Check → Edit → List Cell → List ℕ → List ℕ
 bufferAfter k e l buffer = answer k (λ r. buffer) (withZeros (edited e l) (length buffer))
 
 -- what an edit of a list leaves behind a check: the new count or the refusal, session and buffer, which were s and buffer
-pub record Leaves (k : Check) (c : Command) (e : Edit) (l : List Cell) (s : Session) (buffer : List ℕ) (s' : Session) (buffer' : List ℕ)
+pub record EditLeaves (k : Check) (c : Command) (e : Edit) (l : List Cell) (s : Session) (buffer : List ℕ) (s' : Session) (buffer' : List ℕ)
     (r : CellsAnswer) : Type 0 where
   pub gives : GivesCells k (length (edited e l)) r
   pub session : s' ≡ sessionAfter k c e l s
@@ -58,5 +58,5 @@ pub record Leaves (k : Check) (c : Command) (e : Edit) (l : List Cell) (s : Sess
 -- the promise of the call: answer, session and buffer, and scratch, which was old and is new
 pub record Edits (p : Panel) (a z : Cell) (c : Command) (s : Session) (buffer old : List ℕ) (s' : Session) (buffer' new : List ℕ)
     (r : CellsAnswer) : Type 0 where
-  pub leaves : Leaves (editCheck p a z c s buffer (length old)) c (editOf c s buffer) (cellsOf s buffer) s buffer s' buffer' r
+  pub leaves : EditLeaves (editCheck p a z c s buffer (length old)) c (editOf c s buffer) (cellsOf s buffer) s buffer s' buffer' r
   pub scratch : new ≡ scratchAfter p a z (listOf s buffer) old

@@ -13,8 +13,8 @@ use Rattle.session.specs.declared.Command.{Command}
 use Rattle.session.specs.declared.Command.the-variants.{Bulge, Press, TakeBack}
 
 -- how many edits a session keeps
-abbrev pub kept : ℕ
-kept = 32
+abbrev pub keptEdits : ℕ
+keptEdits = 32
 
 -- no edit
 abbrev pub noEdit : Edit
@@ -22,11 +22,11 @@ noEdit = record { place = 0; bulge = false; left = false }
 
 -- a new session has a given count and no edits
 abbrev pub newSession : Cells → Session
-newSession k = record { count = k; recorded = 0; edits = replicate kept noEdit }
+newSession k = record { count = k; recorded = 0; edits = replicate keptEdits noEdit }
 
 -- how many cells of a buffer of so many bytes are the session's list; none where it holds fewer than the count, or over 32 edits are claimed
 abbrev pub listCells : Session → ℕ → ℕ
-listCells s bytes = cond (leb (2 * s .count .0) bytes && leb (s .recorded) kept) (s .count .0) 0
+listCells s bytes = cond (leb (2 * s .count .0) bytes && leb (s .recorded) keptEdits) (s .count .0) 0
 
 -- the bytes of the session's list, in front of a buffer
 abbrev pub listOf : Session → List ℕ → List ℕ
@@ -50,7 +50,7 @@ meant TakeBack s l = opposite (newest s)
 
 -- the session with an edit recorded, for a list of n cells; when 32 are recorded the oldest is dropped
 abbrev pub onRecord : Edit → ℕ → Session → Session
-onRecord e n s = cond (leb kept (s .recorded))
+onRecord e n s = cond (leb keptEdits (s .recorded))
     (record { count = record { 0 = n }; recorded = s .recorded; edits = drop 1 (s .edits) ++ (e ∷ []) })
     (record { count = record { 0 = n }; recorded = s .recorded + 1; edits = set (s .edits) (s .recorded) e })
 

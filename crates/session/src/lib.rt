@@ -21,18 +21,18 @@ ghost use lib.ListN.{length, drop};
 ghost use Rattle.grid.specs.declared.CellsAnswer.the-variants.{Refused};
 ghost use Rattle.grid.specs.Panel.{goodSides};
 ghost use Rattle.grid.specs.Bytes.{cellsIn, front};
-ghost use Rattle.session.specs.Session.{kept, newSession, listCells, ready, newest, meant, onRecord, offRecord, changed};
-ghost use Rattle.session.specs.Edits.{editTest, Leaves, Edits};
+ghost use Rattle.session.specs.Session.{keptEdits, newSession, listCells, ready, newest, meant, onRecord, offRecord, changed};
+ghost use Rattle.session.specs.Edits.{editTest, EditLeaves, Edits};
 
 // How many edits a session keeps.
-const KEPT: usize = 32;
+const KEPT_EDITS: usize = 32;
 
 // An edit session, which is an undo history: the cell count of a drawing, how many edits are recorded, and the
 // edits, oldest first.
 pub struct Session {
     pub count: Cells,
     pub recorded: u32,
-    pub edits: [Edit; KEPT],
+    pub edits: [Edit; KEPT_EDITS],
 }
 
 // A bulge at a place, left of the way or else right; a press at a place; or the newest edit taken back.
@@ -60,7 +60,7 @@ pub fn new_session(count: Cells) -> Session
     Session {
         count,
         recorded: 0,
-        edits: [none; KEPT],
+        edits: [none; KEPT_EDITS],
     }
 }
 
@@ -73,7 +73,7 @@ fn list_cells(s: Session, bytes: usize) -> usize
     if bytes < 2 * cells {
         return 0;
     }
-    if KEPT < s.recorded as usize {
+    if KEPT_EDITS < s.recorded as usize {
         return 0;
     }
     cells
@@ -92,7 +92,7 @@ fn ready(c: Command, s: Session) -> bool
 
 // The newest recorded edit.
 fn newest(s: Session) -> Edit
-    requires { ⌜ (1 ≤ s .recorded) × (s .recorded ≤ kept) ⌝ }
+    requires { ⌜ (1 ≤ s .recorded) × (s .recorded ≤ keptEdits) ⌝ }
     ensures { λ r. ⌜ r ≡ newest s ⌝ }
 {
     let edits = s.edits;
@@ -101,7 +101,7 @@ fn newest(s: Session) -> Edit
 
 // The edit that the command makes of the list.
 fn meant(c: Command, s: Session, list: &[u8]) -> Edit
-    requires few { ⌜ s .recorded ≤ kept ⌝ }
+    requires few { ⌜ s .recorded ≤ keptEdits ⌝ }
     requires taken { ⌜ ready c s ≡ true ⌝ }
     ensures { λ r. ⌜ r ≡ meant c s (cellsIn (now (list .entry))) ⌝ }
 {
@@ -117,12 +117,12 @@ fn meant(c: Command, s: Session, list: &[u8]) -> Edit
 }
 
 // The edits without the oldest, and with e for the newest.
-fn shifted(edits: [Edit; KEPT], e: Edit) -> [Edit; KEPT]
+fn shifted(edits: [Edit; KEPT_EDITS], e: Edit) -> [Edit; KEPT_EDITS]
     ensures { λ r. ⌜ r ≡ drop 1 edits ++ (e ∷ []) ⌝ }
 {
-    let mut all = [e; KEPT];
+    let mut all = [e; KEPT_EDITS];
     let mut i = 0;
-    while i < KEPT - 1 {
+    while i < KEPT_EDITS - 1 {
         all[i] = edits[i + 1];
         i += 1;
     }
@@ -134,7 +134,7 @@ fn on_record(e: Edit, count: Cells, s: Session) -> Session
     ensures { λ r. ⌜ r ≡ onRecord e (count .0) s ⌝ }
 {
     let mut edits = s.edits;
-    if KEPT <= s.recorded as usize {
+    if KEPT_EDITS <= s.recorded as usize {
         return Session {
             count,
             recorded: s.recorded,
@@ -208,7 +208,7 @@ fn edit_judged(s: Session, c: Command, e: Edit, p: Panel, cells: usize, list: &m
     requires held { ⌜ (2 * cells ≤ length (now list)) × (cells ≤ 16384) ⌝ }
     requires good { ⌜ goodSides p ≡ true ⌝ }
     requires taken { ⌜ ready c s ≡ true ⌝ }
-    ensures { λ r. ⌜ Leaves (editTest p e (front cells (now (list .entry))) (length (now (list .entry))))
+    ensures { λ r. ⌜ EditLeaves (editTest p e (front cells (now (list .entry))) (length (now (list .entry))))
         c e (front cells (now (list .entry))) s (now (list .entry)) (r .session) (now (list .exit)) (r .answer) ⌝ }
 {
     let told = check_edit(p, e, cells, list);

@@ -1,14 +1,11 @@
 -- A bulge or a press, each with what it asks.
 use native.Mathlib.Omega.{arith}
-use Prim.Native.Nat.{ℕ, _+_, _*_, _≤_}
-use mathlib.Core.Path.{_≡_, sym, ap, _∙_}
-use mathlib.Core.Bool.{true}
+use mathlib.Core.Path.{sym, ap, _∙_}
 use mathlib.Core.List.{List}
 use lib.ListN.{length}
 use Rattle.grid.specs.declared.Cell.{Cell}
 use Rattle.grid.specs.Bytes.{front}
-use Rattle.detour.specs.Detour.{bulgeAt, withZeros}
-use Rattle.edit_list.specs.Possible.{Possible}
+use Rattle.detour.specs.Detour.{withZeros}
 use Rattle.edit_list.proofs.Made.{is-bulged, can-bulge, is-pressed, can-press, count-bulged}
 use borrow.Author.Needs.{needs}
 use Rattle.edit_list.proofs.make.Statement.{statement}

@@ -5,7 +5,7 @@ use native.Mathlib.Omega.{arith}
 use mathlib.Core.Path.{ap, _∙_}
 use mathlib.Core.List.{List}
 use lib.ListN.{set}
-use Rattle.edit_list.proofs.Zeros.{put-two}
+use Rattle.edit_list.proofs.Zeros.{put-both}
 use Rattle.edit_list.proofs.put_detour.Statement.{statement}
 use Rattle.edit_list.proofs.put_detour.Tie as tie
 
@@ -28,7 +28,7 @@ returns c =
     let a = c .before .before .before .before .before .before .before .before .before .args in
     second .ensures
     ∙ ap (λ (m : List ℕ). set (set m (a .at + 2) (a .d .x)) (a .at + 2 + 1) (a .d .y)) (first .ensures)
-    ∙ put-two (a .list .now) (a .at) (a .c) (a .d) (omega arith)
+    ∙ put-both (a .list .now) (a .at) (a .c) (a .d) (omega arith)
 
 pub put-detour-spec : {M : Type 1} → statement M
 put-detour-spec =

@@ -3,14 +3,13 @@ use borrow.Author.Needs.{needs}
 use borrow.Author.Tests.{not-true, not-false}
 use native.Mathlib.Omega.{arith}
 use Prim.Native.Nat.{ℕ, _*_, _≤_}
-use mathlib.Core.Path.{_≡_, refl, sym, ap, subst, _∙_}
+use mathlib.Core.Path.{_≡_, sym, subst, _∙_}
 use mathlib.Core.Bool.{true}
-use mathlib.Core.List.{List}
 use lib.ListN.{length, take}
 use lib.Seq.{length-take-le}
 use Rattle.grid.specs.declared.Check.the-variants.{Good}
 use Rattle.judge.specs.Judge.{judgeCheck, Judges}
-use Rattle.session.specs.Session.{kept, listOf, ready}
+use Rattle.session.specs.Session.{keptEdits, listOf, ready}
 use Rattle.session.proofs.Leaving.{held, judge-good, few-recorded, some-cells, few-cells, sides-good, by-judge, by-record, by-edit}
 use Rattle.session.proofs.edit_value.Statement.{statement}
 use Rattle.session.proofs.edit_value.Tie as tie
@@ -121,7 +120,7 @@ module _ (c : tie.Else1) where
       let a = begun .args in
       judge-good (a .s) (a .list .now) (a .p) (a .entry) (a .exit) (a .scratch .now) (judged answered) (c .before .before .enum-told .given .1)
 
-  few : begun .args .s .recorded ≤ kept
+  few : begun .args .s .recorded ≤ keptEdits
   few =
       let a = begun .args in
       few-recorded (a .s) (a .list .now) (some-cells (a .s) (a .list .now) (a .p) (a .entry) (a .exit) (length (a .scratch .now)) good)

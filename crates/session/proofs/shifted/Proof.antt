@@ -6,7 +6,7 @@ use native.Mathlib.Omega.{arith}
 use Prim.Native.Nat.{ℕ, _+_, _-_, _≤_}
 use mathlib.Core.Path.{_≡_, refl, sym, ap, _∙_}
 use mathlib.Core.List.{List, [], _∷_, _++_}
-use lib.ListN.{length, take, drop, getD, set, replicate, length-drop}
+use lib.ListN.{length, drop, getD, set, replicate, length-drop}
 use lib.Seq.{paste, paste-suc, getD-drop, take-all}
 use Rattle.detour.specs.declared.Edit.{Edit}
 use Rattle.session.specs.Session.{noEdit}
