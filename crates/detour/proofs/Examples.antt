@@ -41,6 +41,18 @@ right-shown = (refl, refl, refl, refl)
 
 -- ---- presses
 
+-- from (1, 2) to (4, 2)
+abbrev level : List Cell
+level = cell 1 2 ∷ cell 2 2 ∷ cell 3 2 ∷ cell 4 2 ∷ []
+
+-- four cells in a line are no detour on either side, nor are two cells twice
+pub line-shown : (isDetour true 1 level ≡ false)
+    × (isDetour false 1 level ≡ false)
+    × (isDetour true 1 (cell 1 1 ∷ cell 2 1 ∷ cell 1 1 ∷ cell 2 1 ∷ []) ≡ false)
+    × (isDetour false 1 (cell 1 1 ∷ cell 2 1 ∷ cell 1 1 ∷ cell 2 1 ∷ []) ≡ false)
+unfolding apart dist
+line-shown = (refl, refl, refl, refl)
+
 -- the press of a bulge of the first step, found in the list
 abbrev found : Bool → List Cell → Edit
 found left l = pressAt 1 (edited (bulgeAt 1 left) l)
@@ -53,12 +65,9 @@ pub found-shown : (found true rightward ≡ opposite (bulgeAt 1 true)) × (found
 unfolding apart dist
 found-shown = (refl, refl, refl, refl, refl, refl, refl, refl)
 
--- from (1, 2) to (4, 2), with a detour left of the way, upward, at place 2
+-- the same, with a detour left of the way, upward, at place 2
 abbrev bulgedUp : List Cell
 bulgedUp = cell 1 2 ∷ cell 2 2 ∷ cell 2 1 ∷ cell 3 1 ∷ cell 3 2 ∷ cell 4 2 ∷ []
-
-abbrev level : List Cell
-level = cell 1 2 ∷ cell 2 2 ∷ cell 3 2 ∷ cell 4 2 ∷ []
 
 -- the press takes it out, the bulge puts it in again; on the wrong side, and at another place, there is nothing to press
 pub press-shown : (can (pressAt 2 bulgedUp) bulgedUp ≡ true)
@@ -69,14 +78,6 @@ pub press-shown : (can (pressAt 2 bulgedUp) bulgedUp ≡ true)
 unfolding apart dist
 press-shown = (refl, refl, refl, refl, refl)
 
--- four cells in a line are no detour on either side, nor are two cells twice
-pub line-shown : (isDetour true 1 level ≡ false)
-    × (isDetour false 1 level ≡ false)
-    × (isDetour true 1 (cell 1 1 ∷ cell 2 1 ∷ cell 1 1 ∷ cell 2 1 ∷ []) ≡ false)
-    × (isDetour false 1 (cell 1 1 ∷ cell 2 1 ∷ cell 1 1 ∷ cell 2 1 ∷ []) ≡ false)
-unfolding apart dist
-line-shown = (refl, refl, refl, refl)
-
 -- ---- bulges that cannot be made
 
 -- a bulge can begin at each cell but the last; place 0 is none
@@ -86,11 +87,14 @@ pub place-shown : (can (bulgeAt 0 true) level ≡ false)
     × (can (bulgeAt 4 true) level ≡ false)
 place-shown = (refl, refl, refl, refl)
 
--- over the upper, the left, the right and the lower edge of the panel; onto the track, where the other side is free
+-- over the upper, the left, the right and the lower edge of the panel; onto the track with the first cell, and with the second, where the other
+-- side is free
 pub free-shown : (can (bulgeAt 1 true) (cell 1 1 ∷ cell 2 1 ∷ []) ≡ false)
     × (can (bulgeAt 1 false) (cell 1 1 ∷ cell 1 2 ∷ []) ≡ false)
     × (can (bulgeAt 1 false) (cell 4 4 ∷ cell 4 3 ∷ []) ≡ false)
     × (can (bulgeAt 1 true) (cell 4 4 ∷ cell 3 4 ∷ []) ≡ false)
+    × (can (bulgeAt 5 true) bulgedUp ≡ false)
+    × (can (bulgeAt 5 false) bulgedUp ≡ true)
     × (can (bulgeAt 1 true) bulgedUp ≡ false)
     × (can (bulgeAt 1 false) bulgedUp ≡ true)
-free-shown = (refl, refl, refl, refl, refl, refl)
+free-shown = (refl, refl, refl, refl, refl, refl, refl, refl)

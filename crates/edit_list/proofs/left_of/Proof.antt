@@ -1,6 +1,7 @@
 -- The sums fit, since coordinates are bytes.
 use borrow.Author.Needs.{needs}
-use Rattle.grid.specs.Panel.{cell}
+use native.Mathlib.Omega.{arith}
+use Rattle.grid.proofs.Facts.{cell-eq}
 use Rattle.edit_list.proofs.left_of.Statement.{statement}
 use Rattle.edit_list.proofs.left_of.Tie as tie
 
@@ -17,7 +18,7 @@ above-requires-2 : tie.Need-above-requires-2
 above-requires-2 c κs = search needs
 
 returns : tie.Need-returns
-returns c = λ i. cell (c .before .before .before .above .ensures i) (c .above2 .ensures i)
+returns c = cell-eq (omega (arith, c .before .before .before .above .ensures)) (omega (arith, c .above2 .ensures))
 
 pub left-of-spec : {M : Type 1} → statement M
 left-of-spec = tie.close (tie.spec add-above above-requires add-above-2 above-requires-2 returns)
