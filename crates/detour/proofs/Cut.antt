@@ -50,8 +50,8 @@ module _ (l : List Cell) (k : ℕ) (h : k ≤ length l) (q : List Cell) where
 
 -- ---- cells d that stand behind g, moved in front of it: back again it is the same law
 
-pub all-moved : {P : Cell → Type 0} (g d r : List Cell) → All P (g ++ (d ++ r)) → All P (d ++ (g ++ r))
-all-moved g d r a =
+pub all-swapped : {P : Cell → Type 0} (g d r : List Cell) → All P (g ++ (d ++ r)) → All P (d ++ (g ++ r))
+all-swapped g d r a =
     let behind = all-right g (d ++ r) a in
     all-append (all-left d r behind) (all-append (all-left g (d ++ r) a) (all-right d r behind))
 
@@ -59,11 +59,11 @@ all-moved g d r a =
 once-put : {c : Cell} (d r : List Cell) → Once (c ∷ (d ++ r)) → Once (d ++ c ∷ r)
 once-put [] r o = o
 once-put {c} (b ∷ d) r (Once.more (All.more m n) (Once.more h o)) =
-    Once.more (all-moved (c ∷ []) d r (All.more (λ e. m (sym e)) h)) (once-put d r (Once.more n o))
+    Once.more (all-swapped (c ∷ []) d r (All.more (λ e. m (sym e)) h)) (once-put d r (Once.more n o))
 
-pub once-moved : (g d r : List Cell) → Once (g ++ (d ++ r)) → Once (d ++ (g ++ r))
-once-moved [] d r o = o
-once-moved (c ∷ g) d r (Once.more h o) = once-put d (g ++ r) (Once.more (all-moved g d r h) (once-moved g d r o))
+pub once-swapped : (g d r : List Cell) → Once (g ++ (d ++ r)) → Once (d ++ (g ++ r))
+once-swapped [] d r o = o
+once-swapped (c ∷ g) d r (Once.more h o) = once-put d (g ++ r) (Once.more (all-swapped g d r h) (once-swapped g d r o))
 
 -- ---- walks
 

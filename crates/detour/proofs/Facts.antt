@@ -11,7 +11,7 @@ use Rattle.grid.specs.declared.Cell.{Cell}
 use Rattle.grid.specs.Panel.{Neighbours}
 use Rattle.grid.proofs.Facts.{and-parts, and-both, next, is-next, same-eq, eq-same}
 use Rattle.detour.specs.declared.Edit.{Edit}
-use Rattle.detour.specs.Detour.{beside, cellNo, bulged, pressed, isFree, canBulge, isDetour, edited, canEdit}
+use Rattle.detour.specs.Detour.{cellBeside, cellNo, bulged, pressed, isFree, canBulge, isDetour, edited, canEdit}
 
 -- what both tests begin with: a place from 1 on, and a place j in a list of m cells
 module _ (k j m : ℕ) (b : Bool) where
@@ -28,16 +28,16 @@ module _ (k j m : ℕ) (b : Bool) where
 pub record CanBulge (p : Panel) (left : Bool) (k : ℕ) (l : List Cell) : Type 0 where
   pub low : 1 ≤ k
   pub high : k + 1 ≤ length l
-  pub first : isFree p l (beside left (cellNo l k) (cellNo l (k + 1)) (cellNo l k)) ≡ true
-  pub second : isFree p l (beside left (cellNo l k) (cellNo l (k + 1)) (cellNo l (k + 1))) ≡ true
+  pub first : isFree p l (cellBeside left (cellNo l k) (cellNo l (k + 1)) (cellNo l k)) ≡ true
+  pub second : isFree p l (cellBeside left (cellNo l k) (cellNo l (k + 1)) (cellNo l (k + 1))) ≡ true
 
 -- a press can be made: four cells are there, the outer two neighbours, the inner two the detour of the step from the one to the other
 pub record IsDetour (left : Bool) (k : ℕ) (l : List Cell) : Type 0 where
   pub low : 1 ≤ k
   pub high : k + 3 ≤ length l
   pub step : Neighbours (cellNo l k) (cellNo l (k + 3))
-  pub first : cellNo l (k + 1) ≡ beside left (cellNo l k) (cellNo l (k + 3)) (cellNo l k)
-  pub second : cellNo l (k + 2) ≡ beside left (cellNo l k) (cellNo l (k + 3)) (cellNo l (k + 3))
+  pub first : cellNo l (k + 1) ≡ cellBeside left (cellNo l k) (cellNo l (k + 3)) (cellNo l k)
+  pub second : cellNo l (k + 2) ≡ cellBeside left (cellNo l k) (cellNo l (k + 3)) (cellNo l (k + 3))
 
 module _ (p : Panel) (left : Bool) (k : ℕ) (l : List Cell) where
   pub bulge : canBulge p left k l ≡ true → CanBulge p left k l

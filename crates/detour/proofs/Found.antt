@@ -18,7 +18,7 @@ use Rattle.list.proofs.Tracks.{is-once}
 use Rattle.list.proofs.Indexed.{new-index, among-index}
 use Rattle.detour.specs.Detour.{cellNo, isDetour, pressAt, canEdit}
 use Rattle.detour.proofs.Cut.{halves}
-use Rattle.detour.proofs.Square.{Around}
+use Rattle.detour.proofs.Square.{AroundStep}
 use Rattle.detour.proofs.Sides.{OnSide, on-side}
 use Rattle.detour.proofs.Facts.{IsDetour, is-press}
 
@@ -52,7 +52,7 @@ module _ (p : Panel) (s t : Cell) (k : ℕ) (l : List Cell) (r : Track p s t l) 
       let n = next e in
       let two = differ l (k - 1) (k + 2 - 1) (is-once (r .once)) (omega arith) (omega arith) in
       let others = differ l (k + 1 - 1) (k + 3 - 1) (is-once (r .once)) (omega arith) (omega arith) in
-      let w : Around (cellNo l k) (cellNo l (k + 1)) (cellNo l (k + 2)) (cellNo l (k + 3)) = record {
+      let w : AroundStep (cellNo l k) (cellNo l (k + 1)) (cellNo l (k + 2)) (cellNo l (k + 3)) = record {
         out = halves (r .walk) k (k + 1) low refl (omega arith) .step;
         along = halves (r .walk) (k + 1) (k + 2) (omega arith) (omega arith) (omega arith) .step;
         back = halves (r .walk) (k + 2) (k + 3) (omega arith) (omega arith) high .step;

@@ -14,7 +14,7 @@ use Rattle.list.proofs.Indexed.{on-index}
 use Rattle.detour.specs.declared.Edit.{Edit}
 use Rattle.detour.specs.Detour.{cellNo, detour, bulged, pressed, edited, canEdit}
 use Rattle.detour.proofs.Cut.{halves}
-use Rattle.detour.proofs.Square.{around, next-ne}
+use Rattle.detour.proofs.Square.{around-step, next-ne}
 use Rattle.detour.proofs.Facts.{CanBulge, IsDetour, by-kind}
 use Rattle.detour.proofs.Lists.{bulged-length, pressed-length, bulged-pressed}
 use Rattle.detour.proofs.Tidy.{Tidy, track-tidy, inserted, taken-out, put-two, two-free}
@@ -26,7 +26,7 @@ module _ {p : Panel} {s t : Cell} {left : Bool} {k : ℕ} {l : List Cell} (r : T
   bulge-kept c =
       let on = is-all-on (r .within) in
       let h = halves (r .walk) k (k + 1) (c .low) refl (c .high) in
-      let w = around left (h .step) (on-index p l (k - 1) on (omega arith)) (on-index p l (k + 1 - 1) on (omega arith)) in
+      let w = around-step left (h .step) (on-index p l (k - 1) on (omega arith)) (on-index p l (k + 1 - 1) on (omega arith)) in
       let front = put-two (next-ne (w .along)) (c .first) (c .second) (track-tidy r) in
       let q = inserted (detour left (cellNo l k) (cellNo l (k + 1))) k l front in
       record {

@@ -8,7 +8,7 @@ use lib.ListN.{length, take, drop, length-append, length-drop, take-append-drop}
 use lib.Seq.{length-take-le}
 use Rattle.grid.specs.declared.Panel.{Panel}
 use Rattle.grid.specs.declared.Cell.{Cell}
-use Rattle.detour.specs.Detour.{beside, cellNo, detour, bulged, pressed}
+use Rattle.detour.specs.Detour.{cellBeside, cellNo, detour, bulged, pressed}
 use Rattle.detour.proofs.Cut.{first-behind, two-behind, take-kept, drop-new, place-kept, place-new}
 use Rattle.detour.proofs.Facts.{CanBulge, IsDetour}
 
@@ -28,10 +28,10 @@ module _ {p : Panel} {left : Bool} {k : ℕ} {l : List Cell} (c : CanBulge p lef
   pub bulged-a : cellNo (bulged left k l) k ≡ cellNo l k
   bulged-a = place-kept l k there rest (c .low)
 
-  pub bulged-a' : cellNo (bulged left k l) (k + 1) ≡ beside left (cellNo l k) (cellNo l (k + 1)) (cellNo l k)
+  pub bulged-a' : cellNo (bulged left k l) (k + 1) ≡ cellBeside left (cellNo l k) (cellNo l (k + 1)) (cellNo l k)
   bulged-a' = place-new l k there rest (k + 1) 0 (omega arith)
 
-  pub bulged-b' : cellNo (bulged left k l) (k + 2) ≡ beside left (cellNo l k) (cellNo l (k + 1)) (cellNo l (k + 1))
+  pub bulged-b' : cellNo (bulged left k l) (k + 2) ≡ cellBeside left (cellNo l k) (cellNo l (k + 1)) (cellNo l (k + 1))
   bulged-b' = place-new l k there rest (k + 2) 1 (omega arith)
 
   pub bulged-b : cellNo (bulged left k l) (k + 3) ≡ cellNo l (k + 1)

@@ -10,7 +10,7 @@ use Rattle.grid.specs.declared.Cell.{Cell}
 use Rattle.grid.specs.Panel.{dist, Neighbours}
 use Rattle.grid.proofs.Facts.{cell-eq, beside-is, beside-sym}
 use Rattle.detour.specs.Detour.{leftOf}
-use Rattle.detour.proofs.Square.{Around, reversed}
+use Rattle.detour.proofs.Square.{AroundStep, reversed}
 
 -- a step changes x + y by 1, and x - y by 1
 sum-step : {a b : Cell} → Neighbours a b → dist (a .x + a .y) (b .x + b .y) ≡ 1
@@ -32,14 +32,14 @@ module _ {m b c : Cell} (n : Neighbours m b) (k : Neighbours m c) where
   difference-between h = omega (arith, difference-step n, difference-step k)
 
 -- a step is upright or level
-straight : {a b : Cell} → Neighbours a b → (a .x ≡ b .x) ⊎ (a .y ≡ b .y)
-straight {a} {b} n = by (eqb (a .x) (b .x)) refl
+level-or-upright : {a b : Cell} → Neighbours a b → (a .x ≡ b .x) ⊎ (a .y ≡ b .y)
+level-or-upright {a} {b} n = by (eqb (a .x) (b .x)) refl
   where
     by : (r : Bool) → eqb (a .x) (b .x) ≡ r → (a .x ≡ b .x) ⊎ (a .y ≡ b .y)
     by true e = inl (eqb-true _ _ e)
     by false e = inr (omega (arith, beside-is n, eqb-false))
 
--- c and d are the cells beside a and b on one side
+-- c and d are the cells cellBeside a and b on one side
 pub data OnSide (a c d b : Cell) : Type 0 where
   on-left : c ≡ leftOf a b a → d ≡ leftOf a b b → OnSide a c d b
   on-right : c ≡ leftOf b a a → d ≡ leftOf b a b → OnSide a c d b
@@ -57,15 +57,15 @@ settled (inl u) e f g h = OnSide.on-left (cell-eq (omega arith) (omega arith)) (
 settled (inr v) e f g h = OnSide.on-right (cell-eq (omega arith) (omega arith)) (cell-eq (omega arith) (omega arith))
 
 -- where b and c have the same sum; where not, a and d have, and the way back is such a way
-same-sum : {a c d b : Cell} → Neighbours a b → Around a c d b → a ≢ d → b ≢ c → b .x + b .y ≡ c .x + c .y → OnSide a c d b
+same-sum : {a c d b : Cell} → Neighbours a b → AroundStep a c d b → a ≢ d → b ≢ c → b .x + b .y ≡ c .x + c .y → OnSide a c d b
 same-sum {a} {c} {d} {b} n w ad bc e =
     let differ : b .x + c .y ≢ c .x + b .y = λ q. bc (cell-eq (omega arith) (omega arith)) in
     let f = difference-between n (w .out) differ in
     let h = difference-between (w .back) (beside-sym (w .along)) differ in
     let g = sum-between (beside-sym n) (beside-sym (w .back)) (λ q. ad (cell-eq (omega arith) (omega arith))) in
-    settled (straight n) e f g h
+    settled (level-or-upright n) e f g h
 
-pub on-side : {a c d b : Cell} → Neighbours a b → Around a c d b → a ≢ d → b ≢ c → OnSide a c d b
+pub on-side : {a c d b : Cell} → Neighbours a b → AroundStep a c d b → a ≢ d → b ≢ c → OnSide a c d b
 on-side {a} {c} {d} {b} n w ad bc = by (eqb (b .x + b .y) (c .x + c .y)) refl
   where
     by : (r : Bool) → eqb (b .x + b .y) (c .x + c .y) ≡ r → OnSide a c d b

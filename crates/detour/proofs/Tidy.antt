@@ -14,7 +14,7 @@ use Rattle.grid.proofs.Facts.{and-parts, and-both, on, is-on, ne-same}
 use Rattle.list.specs.List.{among}
 use Rattle.list.proofs.Tracks.{once, is-once, is-not-among}
 use Rattle.detour.specs.Detour.{isFree}
-use Rattle.detour.proofs.Cut.{all-moved, once-moved}
+use Rattle.detour.proofs.Cut.{all-swapped, once-swapped}
 
 pub record Tidy (p : Panel) (l : List Cell) : Type 0 where
   pub once : Once l
@@ -25,7 +25,7 @@ track-tidy r = record { once = r .once; within = r .within }
 
 module _ {p : Panel} where
   moved : (g d r : List Cell) → Tidy p (g ++ (d ++ r)) → Tidy p (d ++ (g ++ r))
-  moved g d r c = record { once = once-moved g d r (c .once); within = all-moved g d r (c .within) }
+  moved g d r c = record { once = once-swapped g d r (c .once); within = all-swapped g d r (c .within) }
 
   -- ---- cells d, put in behind a place or in front of the list: it is the same
 

@@ -9,7 +9,7 @@ use Rattle.grid.specs.declared.Cell.{Cell}
 use Rattle.grid.specs.Panel.{Neighbours}
 use Rattle.grid.specs.Track.{Track}
 use Rattle.detour.specs.declared.Edit.{Edit}
-use Rattle.detour.specs.Detour.{beside, bulged, edited, canEdit, opposite}
+use Rattle.detour.specs.Detour.{cellBeside, bulged, edited, canEdit, opposite}
 use Rattle.detour.proofs.Cut.{halves}
 use Rattle.detour.proofs.Facts.{CanBulge, is-bulge, IsDetour, is-press, by-kind}
 use Rattle.detour.proofs.Lists.{bulged-length, bulged-a, bulged-a', bulged-b', bulged-b, pressed-bulged, bulged-pressed}
@@ -24,8 +24,8 @@ bulge-shows {left = left} {k = k} r c =
       low = c .low;
       high = omega (arith, bulged-length c);
       step = subst₂ Neighbours a b (halves (r .walk) k (k + 1) (c .low) refl (c .high) .step);
-      first = bulged-a' c ∙ (λ i. beside left (a i) (b i) (a i));
-      second = bulged-b' c ∙ (λ i. beside left (a i) (b i) (b i));
+      first = bulged-a' c ∙ (λ i. cellBeside left (a i) (b i) (a i));
+      second = bulged-b' c ∙ (λ i. cellBeside left (a i) (b i) (b i));
     }
 
 pub undone : (p : Panel) (s t : Cell) (e : Edit) (l : List Cell) → Track p s t l → canEdit p e l ≡ true

@@ -1,4 +1,4 @@
--- Document 02, R-12: the two cells beside a step, and an edit, which puts such a detour into a list of cells or takes it out. Places count from 1.
+-- Document 02, R-12: the two cells cellBeside a step, and an edit, which puts such a detour into a list of cells or takes it out. Places count from 1.
 use Prim.Native.Nat.{ℕ, _+_, _-_, _*_}
 use mathlib.Core.Bool.{Bool, true, false, not, cond, _&&_}
 use mathlib.Core.List.{List, [], _∷_, _++_}
@@ -11,21 +11,21 @@ use Rattle.grid.specs.Bytes.{bytes}
 use Rattle.list.specs.List.{nth, among}
 use Rattle.detour.specs.declared.Edit.{Edit}
 
--- the cell beside c, left of the way from a to b. y grows downward: going right, left of the way is up
+-- the cell cellBeside c, left of the way from a to b. y grows downward: going right, left of the way is up
 abbrev pub leftOf : Cell → Cell → Cell → Cell
 leftOf a b c = cell (c .x + b .y - a .y) (c .y + a .x - b .x)
 
--- the cell beside c, left or right of the way from a to b: right of the way there is left of the way back
-abbrev pub beside : Bool → Cell → Cell → Cell → Cell
-beside left a b c = cond left (leftOf a b c) (leftOf b a c)
+-- the cell cellBeside c, left or right of the way from a to b: right of the way there is left of the way back
+abbrev pub cellBeside : Bool → Cell → Cell → Cell → Cell
+cellBeside left a b c = cond left (leftOf a b c) (leftOf b a c)
 
 -- the cell at a place of a list
 abbrev pub cellNo : List Cell → ℕ → Cell
 cellNo l k = nth l (k - 1)
 
--- the detour of the step from a to b: the cells beside them
+-- the detour of the step from a to b: the cells cellBeside them
 abbrev pub detour : Bool → Cell → Cell → List Cell
-detour left a b = beside left a b a ∷ beside left a b b ∷ []
+detour left a b = cellBeside left a b a ∷ cellBeside left a b b ∷ []
 
 -- a bulge at place k: a step a, b becomes a, a', b', b
 abbrev pub bulged : Bool → ℕ → List Cell → List Cell
@@ -43,16 +43,16 @@ isFree p l c = onPanel p c && not (among c l)
 abbrev pub canBulge : Panel → Bool → ℕ → List Cell → Bool
 canBulge p left k l =
     leb 1 k && (leb (k + 1) (length l)
-    && (isFree p l (beside left (cellNo l k) (cellNo l (k + 1)) (cellNo l k))
-    && isFree p l (beside left (cellNo l k) (cellNo l (k + 1)) (cellNo l (k + 1)))))
+    && (isFree p l (cellBeside left (cellNo l k) (cellNo l (k + 1)) (cellNo l k))
+    && isFree p l (cellBeside left (cellNo l k) (cellNo l (k + 1)) (cellNo l (k + 1)))))
 
 -- a, a', b', b stand from place k on, where a and b are neighbours and a' and b' the detour of the step from a to b
 abbrev pub isDetour : Bool → ℕ → List Cell → Bool
 isDetour left k l =
     leb 1 k && (leb (k + 3) (length l)
     && (neighbours (cellNo l k) (cellNo l (k + 3))
-    && (sameCell (cellNo l (k + 1)) (beside left (cellNo l k) (cellNo l (k + 3)) (cellNo l k))
-    && sameCell (cellNo l (k + 2)) (beside left (cellNo l k) (cellNo l (k + 3)) (cellNo l (k + 3))))))
+    && (sameCell (cellNo l (k + 1)) (cellBeside left (cellNo l k) (cellNo l (k + 3)) (cellNo l k))
+    && sameCell (cellNo l (k + 2)) (cellBeside left (cellNo l k) (cellNo l (k + 3)) (cellNo l (k + 3))))))
 
 -- ---- an edit: a bulge or a press, at a place and on a side
 

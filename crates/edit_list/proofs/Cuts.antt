@@ -30,13 +30,13 @@ module _ (b : List ℕ) (n : ℕ) (held : 2 * n ≤ length b) where
         ∙ ap bytes (sym (take-append-drop k (front n b)))
         ∙ bytes-append (take k (front n b)) (drop k (front n b))
 
-    pub bytes-before : take (2 * k) b ≡ bytes (take k (front n b))
+    bytes-before : take (2 * k) b ≡ bytes (take k (front n b))
     bytes-before =
         sym (take-take (2 * k) (2 * n) b (omega arith))
         ∙ ap (take (2 * k)) parts
         ∙ take-at (bytes (take k (front n b))) (bytes (drop k (front n b))) (2 * k) cut-size
 
-    pub bytes-from : take (2 * (n - k)) (drop (2 * k) b) ≡ bytes (drop k (front n b))
+    bytes-from : take (2 * (n - k)) (drop (2 * k) b) ≡ bytes (drop k (front n b))
     bytes-from =
         let whole : 2 * k + 2 * (n - k) ≡ 2 * n = omega arith in
         let before = take (2 * k) b in
@@ -47,11 +47,11 @@ module _ (b : List ℕ) (n : ℕ) (held : 2 * n ≤ length b) where
   -- ---- a detour put in behind the first k cells
 
   module _ (room : 2 * (n + 2) ≤ length b) (k : ℕ) (within : k ≤ n) (c d : Cell) where
-    abbrev pub opened : List ℕ
-    opened = paste (paste b (2 * k + 4) (drop (2 * k) b) (2 * (n - k))) (2 * k) (bytes (c ∷ d ∷ [])) 4
-
     abbrev slid : List ℕ
     slid = paste b (2 * k + 4) (drop (2 * k) b) (2 * (n - k))
+
+    abbrev opened : List ℕ
+    opened = paste slid (2 * k) (bytes (c ∷ d ∷ [])) 4
 
     abbrev moved : List ℕ
     moved = take (2 * (n - k)) (drop (2 * k) b)

@@ -13,7 +13,7 @@ use Rattle.grid.specs.Bytes.{bytes, front}
 use Rattle.grid.proofs.Facts.{and-left, sides, on}
 use Rattle.list.specs.List.{among}
 use Rattle.detour.specs.declared.Edit.{Edit}
-use Rattle.detour.specs.Detour.{cellNo, beside, isFree, canBulge, isDetour, bulged, pressed, edited, canEdit, withZeros}
+use Rattle.detour.specs.Detour.{cellNo, cellBeside, isFree, canBulge, isDetour, bulged, pressed, edited, canEdit, withZeros}
 use Rattle.detour.proofs.Facts.{bulge, press}
 use Rattle.detour.proofs.Lists.{bulged-length, pressed-length}
 use Rattle.edit_list.proofs.Cuts.{length-front, opened-cells, closed-cells}
@@ -42,10 +42,10 @@ module _ (b : List ℕ) (n k : ℕ) (left : Bool) where
     step-within = omega (arith, bulge p left k l can .high, length-front b n held)
 
     abbrev first : Cell
-    first = beside left (cellNo l k) (cellNo l (k + 1)) (cellNo l k)
+    first = cellBeside left (cellNo l k) (cellNo l (k + 1)) (cellNo l k)
 
     abbrev second : Cell
-    second = beside left (cellNo l k) (cellNo l (k + 1)) (cellNo l (k + 1))
+    second = cellBeside left (cellNo l k) (cellNo l (k + 1)) (cellNo l (k + 1))
 
     pub first-small : goodSides p ≡ true → Small first
     first-small good = small p l first good (bulge p left k l can .first)

@@ -18,12 +18,12 @@ ghost use lib.Seq.{paste};
 ghost use Rattle.grid.specs.Panel.{maxSide};
 ghost use Rattle.grid.specs.Bytes.{InBytes, bytes, cellsIn, front};
 ghost use Rattle.list.specs.List.{among};
-ghost use Rattle.detour.specs.Detour.{leftOf, beside, cellNo, isFree, canBulge, isDetour, canEdit};
+ghost use Rattle.detour.specs.Detour.{leftOf, cellBeside, cellNo, isFree, canBulge, isDetour, canEdit};
 ghost use Rattle.detour.specs.Detour.{opposite, bulgeAt, pressAt, bulged, pressed, edited, withZeros};
 ghost use Rattle.edit_list.specs.Possible.{Possible};
 
-// How far a is above b; 0 where it is not, so that a cell off the panel has a 0 in it.
-fn above(a: u32, b: u32) -> u32
+// a less b, and 0 where b is more: a cell over the left or the upper edge has a 0.
+fn minus(a: u32, b: u32) -> u32
     ensures { λ r. ⌜ r ≡ a - b ⌝ }
 {
     if a <= b { 0 } else { a - b }
@@ -35,15 +35,15 @@ fn left_of(a: Cell, b: Cell, c: Cell) -> Cell
     ensures { λ r. ⌜ r ≡ leftOf a b c ⌝ }
 {
     Cell {
-        x: above(c.x + b.y, a.y),
-        y: above(c.y + a.x, b.x),
+        x: minus(c.x + b.y, a.y),
+        y: minus(c.y + a.x, b.x),
     }
 }
 
 // The cell beside c, left or right of the way from a to b.
 fn beside(left: bool, a: Cell, b: Cell, c: Cell) -> Cell
     requires { ⌜ InBytes a × InBytes b × InBytes c ⌝ }
-    ensures { λ r. ⌜ r ≡ beside left a b c ⌝ }
+    ensures { λ r. ⌜ r ≡ cellBeside left a b c ⌝ }
 {
     if left {
         return left_of(a, b, c);
@@ -160,10 +160,10 @@ fn slide_up(list: &mut [u8], start: usize, count: usize)
     requires { ⌜ start + count + 4 ≤ length (now list) ⌝ }
     ensures { λ _. ⌜ now (list .exit) ≡ paste (now (list .entry)) (start + 4) (drop start (now (list .entry))) count ⌝ }
 {
-    let mut left = count;
-    while 0 < left {
-        left -= 1;
-        list[start + left + 4] = list[start + left];
+    let mut rest = count;
+    while 0 < rest {
+        rest -= 1;
+        list[start + rest + 4] = list[start + rest];
     }
 }
 

@@ -13,8 +13,8 @@ use Rattle.detour.specs.Detour.{bulgeAt}
 use Rattle.session.specs.declared.Session.{Session}
 use Rattle.session.specs.declared.Command.{Command}
 use Rattle.session.specs.declared.Command.the-variants.{Bulge, Press, TakeBack}
-use Rattle.session.specs.Session.{noEdit, onRecord}
-use Rattle.session.specs.Edits.{cellsOf, editOf, editCheck, sessionAfter, bufferAfter}
+use Rattle.session.specs.Session.{noEdit, newSession, onRecord}
+use Rattle.session.specs.Edits.{sessionCells, editOf, editCheck, sessionAfter, bufferAfter}
 
 -- a session with a count of k, n edits recorded, and one edit in front of 31 others
 abbrev session : ℕ → ℕ → Edit → Session
@@ -22,6 +22,10 @@ session k n e = record { count = record { 0 = k }; recorded = n; edits = e ∷ r
 
 abbrev new : Session
 new = session 2 0 noEdit
+
+-- a new session has the count that is given, and nothing recorded
+pub new-shown : newSession (record { 0 = 2 }) ≡ new
+new-shown = refl
 
 -- ---- on a panel of 2 by 2, from (1, 1) to (2, 1)
 
@@ -64,10 +68,10 @@ claims-shown = (refl, refl, refl)
 -- ---- what is left
 
 abbrev sessionLeft : Command → Session → List ℕ → Session
-sessionLeft c s buffer = sessionAfter (checked c s buffer) c (editOf c s buffer) (cellsOf s buffer) s
+sessionLeft c s buffer = sessionAfter (checked c s buffer) c (editOf c s buffer) (sessionCells s buffer) s
 
 abbrev bufferLeft : Command → Session → List ℕ → List ℕ
-bufferLeft c s buffer = bufferAfter (checked c s buffer) (editOf c s buffer) (cellsOf s buffer) buffer
+bufferLeft c s buffer = bufferAfter (checked c s buffer) (editOf c s buffer) (sessionCells s buffer) buffer
 
 -- a refused command leaves both as they were; a bulge is recorded at its place, and the byte behind it is 0; taking it back records nothing
 pub left-shown : (sessionLeft (Bulge 1 true) new long ≡ new)
@@ -78,6 +82,11 @@ pub left-shown : (sessionLeft (Bulge 1 true) new long ≡ new)
     × (bufferLeft TakeBack (session 4 1 (bulgeAt 1 false)) bulged ≡ 1 ∷ 1 ∷ 2 ∷ 1 ∷ 0 ∷ 0 ∷ 0 ∷ 0 ∷ [])
 unfolding apart dist
 left-shown = (refl, refl, refl, refl, refl, refl)
+
+-- a press is recorded with the side that its detour is on: here right of the way
+pub side-shown : sessionLeft (Press 1) (session 4 0 noEdit) bulged ≡ session 2 1 (record { place = 1; bulge = false; left = false })
+unfolding apart dist
+side-shown = refl
 
 -- where 32 edits are recorded the oldest is dropped
 pub dropped-shown : onRecord (bulgeAt 2 true) 4 (session 2 32 (bulgeAt 1 true))

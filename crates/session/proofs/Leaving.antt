@@ -35,7 +35,7 @@ use Rattle.detour.proofs.Lists.{bulged-length, pressed-length}
 use Rattle.session.specs.declared.Session.{Session}
 use Rattle.session.specs.declared.Command.{Command}
 use Rattle.session.specs.Session.{keptEdits, listCells, listOf, ready, meant, changed}
-use Rattle.session.specs.Edits.{cellsOf, editOf, editTest, editCheck, EditLeaves, Edits}
+use Rattle.session.specs.Edits.{sessionCells, editOf, editTest, editCheck, EditLeaves, Edits}
 
 -- ---- the list after an edit
 
@@ -89,8 +89,8 @@ module _ (s : Session) (buffer : List ℕ) where
       (leb-true _ _ (and-left fits (leb (s .recorded) keptEdits) f), λ h. (leb-true _ _ (and-right fits (leb (s .recorded) keptEdits) f), refl))
   by-test false f = (omega arith, λ h. absurd (omega arith))
 
-  pub held : 2 * n ≤ length buffer
-  held = by-test _ refl .0
+  pub list-held : 2 * n ≤ length buffer
+  list-held = by-test _ refl .0
 
   pub few-recorded : 1 ≤ n → s .recorded ≤ keptEdits
   few-recorded h = by-test _ refl .1 h .0
@@ -99,7 +99,7 @@ module _ (s : Session) (buffer : List ℕ) where
   all-counted h = by-test _ refl .1 h .1
 
   pub list-size : length (listOf s buffer) ≡ 2 * n
-  list-size = length-take-le (2 * n) buffer held
+  list-size = length-take-le (2 * n) buffer list-held
 
   -- what Judge answers of it
   module _ (p : Panel) (a z : Cell) (old : List ℕ) {new : List ℕ} {j : CellsAnswer} (g : Judges p a z (listOf s buffer) old new j) where
@@ -134,11 +134,11 @@ module _ (s : Session) (buffer : List ℕ) where
 module _ (p : Panel) (a z : Cell) (c : Command) (s : Session) (buffer old : List ℕ) {new : List ℕ} {j : CellsAnswer}
     (g : Judges p a z (listOf s buffer) old new j) where
   abbrev after-judge : Check
-  after-judge = expect (ready c s) NothingRecorded (editTest p (editOf c s buffer) (cellsOf s buffer) (length buffer))
+  after-judge = expect (ready c s) NothingRecorded (editTest p (editOf c s buffer) (sessionCells s buffer) (length buffer))
 
   refused-by : {r : Refusal} → editCheck p a z c s buffer (length old) ≡ Refused r → {s' : Session} {d : CellsAnswer}
       → (s' ≡ s) × (d ≡ answers.Refused r) → Edits p a z c s buffer old s' buffer new d
-  refused-by f h = record { leaves = leaves-refused c (editOf c s buffer) (cellsOf s buffer) s buffer f h; scratch = g .scratch }
+  refused-by f h = record { leaves = leaves-refused c (editOf c s buffer) (sessionCells s buffer) s buffer f h; scratch = g .scratch }
 
   pub by-judge : {r : Refusal} → j ≡ answers.Refused r → {s' : Session} {d : CellsAnswer} → (s' ≡ s) × (d ≡ answers.Refused r)
       → Edits p a z c s buffer old s' buffer new d
@@ -163,6 +163,6 @@ module _ (p : Panel) (a z : Cell) (c : Command) (s : Session) (buffer old : List
         let own : Left (listCells s (length buffer)) (editOf c s buffer) = subst (λ (i : ℕ). Left i (meant c s (front i buffer))) count meant-left in
         let test = after-good after-judge accepted (expect-yes NothingRecorded _ h refl) in
         record {
-          leaves = subst (λ (k : Check). EditLeaves k c (editOf c s buffer) (cellsOf s buffer) s buffer s' buffer' d) test own;
+          leaves = subst (λ (k : Check). EditLeaves k c (editOf c s buffer) (sessionCells s buffer) s buffer s' buffer' d) test own;
           scratch = g .scratch;
         }

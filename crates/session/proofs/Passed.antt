@@ -11,7 +11,7 @@
 --     tokens               the tokens of the slices' lifetimes
 --     sessionVal, answerVal, pairVal       the machine value of a session, of an answer, and of a struct of two
 --     session-typed, answer-typed, edited-typed        what it takes to store one in a local
---     apart, together      what is known of the machine value of an `Edited` is taken apart into what is known of its session's and of its
+--     taken-apart, together      what is known of the machine value of an `Edited` is taken taken-apart into what is known of its session's and of its
 --                          answer's, and put together from the two
 --     whole-of, field-of   of a walk: an operand that is a local, and one that is a field of a local
 --     start-of, pair-of    a right side that is the address of what the pointer in a local's field points to, and one that is a struct of two
@@ -187,10 +187,10 @@ answerVal r = EL.val Ans.the-type Ans′.the-laws r
 abbrev pub pairVal : Val → Val → Val
 pairVal v w = vstruct (vcons v (vcons w vnil))
 
-pub apart : (r : Edited) (w : Val) → Is Edd.the-row r (w ∷ [])
+pub taken-apart : (r : Edited) (w : Val) → Is Edd.the-row r (w ∷ [])
     → (w ≡ pairVal (sessionVal (r .session)) (answerVal (r .answer)))
     × (Is Ses.the-row (r .session) (sessionVal (r .session) ∷ []) × Is Ans.the-row (r .answer) (answerVal (r .answer) ∷ []))
-apart r w is =
+taken-apart r w is =
     let fields = LL.owed Edd.the-type Edd′.the-laws r _ is in
     (ap only (LL.tells Edd.the-type Edd′.the-laws r _ is), (fields .0, fields .1 .0))
 

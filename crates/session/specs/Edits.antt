@@ -21,12 +21,12 @@ use Rattle.session.specs.declared.Command.{Command}
 use Rattle.session.specs.Session.{listOf, ready, meant, changed}
 
 -- the cells of the session's list
-abbrev pub cellsOf : Session → List ℕ → List Cell
-cellsOf s buffer = cellsIn (listOf s buffer)
+abbrev pub sessionCells : Session → List ℕ → List Cell
+sessionCells s buffer = cellsIn (listOf s buffer)
 
 -- the edit that the command makes
 abbrev pub editOf : Command → Session → List ℕ → Edit
-editOf c s buffer = meant c s (cellsOf s buffer)
+editOf c s buffer = meant c s (sessionCells s buffer)
 
 -- 22, the edit of a list cannot be made; 5, the buffer is too short for the longer list
 abbrev pub editTest : Panel → Edit → List Cell → ℕ → Check
@@ -38,7 +38,7 @@ abbrev pub editCheck : Panel → Cell → Cell → Command → Session → List 
 editCheck p a z c s buffer room =
     after (judgeCheck p a z (listOf s buffer) room)
     (expect (ready c s) NothingRecorded
-    (editTest p (editOf c s buffer) (cellsOf s buffer) (length buffer)))
+    (editTest p (editOf c s buffer) (sessionCells s buffer) (length buffer)))
 
 -- the session behind a check: as it was where refused
 abbrev pub sessionAfter : Check → Command → Edit → List Cell → Session → Session
@@ -58,5 +58,5 @@ pub record EditLeaves (k : Check) (c : Command) (e : Edit) (l : List Cell) (s : 
 -- the promise of the call: answer, session and buffer, and scratch, which was old and is new
 pub record Edits (p : Panel) (a z : Cell) (c : Command) (s : Session) (buffer old : List ℕ) (s' : Session) (buffer' new : List ℕ)
     (r : CellsAnswer) : Type 0 where
-  pub leaves : EditLeaves (editCheck p a z c s buffer (length old)) c (editOf c s buffer) (cellsOf s buffer) s buffer s' buffer' r
+  pub leaves : EditLeaves (editCheck p a z c s buffer (length old)) c (editOf c s buffer) (sessionCells s buffer) s buffer s' buffer' r
   pub scratch : new ≡ scratchAfter p a z (listOf s buffer) old

@@ -8,7 +8,7 @@ use lib.ListN.{length, take}
 use lib.Seq.{paste, length-take-le}
 use Rattle.grid.specs.declared.Cell.{Cell}
 use Rattle.grid.specs.Bytes.{bytes, front}
-use Rattle.detour.specs.Detour.{beside, cellNo}
+use Rattle.detour.specs.Detour.{cellBeside, cellNo}
 use Rattle.detour.proofs.Facts.{bulge as bulgeable}
 use Rattle.edit_list.proofs.Cuts.{length-front}
 use Rattle.edit_list.proofs.Made.{Small, step-within, first-small, second-small, bulge-made}
@@ -82,7 +82,7 @@ beside-requires c κs = search needs
 beside-requires-2 : tie.Need-beside-requires-2
 beside-requires-2 c κs = search needs
 
--- the cells of the detour are those beside the step
+-- the cells of the detour are those cellBeside the step
 abbrev ends : tie.After-beside2 → tie.After-cell-no2
 ends c = c .before .before .before .before .before .before .before
 
@@ -99,12 +99,12 @@ b-is : (c : tie.After-beside2) → ends c .cell-no2 .result ≡ cellNo (listed c
 b-is c = ends c .cell-no2 .ensures .0
 
 first-is : (c : tie.After-beside2) → let a = begin c .args in
-    c .before .beside .result ≡ beside (a .left) (cellNo (listed c) (a .place)) (cellNo (listed c) (a .place + 1)) (cellNo (listed c) (a .place))
-first-is c = c .before .beside .ensures ∙ (λ i. beside (begin c .args .left) (a-is c i) (b-is c i) (a-is c i))
+    c .before .beside .result ≡ cellBeside (a .left) (cellNo (listed c) (a .place)) (cellNo (listed c) (a .place + 1)) (cellNo (listed c) (a .place))
+first-is c = c .before .beside .ensures ∙ (λ i. cellBeside (begin c .args .left) (a-is c i) (b-is c i) (a-is c i))
 
 second-is : (c : tie.After-beside2) → let a = begin c .args in
-    c .beside2 .result ≡ beside (a .left) (cellNo (listed c) (a .place)) (cellNo (listed c) (a .place + 1)) (cellNo (listed c) (a .place + 1))
-second-is c = c .beside2 .ensures ∙ (λ i. beside (begin c .args .left) (a-is c i) (b-is c i) (b-is c i))
+    c .beside2 .result ≡ cellBeside (a .left) (cellNo (listed c) (a .place)) (cellNo (listed c) (a .place + 1)) (cellNo (listed c) (a .place + 1))
+second-is c = c .beside2 .ensures ∙ (λ i. cellBeside (begin c .args .left) (a-is c i) (b-is c i) (b-is c i))
 
 put-detour-requires : tie.Need-put-detour-requires
 put-detour-requires c κs =

@@ -9,7 +9,7 @@ use lib.ListN.{length}
 use Rattle.grid.specs.Bytes.{cellsIn}
 use Rattle.grid.proofs.Tests.{and-yes, and-no}
 use Rattle.list.proofs.Cells.{length-cells}
-use Rattle.detour.specs.Detour.{beside, cellNo, isFree, canBulge}
+use Rattle.detour.specs.Detour.{cellBeside, cellNo, isFree, canBulge}
 use Rattle.edit_list.proofs.can_bulge.Statement.{statement}
 use Rattle.edit_list.proofs.can_bulge.Tie as tie
 
@@ -60,29 +60,29 @@ b-is c = c .cell-no2 .ensures .0
 first : (c : tie.After-is-free) →
     let s = begin (c .before .before) .args in
     let l = cellsIn (s .list .now) in
-    c .is-free .result ≡ isFree (s .p) l (beside (s .left) (cellNo l (s .place)) (cellNo l (s .place + 1)) (cellNo l (s .place)))
+    c .is-free .result ≡ isFree (s .p) l (cellBeside (s .left) (cellNo l (s .place)) (cellNo l (s .place + 1)) (cellNo l (s .place)))
 first c =
     let m = c .before .before in
     let s = begin m .args in
     c .is-free .ensures
-    ∙ ap (isFree (s .p) (cellsIn (s .list .now))) (c .before .beside .ensures ∙ (λ i. beside (s .left) (a-is m i) (b-is m i) (a-is m i)))
+    ∙ ap (isFree (s .p) (cellsIn (s .list .now))) (c .before .beside .ensures ∙ (λ i. cellBeside (s .left) (a-is m i) (b-is m i) (a-is m i)))
 
 second : (c : tie.After-is-free2) →
     let s = begin (c .before .before .before .before .before) .args in
     let l = cellsIn (s .list .now) in
-    c .is-free2 .result ≡ isFree (s .p) l (beside (s .left) (cellNo l (s .place)) (cellNo l (s .place + 1)) (cellNo l (s .place + 1)))
+    c .is-free2 .result ≡ isFree (s .p) l (cellBeside (s .left) (cellNo l (s .place)) (cellNo l (s .place + 1)) (cellNo l (s .place + 1)))
 second c =
     let m = c .before .before .before .before .before in
     let s = begin m .args in
     c .is-free2 .ensures
-    ∙ ap (isFree (s .p) (cellsIn (s .list .now))) (c .before .beside2 .ensures ∙ (λ i. beside (s .left) (a-is m i) (b-is m i) (b-is m i)))
+    ∙ ap (isFree (s .p) (cellsIn (s .list .now))) (c .before .beside2 .ensures ∙ (λ i. cellBeside (s .left) (a-is m i) (b-is m i) (b-is m i)))
 
 -- where the step is there, its detour decides
 decided : (c : tie.Else2) {r : Bool} →
     let s = c .before .before .before .args in
     let l = cellsIn (s .list .now) in
-    r ≡ (isFree (s .p) l (beside (s .left) (cellNo l (s .place)) (cellNo l (s .place + 1)) (cellNo l (s .place)))
-    && isFree (s .p) l (beside (s .left) (cellNo l (s .place)) (cellNo l (s .place + 1)) (cellNo l (s .place + 1))))
+    r ≡ (isFree (s .p) l (cellBeside (s .left) (cellNo l (s .place)) (cellNo l (s .place + 1)) (cellNo l (s .place)))
+    && isFree (s .p) l (cellBeside (s .left) (cellNo l (s .place)) (cellNo l (s .place + 1)) (cellNo l (s .place + 1))))
     → r ≡ canBulge (s .p) (s .left) (s .place) l
 decided c e = and-yes _ (le-leb 1 _ (placed (c .before))) (and-yes _ (le-leb _ _ (there c)) e)
 

@@ -10,7 +10,7 @@ use Rattle.grid.specs.Panel.{sameCell, neighbours}
 use Rattle.grid.specs.Bytes.{cellsIn}
 use Rattle.grid.proofs.Tests.{and-yes, and-no}
 use Rattle.list.proofs.Cells.{length-cells}
-use Rattle.detour.specs.Detour.{beside, cellNo, isDetour}
+use Rattle.detour.specs.Detour.{cellBeside, cellNo, isDetour}
 use Rattle.edit_list.proofs.is_detour.Statement.{statement}
 use Rattle.edit_list.proofs.is_detour.Tie as tie
 
@@ -66,22 +66,22 @@ ends c = c .adjacent .ensures ∙ (λ i. neighbours (a-is (c .before) i) (b-is (
 first : (c : tie.After-same-cell) →
     let s = begin (c .before .before .before .before .before) .args in
     let l = cellsIn (s .list .now) in
-    c .same-cell .result ≡ sameCell (cellNo l (s .place + 1)) (beside (s .left) (cellNo l (s .place)) (cellNo l (s .place + 3)) (cellNo l (s .place)))
+    c .same-cell .result ≡ sameCell (cellNo l (s .place + 1)) (cellBeside (s .left) (cellNo l (s .place)) (cellNo l (s .place + 3)) (cellNo l (s .place)))
 first c =
     let m = c .before .before .before .before .before in
     let s = begin m .args in
-    let side = c .before .beside .ensures ∙ (λ i. beside (s .left) (a-is m i) (b-is m i) (a-is m i)) in
+    let side = c .before .beside .ensures ∙ (λ i. cellBeside (s .left) (a-is m i) (b-is m i) (a-is m i)) in
     c .same-cell .ensures ∙ (λ i. sameCell (c .before .before .cell-no3 .ensures .0 i) (side i))
 
 second : (c : tie.After-same-cell2) →
     let s = begin (c .before .before .before .before .before .before .before .before .before) .args in
     let l = cellsIn (s .list .now) in
     c .same-cell2 .result
-    ≡ sameCell (cellNo l (s .place + 2)) (beside (s .left) (cellNo l (s .place)) (cellNo l (s .place + 3)) (cellNo l (s .place + 3)))
+    ≡ sameCell (cellNo l (s .place + 2)) (cellBeside (s .left) (cellNo l (s .place)) (cellNo l (s .place + 3)) (cellNo l (s .place + 3)))
 second c =
     let m = c .before .before .before .before .before .before .before .before .before in
     let s = begin m .args in
-    let side = c .before .beside2 .ensures ∙ (λ i. beside (s .left) (a-is m i) (b-is m i) (b-is m i)) in
+    let side = c .before .beside2 .ensures ∙ (λ i. cellBeside (s .left) (a-is m i) (b-is m i) (b-is m i)) in
     c .same-cell2 .ensures ∙ (λ i. sameCell (c .before .before .cell-no4 .ensures .0 i) (side i))
 
 -- where four cells are there, these decide
@@ -89,8 +89,8 @@ decided : (c : tie.Else2) {r : Bool} →
     let s = c .before .before .before .args in
     let l = cellsIn (s .list .now) in
     r ≡ (neighbours (cellNo l (s .place)) (cellNo l (s .place + 3))
-    && (sameCell (cellNo l (s .place + 1)) (beside (s .left) (cellNo l (s .place)) (cellNo l (s .place + 3)) (cellNo l (s .place)))
-    && sameCell (cellNo l (s .place + 2)) (beside (s .left) (cellNo l (s .place)) (cellNo l (s .place + 3)) (cellNo l (s .place + 3)))))
+    && (sameCell (cellNo l (s .place + 1)) (cellBeside (s .left) (cellNo l (s .place)) (cellNo l (s .place + 3)) (cellNo l (s .place)))
+    && sameCell (cellNo l (s .place + 2)) (cellBeside (s .left) (cellNo l (s .place)) (cellNo l (s .place + 3)) (cellNo l (s .place + 3)))))
     → r ≡ isDetour (s .left) (s .place) l
 decided c e = and-yes _ (le-leb 1 _ (placed (c .before))) (and-yes _ (le-leb _ _ (there c)) e)
 

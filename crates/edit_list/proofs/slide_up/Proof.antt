@@ -9,16 +9,16 @@ use Rattle.edit_list.proofs.slide_up.Statement.{statement}
 use Rattle.edit_list.proofs.slide_up.Tie as tie
 
 abbrev Inv-loop : tie.InvT-loop
-Inv-loop list₀ start count left₀ list left = (list ≡ up list₀ start 4 count left) × (left ≤ count) × (length list ≡ length list₀)
+Inv-loop list₀ start count rest₀ list rest = (list ≡ up list₀ start 4 count rest) × (rest ≤ count) × (length list ≡ length list₀)
 
 abbrev μ-loop : tie.MeasureT-loop
-μ-loop list₀ start count left₀ list left = left
+μ-loop list₀ start count rest₀ list rest = rest
 
 loop-holds : tie.Need-loop-holds Inv-loop μ-loop
 loop-holds c = let a = c .args in (up-none (a .list .now) (a .start) 4 (a .count), omega arith, refl)
 
-sub-left : tie.Need-sub-left Inv-loop μ-loop
-sub-left c = omega arith
+sub-rest : tie.Need-sub-rest Inv-loop μ-loop
+sub-rest c = omega arith
 
 add-list : tie.Need-add-list Inv-loop μ-loop
 add-list c = omega arith
@@ -42,8 +42,8 @@ loop-again : tie.Need-loop-again Inv-loop μ-loop
 loop-again c =
     let l = c .before .before .loop in
     let a = c .before .before .before .args in
-    let i = l .left - 1 in
-    let next : l .left ≡ i + 1 = omega arith in
+    let i = l .rest - 1 in
+    let next : l .rest ≡ i + 1 = omega arith in
     let was = l .inv .0 ∙ ap (up (a .list .now) (a .start) 4 (a .count)) next in (
       ap (λ (m : List ℕ). set m (a .start + i + 4) (getD m (a .start + i) 0)) was
           ∙ up-next (a .list .now) (a .start) 4 (a .count) (c .before .before .before .pre) i 0 (omega arith),
@@ -58,7 +58,7 @@ returns : tie.Need-returns Inv-loop μ-loop
 returns c =
     let l = c .before .loop in
     let a = c .before .before .args in
-    let none : l .left ≡ 0 = omega (arith, c .loop-test .left) in
+    let none : l .rest ≡ 0 = omega (arith, c .loop-test .left) in
     l .inv .0
     ∙ ap (up (a .list .now) (a .start) 4 (a .count)) none
     ∙ up-all (a .list .now) (a .start) 4 (a .count) (c .before .before .pre)
@@ -70,7 +70,7 @@ slide-up-spec =
     Inv-loop
     μ-loop
     loop-holds
-    sub-left
+    sub-rest
     add-list
     slice-read-list
     add-list-2

@@ -1,7 +1,7 @@
 -- `session::edit_drawing` meets its contract: a walk of its MIR, by hand, since the borrow checker covers no reference to a struct.
 -- The borrow of the session is opened, and stays open over the call. The session is copied out of its cell whole and passed by value to
 -- `edit_value`, of which the proof knows only that it meets its contract. The session that comes back is stored whole in the same cell, the
--- borrow is closed at it, and the answer is returned. No field of a session is looked at, and the promise is never taken apart.
+-- borrow is closed at it, and the answer is returned. No field of a session is looked at, and the promise is never taken taken-apart.
 -- The MIR borrows each slice again for the call. The walk passes the slice on for good, at its own lifetime, share and name: what
 -- `edit_value` says of its last list is then what this function has to say of it.
 -- Assumes nothing.
@@ -51,7 +51,7 @@ use Rattle.session.proofs.Edited.Laws as Edd′
 use Rattle.session.proofs.Session as Ses
 use Rattle.session.proofs.Session.Laws as Ses′
 use Rattle.session.proofs.Passed.{onwards, onwards-go, Others, slots, rows, spells, tells, Stored, stored, vals, passed, Ends, said}
-use Rattle.session.proofs.Passed.{Promise, tokens, sessionVal, answerVal, apart, session-typed, answer-typed, edited-typed}
+use Rattle.session.proofs.Passed.{Promise, tokens, sessionVal, answerVal, taken-apart, session-typed, answer-typed, edited-typed}
 use Rattle.session.proofs.Passed.{whole-of, field-of, start-of, pair-of, spelled, asks, leaves}
 use Rattle.session.proofs.edit_value as edit-value
 use Rattle.session.proofs.edit_value.Symbol as edit-value-def
@@ -143,20 +143,20 @@ module _ {M : Type 1} (𝓤 : URA M) (H : Heap 𝓤) (A : Atoms 𝓤) (W : Given
         move ! (1 ∷ []) $ split ! $ move ! (1 ∷ []) $ peeks ! Edd.the-row (Is Edd.the-row) (shows 𝓤 H A Edd.the-row) r (w ∷ []) (λ is.
         -- [what the result owns; the slices' tokens; what is said of the others; the session's cell; the open borrow; obs; auth; _13; …; _0; …]
         land ! (from ! (stop !)) (init ! 15 refl (edited-typed 𝓤 H A W r w is)) $
-        rewrite ! 15 (λ (v : Val). ‵ (fat fullShare Edd′.mir l₉ 0 v)) (apart r w is .0) refl $
+        rewrite ! 15 (λ (v : Val). ‵ (fat fullShare Edd′.mir l₉ 0 v)) (taken-apart r w is .0) refl $
         assigns ! (of-opd ! (field-of ! refl (look-in ! 15 (sub ! 0 refl (whole !))))) (from ! (hop ! (look ! 31 refl) (stop !)))
-        (store-raw ! 3 refl (session-typed 𝓤 H A W (r .session) _ (apart r w is .1 .0))) $
+        (store-raw ! 3 refl (session-typed 𝓤 H A W (r .session) _ (taken-apart r w is .1 .0))) $
         assigns ! (of-opd ! (field-of ! refl (look-in ! 15 (sub ! 1 refl (whole !))))) (from ! (stop !))
-        (init ! 33 refl (answer-typed 𝓤 H A W (r .answer) _ (apart r w is .1 .1))) $
+        (init ! 33 refl (answer-typed 𝓤 H A W (r .answer) _ (taken-apart r w is .1 .1))) $
         -- the borrow is closed at the session that came back
-        owned ! Ses.the-row (Is Ses.the-row) (LL.makes Ses.the-type Ses′.the-plain 𝓤 H A) (r .session) _ (apart r w is .1 .0) $
+        owned ! Ses.the-row (Is Ses.the-row) (LL.makes Ses.the-type Ses′.the-plain 𝓤 H A) (r .session) _ (taken-apart r w is .1 .0) $
         move ! (4 ∷ 0 ∷ 5 ∷ 6 ∷ 7 ∷ []) $ closes ! tt Ses.the-row (r .session) (sessionVal (r .session) ∷ []) b o $
         -- [obs; the borrow; its token; what the result owns; the slices' tokens; what is said of the others; _13; …; _0; …]
         returns ! (look ! 32 refl) $ move ! (32 ∷ 33 ∷ []) $ leaves ! $ move ! (30 ∷ 31 ∷ []) $ leaves ! $ move ! (28 ∷ 29 ∷ []) $ leaves ! $
         move ! (26 ∷ 27 ∷ []) $ leaves ! $ move ! (24 ∷ 25 ∷ []) $ leaves ! $ move ! (22 ∷ 23 ∷ []) $ leaves ! $ move ! (20 ∷ 21 ∷ []) $ leaves ! $
         move ! (18 ∷ 19 ∷ []) $ leaves ! $ move ! (16 ∷ 17 ∷ []) $ leaves ! $ move ! (14 ∷ 15 ∷ []) $ leaves ! $ move ! (12 ∷ 13 ∷ []) $ leaves ! $
         move ! (10 ∷ 11 ∷ []) $ leaves ! $ move ! (8 ∷ 9 ∷ []) $ leaves ! $ move ! (6 ∷ 7 ∷ []) $ leaves ! $ free0 ! $
-        keep ! (0 ∷ 1 ∷ 2 ∷ 4 ∷ 5 ∷ []) $ by ! (exits (r .session) (ws .1) (r .answer) e (apart r w is .1 .1)))))))))))))))))))))))
+        keep ! (0 ∷ 1 ∷ 2 ∷ 4 ∷ 5 ∷ []) $ by ! (exits (r .session) (ws .1) (r .answer) e (taken-apart r w is .1 .1)))))))))))))))))))))))
 
 module _ {M : Type 1} (𝓤 : URA M) (H : Heap 𝓤) (A : Atoms 𝓤) (W : Given 𝓤 H A) (at-mem : Memory → SProp 𝓤) (run : Routine → Fun 𝓤) where
   walks : (C : Calls 𝓤 H) (Λ : Loops 𝓤 H) → FmC 𝓤 H (W .laws) C → Triple 𝓤 (C #session·edit-value) (Callee 𝓤 H A at-mem run)

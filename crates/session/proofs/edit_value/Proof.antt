@@ -10,7 +10,7 @@ use lib.Seq.{length-take-le}
 use Rattle.grid.specs.declared.Check.the-variants.{Good}
 use Rattle.judge.specs.Judge.{judgeCheck, Judges}
 use Rattle.session.specs.Session.{keptEdits, listOf, ready}
-use Rattle.session.proofs.Leaving.{held, judge-good, few-recorded, some-cells, few-cells, sides-good, by-judge, by-record, by-edit}
+use Rattle.session.proofs.Leaving.{list-held, judge-good, few-recorded, some-cells, few-cells, sides-good, by-judge, by-record, by-edit}
 use Rattle.session.proofs.edit_value.Statement.{statement}
 use Rattle.session.proofs.edit_value.Tie as tie
 
@@ -23,7 +23,7 @@ module _ (c : tie.After-list-cells) where
   start = c .before .before .before
 
   fits : 2 * c .list-cells .result ≤ length (start .args .list .now)
-  fits = omega (arith, held (start .args .s) (start .args .list .now), c .list-cells .ensures)
+  fits = omega (arith, list-held (start .args .s) (start .args .list .now), c .list-cells .ensures)
 
   taken : 2 * c .list-cells .result ≡ length (take (2 * c .list-cells .result) (start .args .list .now))
   taken = sym (length-take-le (2 * c .list-cells .result) (start .args .list .now) fits)

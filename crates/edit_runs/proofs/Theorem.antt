@@ -6,32 +6,47 @@ use borrow.Author.Tests.{le-leb}
 use mathlib.Core.Path.{_≡_, refl, sym, ap, subst, _∙_}
 use mathlib.Core.Bool.{Bool, true, false, false≢true}
 use mathlib.Core.List.{List, [], _∷_}
-use lib.ListN.{length, take, drop}
+use lib.ListN.{length, take, drop, length-replicate}
 use Rattle.grid.specs.declared.Panel.{Panel}
 use Rattle.grid.specs.declared.Cell.{Cell}
+use Rattle.grid.specs.declared.Cells.{Cells}
+use Rattle.grid.specs.declared.Refusal.{Refusal}
 use Rattle.grid.specs.declared.Refusal.the-variants.{NoSuchEdit, NothingRecorded, ShortBuffer}
 use Rattle.grid.specs.Bytes.{cellsIn}
 use Rattle.grid.specs.Track.{Track}
-use Rattle.grid.proofs.Tests.{expect-yes, after-good}
+use Rattle.grid.specs.declared.Check.{Check}
+use Rattle.grid.specs.declared.Check.the-variants.{Good, Refused}
+use Rattle.grid.specs.declared.CellsAnswer.{CellsAnswer}
+use Rattle.grid.proofs.Tests.{expect-yes, after-good, answer-refused}
 use Rattle.judge.specs.Judge.{judgeCheck}
 use Rattle.detour.specs.declared.Edit.{Edit}
-use Rattle.detour.specs.Detour.{bulgeAt, pressAt, edited, canEdit, opposite}
+use Rattle.detour.specs.Detour.{bulgeAt, pressAt, edited, canEdit, opposite, withZeros}
 use Rattle.detour.proofs.Kept.{bulge-adds, press-takes}
 use Rattle.detour.proofs.Undone.{undone}
 use Rattle.session.specs.declared.Session.{Session}
 use Rattle.session.specs.declared.Command.{Command}
 use Rattle.session.specs.declared.Command.the-variants.{Bulge, Press, TakeBack}
-use Rattle.session.specs.Session.{keptEdits, listOf, newest, onRecord, changed}
-use Rattle.session.specs.Edits.{editOf}
-use Rattle.history.specs.Run.{Desk, drawing, recordOf, Whole, isEdit, Judged, Accepted, deskAfter, Run, EditRun, BackRun}
-use Rattle.history.proofs.Step.{is-track, was-judged, was-few, can, next-session, next-length, next-drawing, next-judged, is-held, is-counted}
-use Rattle.history.proofs.Records.{newestOf, recorded-first, recorded-more, recorded-whole, off-full, off-open}
+use Rattle.session.specs.Session.{keptEdits, noEdit, newSession, listOf, newest, onRecord, changed}
+use Rattle.session.specs.Edits.{editOf, editCheck, sessionAfter, bufferAfter, Edits}
+use Rattle.edit_runs.specs.Run.{Desk, drawing, recordedEdits, Whole, isEdit, Judged, Accepted, deskCheck, deskAfter, Run, EditRun, BackRun}
+use Rattle.edit_runs.proofs.Step.{is-track, was-judged, was-few, can, next-session, next-length, next-drawing, next-judged, is-held, is-counted}
+use Rattle.edit_runs.proofs.Records.{newestOf, recorded-first, recorded-more, recorded-whole, off-full, off-open}
 
 -- an edit is recorded
 edit-recorded : (c : Command) (e : Edit) (n : ℕ) (s : Session) → isEdit c ≡ true → changed c e n s ≡ onRecord e n s
 edit-recorded (Bulge k left) e n s h = refl
 edit-recorded (Press k) e n s h = refl
 edit-recorded TakeBack e n s h = absurd (false≢true h)
+
+changed-whole : (c : Command) (e : Edit) (n : ℕ) (s : Session) → length (s .edits) ≡ keptEdits → s .recorded ≤ keptEdits
+    → length (changed c e n s .edits) ≡ keptEdits
+changed-whole (Bulge k left) e n s w few = recorded-whole e n s w few
+changed-whole (Press k) e n s w few = recorded-whole e n s w few
+changed-whole TakeBack e n s w few = w
+
+-- a new session has all places
+pub new-whole : (k : Cells) (buffer : List ℕ) → Whole (record { session = newSession k; buffer = buffer })
+new-whole k buffer = length-replicate keptEdits noEdit
 
 -- the opposites of edits, one behind the other, lead from a list to another, and a buffer of n bytes holds all between
 data Undoes (p : Panel) (n : ℕ) : List Edit → List Cell → List Cell → Type 0 where
@@ -42,9 +57,46 @@ data Undoes (p : Panel) (n : ℕ) : List Edit → List Cell → List Cell → Ty
 module _ (p : Panel) (a z : Cell) (room : ℕ) where
   -- ---- any run
 
+  -- what the call leaves is what the run goes on from
+  pub call-leaves : (c : Command) (d : Desk) (old : List ℕ) → length old ≡ room → {s' : Session} {buffer' new : List ℕ} {r : CellsAnswer}
+      → Edits p a z c (d .session) (d .buffer) old s' buffer' new r
+      → (s' ≡ deskAfter p a z room c d .session) × (buffer' ≡ deskAfter p a z room c d .buffer)
+  call-leaves c d old is e =
+      let told : ℕ → Check = editCheck p a z c (d .session) (d .buffer) in
+      let f = editOf c (d .session) (d .buffer) in (
+        e .leaves .session ∙ ap (λ (k : ℕ). sessionAfter (told k) c f (drawing d) (d .session)) is,
+        e .leaves .list ∙ ap (λ (k : ℕ). bufferAfter (told k) f (drawing d) (d .buffer)) is,
+      )
+
+  -- what holds after an accepted command, and where nothing changes, holds after any
+  by-command : (P : Desk → Type 0) (c : Command) (d : Desk) → (Accepted p a z room c d → P (deskAfter p a z room c d)) → P d → P (deskAfter p a z room c d)
+  by-command P c d made same = by (deskCheck p a z room c d) refl
+    where
+      by : (k : Check) → deskCheck p a z room c d ≡ k → P (deskAfter p a z room c d)
+      by Good f = made f
+      by (Refused r) f =
+          let e = editOf c (d .session) (d .buffer) in
+          let back : d ≡ deskAfter p a z room c d =
+          (λ i. record {
+            session = answer-refused (λ (q : Refusal). d .session) (changed c e (length (edited e (drawing d))) (d .session)) f i;
+            buffer = answer-refused (λ (q : Refusal). d .buffer) (withZeros (edited e (drawing d)) (length (d .buffer))) f i;
+          }) in
+          subst P back same
+
   pub run-judged : {d f : Desk} → Run p a z room d f → Judged p a z room d → Judged p a z room f
   run-judged Run.none j = j
-  run-judged (Run.more {f = f} r c ok) j = next-judged p a z room c f ok
+  run-judged (Run.more {f = f} r c) j = by-command (Judged p a z room) c f (next-judged p a z room c f) (run-judged r j)
+
+  -- the array of a session keeps its length
+  next-whole : (c : Command) (d : Desk) → Accepted p a z room c d → Whole d → Whole (deskAfter p a z room c d)
+  next-whole c d ok w =
+      let e = editOf c (d .session) (d .buffer) in
+      ap (λ (t : Session). length (t .edits)) (next-session p a z room c d ok)
+      ∙ changed-whole c e (length (edited e (drawing d))) (d .session) w (was-few p a z room c d ok)
+
+  pub run-whole : {d f : Desk} → Run p a z room d f → Whole d → Whole f
+  run-whole Run.none w = w
+  run-whole (Run.more {f = f} r c) w = by-command Whole c f (λ ok. next-whole c f ok (run-whole r w)) (run-whole r w)
 
   -- from a list that Judge accepts any run keeps a track between the same ends
   pub run-track : {d f : Desk} → Run p a z room d f → Judged p a z room d → Track p a z (drawing f)
@@ -151,8 +203,8 @@ module _ (p : Panel) (a z : Cell) (room : ℕ) where
     pub ok : Accepted p a z room TakeBack g
     pub list : drawing (deskAfter p a z room TakeBack g) ≡ drawing d
     pub count : deskAfter p a z room TakeBack g .session .count .0 ≡ d .session .count .0
-    pub record-open : d .session .recorded < keptEdits → recordOf (deskAfter p a z room TakeBack g) ≡ recordOf d
-    pub record-full : keptEdits ≤ d .session .recorded → recordOf (deskAfter p a z room TakeBack g) ≡ drop 1 (recordOf d)
+    pub record-open : d .session .recorded < keptEdits → recordedEdits (deskAfter p a z room TakeBack g) ≡ recordedEdits d
+    pub record-full : keptEdits ≤ d .session .recorded → recordedEdits (deskAfter p a z room TakeBack g) ≡ drop 1 (recordedEdits d)
 
   one-back : {g end : Desk} → BackRun p a z room 1 g end → Accepted p a z room TakeBack g × (deskAfter p a z room TakeBack g ≡ end)
   one-back (BackRun.more ok BackRun.none) = (ok, refl)
@@ -178,7 +230,7 @@ module _ (p : Panel) (a z : Cell) (room : ℕ) where
       let (back-ok, end) = one-back (b .way) in
       let list = ap drawing end ∙ b .list in
       let h = deskAfter p a z room TakeBack g in
-      let off : recordOf h ≡ take (onRecord e n s .recorded - 1) (onRecord e n s .edits) =
+      let off : recordedEdits h ≡ take (onRecord e n s .recorded - 1) (onRecord e n s .edits) =
       ap (λ (t : Session). take (t .recorded) (t .edits)) (next-session p a z room TakeBack g back-ok)
       ∙ ap (λ (t : Session). take (t .recorded - 1) (t .edits)) recorded in
       record {

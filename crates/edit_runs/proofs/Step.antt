@@ -35,8 +35,8 @@ use Rattle.session.specs.declared.Command.{Command}
 use Rattle.session.specs.declared.Command.the-variants.{Bulge, Press, TakeBack}
 use Rattle.session.specs.Session.{keptEdits, listCells, listOf, ready, onRecord, changed}
 use Rattle.session.specs.Edits.{editOf, editTest}
-use Rattle.session.proofs.Leaving.{held, few-recorded, all-counted, list-size, some-cells}
-use Rattle.history.specs.Run.{Desk, drawing, Judged, Accepted, deskAfter}
+use Rattle.session.proofs.Leaving.{list-held, few-recorded, all-counted, list-size, some-cells}
+use Rattle.edit_runs.specs.Run.{Desk, drawing, Judged, Accepted, deskAfter}
 
 -- ---- a list with zeros behind it, in a buffer that holds it, and a session that counts it and has no more edits than it keeps
 
@@ -44,16 +44,16 @@ module _ (l : List Cell) (n : ℕ) (fits : 2 * length l ≤ n) where
   abbrev zeros : List ℕ
   zeros = replicate (n - 2 * length l) 0
 
-  pub size : length (withZeros l n) ≡ n
+  size : length (withZeros l n) ≡ n
   size = omega (arith, length-append (bytes l) zeros, length-bytes l, length-replicate {A = ℕ} (n - 2 * length l) 0)
 
   module _ (s : Session) (count : s .count .0 ≡ length l) (few : s .recorded ≤ keptEdits) where
     cells-are : listCells s (length (withZeros l n)) ≡ length l
     cells-are =
-        let held : 2 * s .count .0 ≤ length (withZeros l n) = omega (arith, size, count) in
-        sym (cond-yes _ 0 (and-both (le-leb _ _ held) (le-leb _ _ few)) refl) ∙ count
+        let list-held : 2 * s .count .0 ≤ length (withZeros l n) = omega (arith, size, count) in
+        sym (cond-yes _ 0 (and-both (le-leb _ _ list-held) (le-leb _ _ few)) refl) ∙ count
 
-    pub list-is : listOf s (withZeros l n) ≡ bytes l
+    list-is : listOf s (withZeros l n) ≡ bytes l
     list-is = ap (λ (k : ℕ). take (2 * k) (withZeros l n)) cells-are ∙ take-at (bytes l) zeros (2 * length l) (length-bytes l)
 
 -- ---- the session after a command
@@ -67,7 +67,7 @@ module _ (e : Edit) (n : ℕ) (s : Session) where
       both-branches (λ (t : Session). t .recorded ≤ keptEdits) (leb keptEdits (s .recorded)) _ _
       (λ h. few) (λ h. omega (arith, leb-false keptEdits (s .recorded) h))
 
-  pub new-count : (c : Command) → changed c e n s .count .0 ≡ n
+  new-count : (c : Command) → changed c e n s .count .0 ≡ n
   new-count (Bulge k left) = on-count
   new-count (Press k) = on-count
   new-count TakeBack = refl
@@ -89,7 +89,7 @@ module _ (p : Panel) (a z : Cell) (room : ℕ) where
     is-track = tests-track (passed p a z (cellsIn list) (after-rest sizes (cellsCheck p a z (cellsIn list)) good))
 
     -- any other track between the same ends is accepted too
-    pub track-judged : {l : List Cell} → Track p a z l → judgeCheck p a z (bytes l) room ≡ Good
+    track-judged : {l : List Cell} → Track p a z l → judgeCheck p a z (bytes l) room ≡ Good
     track-judged {l} r =
         let was = sized p a z (length list) room (after-passed sizes (cellsCheck p a z (cellsIn list)) good) in
         let some = some-cell (r .walk) in
@@ -121,9 +121,6 @@ module _ (p : Panel) (a z : Cell) (room : ℕ) where
     behind : expect (ready c s) NothingRecorded test ≡ Good
     behind = after-rest judge (expect (ready c s) NothingRecorded test) ok
 
-    pub was-ready : ready c s ≡ true
-    was-ready = expect-passed (ready c s) NothingRecorded test behind
-
     passed-test : test ≡ Good
     passed-test = expect-rest (ready c s) NothingRecorded test behind
 
@@ -140,7 +137,7 @@ module _ (p : Panel) (a z : Cell) (room : ℕ) where
     pub next-session : deskAfter p a z room c d .session ≡ changed c e (length (edited e l)) s
     next-session = sym (answer-good (λ (r : Refusal). s) _ ok refl)
 
-    pub next-buffer : deskAfter p a z room c d .buffer ≡ withZeros (edited e l) (length (d .buffer))
+    next-buffer : deskAfter p a z room c d .buffer ≡ withZeros (edited e l) (length (d .buffer))
     next-buffer = sym (answer-good (λ (r : Refusal). d .buffer) _ ok refl)
 
     pub next-length : length (deskAfter p a z room c d .buffer) ≡ length (d .buffer)
@@ -161,14 +158,14 @@ module _ (p : Panel) (a z : Cell) (room : ℕ) where
         let track = kept-track p a z e l (is-track (listOf s (d .buffer)) was-judged) can in
         ap (λ (b : List ℕ). judgeCheck p a z b room) next-list ∙ track-judged (listOf s (d .buffer)) was-judged track
 
-  -- ---- a list that Judge accepts is held by the buffer, and the session counts it
+  -- ---- a list that Judge accepts is list-held by the buffer, and the session counts it
 
   module _ (d : Desk) (judged : Judged p a z room d) where
     cells : length (drawing d) ≡ listCells (d .session) (length (d .buffer))
     cells = omega (arith, length-cells (listOf (d .session) (d .buffer)), list-size (d .session) (d .buffer))
 
     pub is-held : 2 * length (drawing d) ≤ length (d .buffer)
-    is-held = omega (arith, cells, held (d .session) (d .buffer))
+    is-held = omega (arith, cells, list-held (d .session) (d .buffer))
 
     pub is-counted : length (drawing d) ≡ d .session .count .0
     is-counted = cells ∙ all-counted (d .session) (d .buffer) (some-cells (d .session) (d .buffer) p a z room judged)

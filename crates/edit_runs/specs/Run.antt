@@ -14,7 +14,7 @@ use Rattle.session.specs.declared.Session.{Session}
 use Rattle.session.specs.declared.Command.{Command}
 use Rattle.session.specs.declared.Command.the-variants.{Bulge, Press, TakeBack}
 use Rattle.session.specs.Session.{keptEdits, listOf}
-use Rattle.session.specs.Edits.{cellsOf, editOf, editCheck, sessionAfter, bufferAfter}
+use Rattle.session.specs.Edits.{sessionCells, editOf, editCheck, sessionAfter, bufferAfter}
 
 -- what the caller has in hand: the session and the buffer with the list
 pub record Desk : Type 0 where
@@ -23,11 +23,11 @@ pub record Desk : Type 0 where
 
 -- the cells of the drawing
 abbrev pub drawing : Desk → List Cell
-drawing d = cellsOf (d .session) (d .buffer)
+drawing d = sessionCells (d .session) (d .buffer)
 
 -- the recorded edits, oldest first
-abbrev pub recordOf : Desk → List Edit
-recordOf d = take (d .session .recorded) (d .session .edits)
+abbrev pub recordedEdits : Desk → List Edit
+recordedEdits d = take (d .session .recorded) (d .session .edits)
 
 -- the session's array has its 32 places, as every array of its type has
 abbrev pub Whole : Desk → Type 0
@@ -57,10 +57,10 @@ module _ (p : Panel) (a z : Cell) (room : ℕ) where
       let e = editOf c (d .session) (d .buffer) in
       record { session = sessionAfter (deskCheck c d) c e (drawing d) (d .session); buffer = bufferAfter (deskCheck c d) e (drawing d) (d .buffer) }
 
-  -- any run of accepted commands
+  -- any run of commands, accepted or refused
   pub data Run : Desk → Desk → Type 0 where
     none : {d : Desk} → Run d d
-    more : {d f : Desk} → Run d f → (c : Command) → Accepted c f → Run d (deskAfter c f)
+    more : {d f : Desk} → Run d f → (c : Command) → Run d (deskAfter c f)
 
   -- n accepted edits, one behind the other
   pub data EditRun : ℕ → Desk → Desk → Type 0 where
