@@ -39,7 +39,7 @@ level-or-upright {a} {b} n = by (eqb (a .x) (b .x)) refl
     by true e = inl (eqb-true _ _ e)
     by false e = inr (omega (arith, beside-is n, eqb-false))
 
--- c and d are the cells cellBeside a and b on one side
+-- c and d are the cells beside a and b on one side
 pub data OnSide (a c d b : Cell) : Type 0 where
   on-left : c ≡ leftOf a b a → d ≡ leftOf a b b → OnSide a c d b
   on-right : c ≡ leftOf b a a → d ≡ leftOf b a b → OnSide a c d b

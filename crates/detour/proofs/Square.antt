@@ -1,4 +1,4 @@
--- The square on one side of a step from a to b: from a over the two cells cellBeside them to b goes a way around.
+-- The square on one side of a step from a to b: from a over the two cells beside them to b goes a way around.
 use Prim.Native.Nat.{ℕ, _+_, _-_, _≤_}
 use native.Mathlib.Omega.{arith}
 use mathlib.Core.Path.{_≡_, sym, subst}
@@ -33,7 +33,7 @@ near n = omega (arith, beside-is n)
 -- ---- left of the way
 
 module _ {p : Panel} {a b : Cell} (n : Neighbours a b) where
-  -- the cell cellBeside a cell is its neighbour
+  -- the cell beside a cell is its neighbour
   left-next : {c : Cell} → OnPanel p c → Neighbours c (leftOf a b c)
   unfolding apart
   left-next {c} o =
@@ -41,7 +41,7 @@ module _ {p : Panel} {a b : Cell} (n : Neighbours a b) where
       let down = moved-far (c .y) (b .x) (a .x) (o .top) (near n .1) in
       record { one = omega (arith, across, down, n .one, dist-sym (b .x) (a .x)) }
 
-  -- those cellBeside a and b are neighbours
+  -- those beside a and b are neighbours
   left-along : OnPanel p a → OnPanel p b → Neighbours (leftOf a b a) (leftOf a b b)
   unfolding apart
   left-along o q =
@@ -64,6 +64,7 @@ reversed w = record { out = beside-sym (w .back); along = beside-sym (w .along);
 around-left : {p : Panel} {a b : Cell} → Neighbours a b → OnPanel p a → OnPanel p b → AroundStep a (leftOf a b a) (leftOf a b b) b
 around-left n o q = record { out = left-next n o; along = left-along n o q; back = beside-sym (left-next n q) }
 
-pub around-step : {p : Panel} {a b : Cell} (left : Bool) → Neighbours a b → OnPanel p a → OnPanel p b → AroundStep a (cellBeside left a b a) (cellBeside left a b b) b
+pub around-step : {p : Panel} {a b : Cell} (left : Bool) → Neighbours a b → OnPanel p a → OnPanel p b
+    → AroundStep a (cellBeside left a b a) (cellBeside left a b b) b
 around-step true n o q = around-left n o q
 around-step false n o q = reversed (around-left (beside-sym n) q o)

@@ -1,4 +1,4 @@
--- Document 02, R-12: the two cells cellBeside a step, and an edit, which puts such a detour into a list of cells or takes it out. Places count from 1.
+-- Document 02, R-12: the two cells beside a step, and an edit, which puts such a detour into a list of cells or takes it out. Places count from 1.
 use Prim.Native.Nat.{ℕ, _+_, _-_, _*_}
 use mathlib.Core.Bool.{Bool, true, false, not, cond, _&&_}
 use mathlib.Core.List.{List, [], _∷_, _++_}
@@ -11,11 +11,11 @@ use Rattle.grid.specs.Bytes.{bytes}
 use Rattle.list.specs.List.{nth, among}
 use Rattle.detour.specs.declared.Edit.{Edit}
 
--- the cell cellBeside c, left of the way from a to b. y grows downward: going right, left of the way is up
+-- the cell beside c, left of the way from a to b. y grows downward: going right, left of the way is up
 abbrev pub leftOf : Cell → Cell → Cell → Cell
 leftOf a b c = cell (c .x + b .y - a .y) (c .y + a .x - b .x)
 
--- the cell cellBeside c, left or right of the way from a to b: right of the way there is left of the way back
+-- the cell beside c, left or right of the way from a to b: right of the way there is left of the way back
 abbrev pub cellBeside : Bool → Cell → Cell → Cell → Cell
 cellBeside left a b c = cond left (leftOf a b c) (leftOf b a c)
 
@@ -23,7 +23,7 @@ cellBeside left a b c = cond left (leftOf a b c) (leftOf b a c)
 abbrev pub cellNo : List Cell → ℕ → Cell
 cellNo l k = nth l (k - 1)
 
--- the detour of the step from a to b: the cells cellBeside them
+-- the detour of the step from a to b: the cells beside them
 abbrev pub detour : Bool → Cell → Cell → List Cell
 detour left a b = cellBeside left a b a ∷ cellBeside left a b b ∷ []
 

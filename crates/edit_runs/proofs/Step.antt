@@ -158,7 +158,7 @@ module _ (p : Panel) (a z : Cell) (room : ℕ) where
         let track = kept-track p a z e l (is-track (listOf s (d .buffer)) was-judged) can in
         ap (λ (b : List ℕ). judgeCheck p a z b room) next-list ∙ track-judged (listOf s (d .buffer)) was-judged track
 
-  -- ---- a list that Judge accepts is list-held by the buffer, and the session counts it
+  -- ---- a list that Judge accepts is held by the buffer, and the session counts it
 
   module _ (d : Desk) (judged : Judged p a z room d) where
     cells : length (drawing d) ≡ listCells (d .session) (length (d .buffer))

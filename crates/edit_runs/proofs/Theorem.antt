@@ -29,7 +29,8 @@ use Rattle.session.specs.declared.Command.the-variants.{Bulge, Press, TakeBack}
 use Rattle.session.specs.Session.{keptEdits, noEdit, newSession, listOf, newest, onRecord, changed}
 use Rattle.session.specs.Edits.{editOf, editCheck, sessionAfter, bufferAfter, Edits}
 use Rattle.edit_runs.specs.Run.{Desk, drawing, recordedEdits, Whole, isEdit, Judged, Accepted, deskCheck, deskAfter, Run, EditRun, BackRun}
-use Rattle.edit_runs.proofs.Step.{is-track, was-judged, was-few, can, next-session, next-length, next-drawing, next-judged, is-held, is-counted}
+use Rattle.edit_runs.proofs.Step.{is-track, was-judged, was-few, can, next-session, next-length, next-drawing, next-judged}
+use Rattle.edit_runs.proofs.Step.{is-held, is-counted}
 use Rattle.edit_runs.proofs.Records.{newestOf, recorded-first, recorded-more, recorded-whole, off-full, off-open}
 
 -- an edit is recorded
@@ -69,7 +70,8 @@ module _ (p : Panel) (a z : Cell) (room : ℕ) where
       )
 
   -- what holds after an accepted command, and where nothing changes, holds after any
-  by-command : (P : Desk → Type 0) (c : Command) (d : Desk) → (Accepted p a z room c d → P (deskAfter p a z room c d)) → P d → P (deskAfter p a z room c d)
+  by-command : (P : Desk → Type 0) (c : Command) (d : Desk) → (Accepted p a z room c d → P (deskAfter p a z room c d)) → P d
+      → P (deskAfter p a z room c d)
   by-command P c d made same = by (deskCheck p a z room c d) refl
     where
       by : (k : Check) → deskCheck p a z room c d ≡ k → P (deskAfter p a z room c d)

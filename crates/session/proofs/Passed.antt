@@ -11,7 +11,7 @@
 --     tokens               the tokens of the slices' lifetimes
 --     sessionVal, answerVal, pairVal       the machine value of a session, of an answer, and of a struct of two
 --     session-typed, answer-typed, edited-typed        what it takes to store one in a local
---     taken-apart, together      what is known of the machine value of an `Edited` is taken taken-apart into what is known of its session's and of its
+--     taken-apart, together      what is known of the machine value of an `Edited` is taken apart into what is known of its session's and of its
 --                          answer's, and put together from the two
 --     whole-of, field-of   of a walk: an operand that is a local, and one that is a field of a local
 --     start-of, pair-of    a right side that is the address of what the pointer in a local's field points to, and one that is a struct of two

@@ -82,7 +82,7 @@ beside-requires c κs = search needs
 beside-requires-2 : tie.Need-beside-requires-2
 beside-requires-2 c κs = search needs
 
--- the cells of the detour are those cellBeside the step
+-- the cells of the detour are those beside the step
 abbrev ends : tie.After-beside2 → tie.After-cell-no2
 ends c = c .before .before .before .before .before .before .before
 

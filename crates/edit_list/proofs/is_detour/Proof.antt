@@ -66,7 +66,8 @@ ends c = c .adjacent .ensures ∙ (λ i. neighbours (a-is (c .before) i) (b-is (
 first : (c : tie.After-same-cell) →
     let s = begin (c .before .before .before .before .before) .args in
     let l = cellsIn (s .list .now) in
-    c .same-cell .result ≡ sameCell (cellNo l (s .place + 1)) (cellBeside (s .left) (cellNo l (s .place)) (cellNo l (s .place + 3)) (cellNo l (s .place)))
+    c .same-cell .result
+    ≡ sameCell (cellNo l (s .place + 1)) (cellBeside (s .left) (cellNo l (s .place)) (cellNo l (s .place + 3)) (cellNo l (s .place)))
 first c =
     let m = c .before .before .before .before .before in
     let s = begin m .args in

@@ -1,7 +1,7 @@
 -- `session::edit_drawing` meets its contract: a walk of its MIR, by hand, since the borrow checker covers no reference to a struct.
 -- The borrow of the session is opened, and stays open over the call. The session is copied out of its cell whole and passed by value to
 -- `edit_value`, of which the proof knows only that it meets its contract. The session that comes back is stored whole in the same cell, the
--- borrow is closed at it, and the answer is returned. No field of a session is looked at, and the promise is never taken taken-apart.
+-- borrow is closed at it, and the answer is returned. No field of a session is looked at, and the promise is never taken apart.
 -- The MIR borrows each slice again for the call. The walk passes the slice on for good, at its own lifetime, share and name: what
 -- `edit_value` says of its last list is then what this function has to say of it.
 -- Assumes nothing.

@@ -2,7 +2,7 @@
 -- The session is copied into a local of its own. A lifetime is made for the call, and for that lifetime the local's cell is lent to
 -- `edit_drawing`, of which the proof knows only that it meets its contract. Once the call has returned the lifetime ends, and the cell comes
 -- back, with the session that the callee says to be the last one. That session and the answer are put together and returned. No field of a
--- session is looked at, and the promise is never taken taken-apart.
+-- session is looked at, and the promise is never taken apart.
 -- The slices are passed on for good, as in the walk of `edit_drawing`.
 -- Assumes nothing.
 use mathlib.Core.Path.{refl}
