@@ -31,7 +31,7 @@ extern "C" {
 
 /* Why a call refuses. The first that holds, in the order given at each call, is the one. Two are withdrawn and
  * stay free: 4 was for equal terminals, which are accepted now, and 10 for a list with more cells than the
- * panel, which could not come: such a list meets 7, 8 or 9 before. 12 to 17, 20 and 21 are given by calls that C
+ * panel, which could not come: such a list meets 7, 8 or 9 before. 12 to 17 and 20 to 23 are given by calls that C
  * does not have. */
 enum foil_refusal {
     FOIL_OK = 0,                /* nothing is refused */

@@ -19,7 +19,7 @@ pub struct Order {
 }
 
 /// Why a call refuses, with document 01's number, or a later request's. R-6 withdrew 4 and R-9 10, which stay
-/// free; 12 to 17, 20 and 21 are of calls that the archive does not have.
+/// free; 12 to 17 and 20 to 23 are of calls that the archive does not have.
 #[derive(Clone, Copy, Debug, PartialEq, Eq)]
 #[repr(u32)]
 pub enum Refusal {

@@ -56,6 +56,8 @@ pub enum Refusal {
     BenchSide,
     ProbeBytes,
     TickBack,
+    NoSuchEdit,
+    NothingRecorded,
 }
 
 // What a test of the input finds.
@@ -128,6 +130,8 @@ pub fn number_of(r: Refusal) -> u32
         Refusal::BenchSide => 19,
         Refusal::ProbeBytes => 20,
         Refusal::TickBack => 21,
+        Refusal::NoSuchEdit => 22,
+        Refusal::NothingRecorded => 23,
     }
 }
 

@@ -80,7 +80,7 @@ pub fn squared_distance(a: Cell, b: Cell) -> u32
 }
 
 // Whether two cells are neighbours: by the square, since no branch then goes by the direction.
-fn adjacent(a: Cell, b: Cell) -> bool
+pub fn adjacent(a: Cell, b: Cell) -> bool
     requires { ⌜ InBytes a × InBytes b ⌝ }
     ensures { λ r. ⌜ r ≡ neighbours a b ⌝ }
 {

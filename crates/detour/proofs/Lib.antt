@@ -1,0 +1,10 @@
+pub mod Examples
+pub mod Cut
+pub mod Square
+pub mod Facts
+pub mod Lists
+pub mod Tidy
+pub mod Kept
+pub mod Undone
+pub mod Sides
+pub mod Found

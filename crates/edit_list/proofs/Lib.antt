@@ -1,0 +1,4 @@
+pub mod Slides
+pub mod Cuts
+pub mod Zeros
+pub mod Made

@@ -1,0 +1,2 @@
+pub mod Session
+pub mod Edits
