@@ -1,5 +1,7 @@
 // The book of an etch bath: which customer holds how many trays, and may hold how many. Its meaning and the theorems
 // about it are in specs/ and proofs/; there is no code.
+#![tactic(auto)]
+
 use grid::Check;
 
 // How many customers a book has places for.
@@ -7,14 +9,14 @@ pub const PLACES: usize = 8;
 
 // The terms of a customer: the trays that are kept for it, and the most that it may hold (a reservation and a
 // quota).
-#[derive(Drop)]
+#[derive(Clone, Copy)]
 pub struct Terms {
     pub guarantee: u32,
     pub cap: u32,
 }
 
 // What a customer is promised and has: its terms, and the trays that it holds.
-#[derive(Drop)]
+#[derive(Clone, Copy)]
 pub struct Share {
     pub guarantee: u32,
     pub cap: u32,
@@ -23,7 +25,7 @@ pub struct Share {
 
 // The book of a bath (an allocation table): its trays, the number of customers, and their shares in front; places
 // without a customer are 0.
-#[derive(Drop)]
+#[derive(Clone, Copy)]
 pub struct Book {
     pub trays: u32,
     pub customers: u32,
@@ -31,7 +33,7 @@ pub struct Book {
 }
 
 // What a call answers, with the book that it hands back.
-#[derive(Drop)]
+#[derive(Clone, Copy)]
 pub struct Booked {
     pub answer: Check,
     pub book: Book,

@@ -1,5 +1,7 @@
 // The calls of the bench cutter, whose bed takes 32 cells a side: Bound, Draw and Judge for the panels
 // that it takes. Each is the call for large panels behind a check of its own.
+#![tactic(auto)]
+
 ghost use Rattle.std.specs.Prelude.{◌≡◌};
 ghost use Rattle.bench.specs.Bench.{fits_bench, check_bench, BenchBounds, BenchDraws, bench_buffer, BenchJudges};
 

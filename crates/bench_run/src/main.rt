@@ -4,6 +4,8 @@
 // and pitch are otherwise good, the bench must say 19 and leave every byte; else both answers and all bytes
 // must be equal. A line gives, for a call, how often both gave and both refused alike, how often the bench
 // said 19 as it must, and how often it did otherwise.
+#![tactic(auto)]
+
 use bound::bound_values;
 use check::same;
 use grid::{Cell, CellsAnswer, Panel, area_of, cells_values, panel_of};
@@ -29,7 +31,7 @@ const SIDES: [u32; 8] = [1, 2, 3, 31, 32, 33, 128, 129];
 
 const PITCHES: [u32; 8] = [1000, 4000, 10000, 2000, 4000, 6000, 999, 10001];
 
-#[derive(Drop)]
+#[derive(Clone, Copy)]
 struct Tally {
     given: u32,
     refused: u32,
@@ -37,7 +39,7 @@ struct Tally {
     different: u32,
 }
 
-#[derive(Drop)]
+#[derive(Clone, Copy)]
 struct Totals {
     bound: Tally,
     draw: Tally,
@@ -45,7 +47,7 @@ struct Totals {
 }
 
 // The calls that are lent bytes.
-#[derive(Drop)]
+#[derive(Clone, Copy)]
 enum Call {
     Draw,
     BenchDraw,
@@ -54,7 +56,7 @@ enum Call {
 }
 
 // What a call answered.
-#[derive(Drop)]
+#[derive(Clone, Copy)]
 struct Seen {
     refusal: u32,
     class: u32,
@@ -63,7 +65,7 @@ struct Seen {
 
 // How many bytes Draw is lent, how many of them Judge then gets for its list, which of these is changed
 // between (one behind the list: none), and how many bytes of scratch Judge is lent.
-#[derive(Drop)]
+#[derive(Clone, Copy)]
 struct Sizes {
     buffer: usize,
     list: usize,

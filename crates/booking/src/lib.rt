@@ -1,4 +1,6 @@
 // Shares of the etch bath: set-up, booking and return. A book goes in by value and comes back with the answer.
+#![tactic(auto)]
+
 use bath::{Book, Booked, PLACES, Share, Terms};
 use grid::{Check, Refusal};
 
@@ -14,7 +16,7 @@ const NO_SHARE: Share = Share {
 
 // The trays of a bath that are neither held nor kept for a guarantee; or there is no such number, since the book
 // is none that a run leaves.
-#[derive(Drop)]
+#[derive(Clone, Copy)]
 pub enum Spare {
     Trays(u32),
     NoBook,

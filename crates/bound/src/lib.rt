@@ -1,4 +1,6 @@
 // The call Bound: the class and the count of an order.
+#![tactic(auto)]
+
 ghost use Rattle.std.specs.Prelude.{◌≡◌};
 ghost use Rattle.bound.specs.Bound.{bound_values, Bounds};
 
@@ -7,14 +9,14 @@ use count::ClassCount;
 use grid::{Cell, Cells, Check, Panel, Refusal};
 
 // What Bound answers.
-#[derive(Drop)]
+#[derive(Clone, Copy)]
 pub enum BoundAnswer {
     Refused(Refusal),
     Given(ClassCount),
 }
 
 // The number of the refusal, 0 where nothing is refused, and class and count, 0 where refused.
-#[derive(Drop)]
+#[derive(Clone, Copy)]
 pub struct BoundValues {
     pub refusal: u32,
     pub class: u32,

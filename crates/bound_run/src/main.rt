@@ -1,6 +1,8 @@
 // Answers Bound for a list of orders: the table of document 01, then both leads on one cell, orders that
 // are refused and numbers at the ends of their range. A line gives the order (sides, entry, exit and pitch, as `foil`
 // reads them) and, behind the colon, the refusal's number (0: none), the class and the count.
+#![tactic(auto)]
+
 use grid::Cell;
 use trial::PITCH;
 use trial::print::row;

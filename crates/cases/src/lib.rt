@@ -1,5 +1,7 @@
 // The cases of document 01's "Class and count", each by itself: F1, F2* and F3 are equated with the tests
 // of those names in the crate `count`; C2 without F3, C0 and C1 are one sum of colours.
+#![tactic(auto)]
+
 ghost use Rattle.std.specs.Prelude.{◌≡◌, cond, not, ◌&&◌, ◌≤◌, ◌+◌, ◌-◌, ◌%◌};
 ghost use Rattle.grid.specs.Panel.{max_side, black};
 ghost use Rattle.count.specs.Count.{odd, is_end, f1, f2, f2_count, f3_apart, f3};

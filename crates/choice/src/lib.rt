@@ -1,5 +1,7 @@
 // Which plan a longest track is drawn by: each function gives what the definition of its name in the
 // crate plan (specs/Plan.antt) does.
+#![tactic(auto)]
+
 ghost use Rattle.std.specs.Prelude.{◌≡◌, cond, ◌≤◌, ◌+◌, ◌-◌, eqb};
 ghost use Rattle.grid.specs.Panel.{turned_cell};
 ghost use Rattle.plan.specs.declared.Plan.TheVariants.{One};

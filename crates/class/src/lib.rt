@@ -1,5 +1,7 @@
 // Class and count of two different terminals: the panel turned, the terminals named, the first line that
 // fits; and of an order, whose terminals may be equal.
+#![tactic(auto)]
+
 ghost use Rattle.std.specs.Prelude.{◌≡◌, ◌≤◌, min};
 ghost use Rattle.grid.specs.Panel.{GoodSides, OnPanel};
 ghost use Rattle.count.specs.Count.{decided, named, class_count};

@@ -3,6 +3,8 @@
 // colon, the number of such orders and how many white and how many black cells their tracks leave in all. The
 // last line says how many orders left other cells than document 02 promises, or were not drawn as a track of
 // Bound's count. Of spot heaters (class 6) nothing is promised.
+#![tactic(auto)]
+
 use bound::bound_values;
 use grid::{Cell, Panel, cells_values, panel_of};
 use std::num::wrapping_add_u32 as add;
@@ -12,14 +14,14 @@ use trial::plain::position_of;
 use trial::print::{named, text};
 
 // How many cells of each colour are left uncovered.
-#[derive(Drop)]
+#[derive(Clone, Copy)]
 struct Left {
     white: u32,
     black: u32,
 }
 
 // For each line the orders, and the cells left; and the wrong orders.
-#[derive(Drop)]
+#[derive(Clone, Copy)]
 struct Totals {
     orders: [u32; 16],
     white: [u32; 16],

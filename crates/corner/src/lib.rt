@@ -1,5 +1,7 @@
 // Corner tracks: from a corner of a rectangle to any cell of it, forwards and backwards, written
 // line by line into a lent buffer. Lines that go the same way are drawn in one loop.
+#![tactic(auto)]
+
 ghost use Rattle.std.specs.Prelude.{◌≡◌, false, ◌≤◌, reverse};
 ghost use Rattle.grid.specs.Panel.{dist};
 ghost use Rattle.line.specs.Rectangle.{ahead, turning};
@@ -40,7 +42,7 @@ fn one_line(a: Cell, b: Cell, t: Cell) -> bool
 }
 
 // A rectangle of w columns and h rows, and a target dx columns and dy rows from its corner.
-#[derive(Drop)]
+#[derive(Clone, Copy)]
 struct Sizes {
     w: u32,
     h: u32,
@@ -84,7 +86,7 @@ pub fn corner_count(a: Cell, b: Cell, t: Cell) -> Cells
 
 // A track's first lines taken off: rows or columns of the rectangle of the corner and `far`, `cells` cells,
 // which end in `end`; backwards those of the rectangle of `end` and `home`; and the rectangle that remains.
-#[derive(Drop)]
+#[derive(Clone, Copy)]
 struct Peeled {
     row: bool,
     far: Cell,
@@ -139,7 +141,7 @@ fn first_lines(row: bool, a: Cell, b: Cell, k: u32) -> Peeled
 }
 
 // The lines that go first, of w columns and h rows: rows, or else columns, and how many.
-#[derive(Drop)]
+#[derive(Clone, Copy)]
 struct Lines {
     row: bool,
     count: u32,

@@ -1,6 +1,8 @@
 // Draws the corner track of every rectangle up to 7 by 7, from every corner to every cell, forwards and
 // backwards, looks at the cells by a check that knows nothing of how they were drawn, and prints how many
 // tracks and cells there were and how many tracks were wrong. The rectangles begin at column 2 and row 3.
+#![tactic(auto)]
+
 ghost use Rattle.std.specs.Prelude.{◌≤◌};
 ghost use Rattle.corner.specs.Corner.{Inside};
 ghost use Rattle.corner.specs.Drawn.{InBytes};
@@ -10,7 +12,7 @@ use trial::PITCH;
 use trial::cells::{Order, filled, is_track};
 use trial::print::{named, text};
 
-#[derive(Drop)]
+#[derive(Clone, Copy)]
 struct Tally {
     tracks: u32,
     cells: u32,

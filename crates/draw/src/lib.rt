@@ -1,5 +1,7 @@
 // Draw: a longest track between two cells, which is the cell itself where they are equal, else from the
 // table of the 3 by 3 panel or as a plan of corner tracks.
+#![tactic(auto)]
+
 ghost use Rattle.std.specs.Prelude.{◌≡◌, ℕ};
 ghost use Rattle.grid.specs.Panel.{panel};
 ghost use Rattle.list.specs.List.{with_cells};

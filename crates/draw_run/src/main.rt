@@ -5,6 +5,8 @@
 // of these gives the order (sides, entry, exit and pitch) and the buffer's size and, behind the colon,
 // the refusal's number (0: none), the count and what all bytes of the buffer say: `a track`, the cells
 // are one and the bytes behind are as before; `untouched`, all bytes are as before; else `FAULT`.
+#![tactic(auto)]
+
 use bound::bound_values;
 use grid::{Cell, cells_values, panel_of};
 use trial::PITCH;
@@ -17,7 +19,7 @@ const FILL: u8 = 170;
 // The largest number of 32 bits.
 const MAX: u32 = 4294967295;
 
-#[derive(Drop)]
+#[derive(Clone, Copy)]
 struct Totals {
     orders: u32,
     drawn: u32,

@@ -1,5 +1,7 @@
 // Edits of a drawing: a step of a track becomes a detour over the two cells beside it, or such a detour a step
 // again. The tests of an edit, and the edit itself in the buffer that holds the track.
+#![tactic(auto)]
+
 ghost use Rattle.std.specs.Prelude.{◌≡◌, true, [], ◌∷◌, ◌++◌, ◌+◌, ◌-◌, ◌*◌, ◌≤◌, length, take, drop, replicate};
 ghost use Rattle.std.proofs.Math.Seq.{paste};
 ghost use Rattle.grid.specs.Panel.{max_side};

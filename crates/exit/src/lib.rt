@@ -1,5 +1,7 @@
 // Exit: the first cell, rows from the top and each from the left, to which some track from the entry has
 // at least a wanted number of cells.
+#![tactic(auto)]
+
 ghost use Rattle.std.specs.Prelude.{◌≡◌, ◌≤◌};
 ghost use Rattle.grid.specs.Panel.{OnPanel, GoodSides};
 ghost use Rattle.grid.specs.Reading.{row, reading};
@@ -10,14 +12,14 @@ use cases::is_black;
 use grid::{Cell, Cells, Check, Panel, Refusal, area_of};
 
 // What Exit answers.
-#[derive(Drop)]
+#[derive(Clone, Copy)]
 pub enum ExitAnswer {
     Refused(Refusal),
     Given(Cell),
 }
 
 // What a search finds.
-#[derive(Drop)]
+#[derive(Clone, Copy)]
 pub enum Search {
     At(Cell),
     Nothing,

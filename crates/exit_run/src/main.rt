@@ -1,5 +1,7 @@
 // Answers Exit for a list of panels, entries and wanted counts. A line gives the sides, the entry, the
 // wanted count and the pitch and, behind the colon, the refusal's number (0: none) and the cell.
+#![tactic(auto)]
+
 use exit::ExitAnswer;
 use grid::{Cell, Cells};
 use trial::PITCH;

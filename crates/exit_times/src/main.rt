@@ -3,6 +3,8 @@
 // (0 white, 1 black) and, behind the colon, for how many of the entries the scan found a cell, for how
 // many none, and how many of Exit's answers were others. Standard error has, in the same order, the processor's time of a call of
 // Exit and of a scan, in tenths of a nanosecond, the shortest of some turns, each with the turn's sum.
+#![tactic(auto)]
+
 use bound::bound_values;
 use exit::ExitAnswer;
 use grid::{Cell, Cells, Panel, area_of, panel_of};
@@ -19,7 +21,7 @@ use trial::times::{
 const ENTRIES: u32 = 64;
 
 // What is asked of every entry of a colour.
-#[derive(Drop)]
+#[derive(Clone, Copy)]
 struct Case {
     panel: Panel,
     wanted: Cells,

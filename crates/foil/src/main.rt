@@ -1,4 +1,6 @@
 // Reads one order from standard input and writes the answer to standard output.
+#![tactic(auto)]
+
 use libc::STDOUT_FILENO;
 use line_input::read_line;
 

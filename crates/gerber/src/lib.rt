@@ -1,5 +1,7 @@
 // What the writer and the reader of a Gerber layer share: its head, the place of a cell's centre, and
 // whether three cells lie in one direction.
+#![tactic(auto)]
+
 ghost use Rattle.std.specs.Prelude.{◌≡◌, ◌*◌, ◌≤◌};
 ghost use Rattle.grid.specs.Panel.{GoodPanel, OnPanel};
 ghost use Rattle.gerber.specs.Layer.{plot_x, plot_y, head_of, straight};

@@ -1,4 +1,6 @@
 // Reads a Gerber layer back as its list of cells.
+#![tactic(auto)]
+
 ghost use Rattle.std.specs.Prelude.{◌≡◌, ◌*◌, ◌≤◌, length, drop};
 ghost use Rattle.grid.specs.Panel.{GoodPanel, OnPanel};
 ghost use Rattle.grid.specs.Bytes.{bytes};

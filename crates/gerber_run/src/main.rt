@@ -10,6 +10,8 @@
 // the cells, a checksum of what was put, and `kept` if every other byte that was lent is as promised, else
 // `FAULT`. Of each kind of change two numbers: the files that are layers, and make the same layer again, and
 // those that are taken for anything but a layer or none.
+#![tactic(auto)]
+
 ghost use Rattle.std.specs.Prelude.{◌<◌, ◌≤◌, length};
 
 use bytes::scan::find;
@@ -54,7 +56,7 @@ const NOT_MADE: u32 = 999;
 const OTHER: u32 = 1000000;
 
 // The number of the refusal and the bytes or the cells.
-#[derive(Drop)]
+#[derive(Clone, Copy)]
 struct Answer {
     refusal: u32,
     count: u32,

@@ -1,4 +1,6 @@
 // A Gerber layer read back, cell by cell.
+#![tactic(auto)]
+
 ghost use Rattle.std.specs.Prelude.{◌≡◌, ◌*◌, ◌-◌, ◌≤◌, drop};
 ghost use Rattle.grid.specs.Panel.{GoodPanel, OnPanel, max_side};
 ghost use Rattle.gerber.specs.Layer.{draw};
@@ -9,7 +11,7 @@ use grid::{Cell, Panel, on_panel, same_cell};
 use text::{Number, bytes_from, read_field, text_at};
 
 // Where a line leads: to a cell, and the place behind the line; or another form.
-#[derive(Drop)]
+#[derive(Clone, Copy)]
 pub enum Target {
     Other,
     At(Cell, usize),
@@ -17,7 +19,7 @@ pub enum Target {
 
 // The way through a layer: the cell come from, the cell reached, the cell that the last line goes to,
 // and the place behind that line.
-#[derive(Drop)]
+#[derive(Clone, Copy)]
 pub struct Trace {
     pub before: Cell,
     pub at: Cell,
@@ -26,7 +28,7 @@ pub struct Trace {
 }
 
 // What is next: another form, the end of the layer, or one cell further.
-#[derive(Drop)]
+#[derive(Clone, Copy)]
 pub enum Advance {
     Other,
     End,

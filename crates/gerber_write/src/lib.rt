@@ -1,4 +1,6 @@
 // Writes a list of cells as a Gerber layer.
+#![tactic(auto)]
+
 ghost use Rattle.std.specs.Prelude.{◌≡◌, [], ◌≤◌, ◌<◌, ◌+◌, length, drop};
 ghost use Rattle.grid.specs.Panel.{GoodPanel, OnPanel};
 ghost use Rattle.grid.specs.Bytes.{cells_in};

@@ -35,6 +35,7 @@ module _ {A B : Cell → Type 0} {f : Cell → Cell} (m : Move A B f) where
   walk_moved (All.more p a) (Walk.step {b = b} n w) = Walk.step (m.keeps _ b p (first a w) n) (walk_moved a w)
     where
       first : {u v : Cell} {k : List Cell} → All A k → Walk u v k → A u
+      first All.none w = elim w [ ]
       first (All.more q r) Walk.end = q
       first (All.more q r) (Walk.step x y) = q
 

@@ -1,6 +1,5 @@
 -- The numbers of the refusals: 1 to 17 are document 01's, 18 is R-1's, 19 R-7's, which only the bench's calls give, 20 R-8's, which only Probe
--- gives, 21 R-11's, which only Compare gives, 22 and 23 R-12's, which only the call that edits gives, and 24 to 26 R-13's, which only the calls of
--- the etch bath give. R-6 withdrew 4, R-9 withdrew 10.
+-- gives, 21 R-11's, which only Compare gives, and 22 and 23 R-12's, which only the call that edits gives. R-6 withdrew 4, R-9 withdrew 10.
 use Rattle.std.specs.Prelude.{ℕ}
 use Rattle.grid.specs.declared.Refusal.{Refusal}
 use Rattle.grid.specs.declared.Refusal.TheVariants as refusal
@@ -28,6 +27,3 @@ number refusal.ProbeBytes = 20
 number refusal.TickBack = 21
 number refusal.NoSuchEdit = 22
 number refusal.NothingRecorded = 23
-number refusal.BathSetUp = 24
-number refusal.BookOrCustomer = 25
-number refusal.NoTray = 26

@@ -1,5 +1,7 @@
 // Cells, panels, counts and refusals: what every call takes and answers with, and the tests that
 // the calls share.
+#![tactic(auto)]
+
 ghost use Rattle.std.specs.Prelude.{◌≡◌, ◌≤◌, ◌+◌};
 ghost use Rattle.grid.specs.Panel.{between, panel, good_sides, good_pitch, area, on_panel, same_cell, dist, turned, turned_cell};
 ghost use Rattle.grid.specs.Refusal.{number};
@@ -16,7 +18,7 @@ const MAX_PITCH: u32 = 10000;
 
 // A panel of `width` columns (m) and `height` rows (n); the centres of neighbouring cells are `pitch`
 // micrometres apart.
-#[derive(Drop)]
+#[derive(Clone, Copy)]
 pub struct Panel {
     pub width: u32,
     pub height: u32,
@@ -24,22 +26,22 @@ pub struct Panel {
 }
 
 // A cell: column x from the left and row y from the top, both from 1.
-#[derive(Drop)]
+#[derive(Clone, Copy)]
 pub struct Cell {
     pub x: u32,
     pub y: u32,
 }
 
 // A number of cells, as document 000 measures a track.
-#[derive(Drop)]
+#[derive(Clone, Copy)]
 pub struct Cells(pub u32);
 
 // A number of steps, as document 001 measures a track: one fewer.
-#[derive(Drop)]
+#[derive(Clone, Copy)]
 pub struct Steps(pub u32);
 
 // Why a call refuses; `number` gives its number, which is document 01's or a request's.
-#[derive(Drop)]
+#[derive(Clone, Copy)]
 pub enum Refusal {
     Side,
     EntryOff,
@@ -62,34 +64,31 @@ pub enum Refusal {
     TickBack,
     NoSuchEdit,
     NothingRecorded,
-    BathSetUp,
-    BookOrCustomer,
-    NoTray,
 }
 
 // What a test of the input finds.
-#[derive(Drop)]
+#[derive(Clone, Copy)]
 pub enum Check {
     Good,
     Refused(Refusal),
 }
 
 // What a call answers that gives a number of cells: why it refuses, or how many.
-#[derive(Drop)]
+#[derive(Clone, Copy)]
 pub enum CellsAnswer {
     Refused(Refusal),
     Given(Cells),
 }
 
 // The number of the refusal, 0 where nothing is refused, and the cells, 0 where refused.
-#[derive(Drop)]
+#[derive(Clone, Copy)]
 pub struct CellsValues {
     pub refusal: u32,
     pub cells: Cells,
 }
 
 // What a call answers that gives a number of bytes: why it refuses, or how many.
-#[derive(Drop)]
+#[derive(Clone, Copy)]
 pub enum BytesAnswer {
     Refused(Refusal),
     Given(u32),
@@ -143,9 +142,6 @@ pub fn number_of(r: Refusal) -> u32
         Refusal::TickBack => 21,
         Refusal::NoSuchEdit => 22,
         Refusal::NothingRecorded => 23,
-        Refusal::BathSetUp => 24,
-        Refusal::BookOrCustomer => 25,
-        Refusal::NoTray => 26,
     }
 }
 
@@ -180,6 +176,7 @@ pub fn turn_cell(c: Cell) -> Cell
 }
 
 // How far two numbers are apart.
+#[tactic(auto, unfolding(crate::specs::Panel::dist))]
 pub fn distance(a: u32, b: u32) -> u32
     ensures { result ≡ dist a b }
 {

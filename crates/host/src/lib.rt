@@ -1,5 +1,7 @@
 // The calls of the order desk's C host: each takes numbers and byte slices, and gives refusal, class
 // and count packed in one number. host/foil.h declares them.
+#![tactic(auto)]
+
 ghost use Rattle.std.specs.Prelude.{◌≡◌, ◌<◌, ◌^◌};
 ghost use Rattle.grid.specs.Panel.{panel, cell};
 ghost use Rattle.grid.specs.Answer.{cells_values};
@@ -16,7 +18,7 @@ const REFUSAL_UNIT: u64 = 4294967296;
 const CLASS_UNIT: u64 = 16777216;
 
 // An order's seven numbers.
-#[derive(Drop)]
+#[derive(Clone, Copy)]
 struct Order {
     panel: Panel,
     entry: Cell,

@@ -1,5 +1,7 @@
 // Judge: whether a list of cells is a track from entry to exit. It walks the list once: after each
 // cell the kept numbers and the marks in lent scratch decide the answer for the list up to there.
+#![tactic(auto)]
+
 ghost use Rattle.std.specs.Prelude.{◌≡◌, true, ◌&&◌, ◌≤◌, length};
 ghost use Rattle.grid.specs.Panel.{cell, same_cell, good_sides, area};
 ghost use Rattle.grid.specs.Bytes.{cells_in};

@@ -1,6 +1,8 @@
 // Runs Judge on lists with each fault, with several at once in both orders, longer than the panel, and on
 // the largest panel. Each line gives the refusal (0 where accepted), the count, and how many bytes of scratch,
 // filled with 255 before, are 0 and 255 after.
+#![tactic(auto)]
+
 use grid::{Cell, Panel, panel_of};
 use trial::PITCH;
 use trial::cells::{count, fill, put, snake};

@@ -1,5 +1,7 @@
 // What Judge keeps of the cells that it has passed, and how it takes the next one. Nothing looks back
 // into the list: the kept numbers and the marks in scratch say all that Judge's answer goes by.
+#![tactic(auto)]
+
 ghost use Rattle.std.specs.Prelude.{◌+◌, ◌<◌, ◌^◌, ◌≡◌, true};
 ghost use Rattle.grid.specs.Panel.{good_sides};
 ghost use Rattle.judge_walk.specs.Walk.{Noted, StandsForSome, Takes, Begins};
@@ -9,7 +11,7 @@ use list::squared_distance;
 use scratch::place_of;
 
 // The kept numbers of a list of cells.
-#[derive(Drop)]
+#[derive(Clone, Copy)]
 pub struct Kept {
     // Not 0 where some cell is off the panel.
     pub off: u8,

@@ -1,5 +1,7 @@
 // Legs drawn at the front of a lent buffer, one after the other: each next drawing gets the part of
 // the same buffer from twice the cells so far onward.
+#![tactic(auto)]
+
 ghost use Rattle.std.specs.Prelude.{◌≤◌, take, [], ◌∷◌};
 ghost use Rattle.plan.specs.Drawing.{Room, Written};
 

@@ -1,5 +1,7 @@
 // Lines of cells, written into a lent buffer: one line, lines there and back, and all rows or all columns
 // of a rectangle.
+#![tactic(auto)]
+
 ghost use Rattle.std.specs.Prelude.{◌≡◌, ◌+◌, ◌-◌, ◌*◌, ◌%◌, ◌≤◌, length};
 ghost use Rattle.grid.specs.Panel.{dist};
 ghost use Rattle.line.specs.Rectangle.{cells_between};

@@ -1,4 +1,6 @@
 // Reads one line from standard input into a lent buffer, for the programs that take one order.
+#![tactic(auto)]
+
 ghost use Rattle.std.specs.Prelude.{◌+◌, ◌≤◌, length};
 
 use libc::STDIN_FILENO;

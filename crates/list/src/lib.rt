@@ -1,5 +1,7 @@
 // Lists of cells, x and y for each: the cell at a place, how far two cells are apart, and what Write tests
 // before its buffer.
+#![tactic(auto)]
+
 ghost use Rattle.std.specs.Prelude.{◌≡◌, ◌+◌, ◌*◌, ◌<◌, ◌≤◌, length, get_or, set};
 ghost use Rattle.grid.specs.Panel.{max_side, dist, neighbours};
 ghost use Rattle.grid.specs.Bytes.{InBytes, cells_in};

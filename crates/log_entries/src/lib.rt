@@ -1,5 +1,7 @@
 // A log of a laser-cut foil: its entries, six bytes each, and what is tested of it. The test that no cell
 // stands twice leaves a mark at the place of each cell in scratch.
+#![tactic(auto)]
+
 ghost use Rattle.std.specs.Prelude.{◌≡◌, true, ◌+◌, ◌<◌, ◌≤◌, length, drop};
 ghost use Rattle.grid.specs.declared.Check.TheVariants as check;
 ghost use Rattle.grid.specs.Panel.{good_sides, area};

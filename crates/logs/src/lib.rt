@@ -1,5 +1,7 @@
 // Compare: the log of the laser, which burns the cells of a foil, beside that of the camera, which sees them.
 // One walk over both in the order of ticks, with the marks of their cells in lent scratch.
+#![tactic(auto)]
+
 ghost use Rattle.std.specs.Prelude.{◌≡◌, true, cond, ◌≤◌, length, drop};
 ghost use Rattle.grid.specs.Panel.{good_sides, area};
 ghost use Rattle.list.specs.List.{all_on, none_twice};
@@ -22,7 +24,7 @@ const CAMERA: u8 = 2;
 const BOTH: u8 = 3;
 
 // How many cells are in both logs, only burned, only seen, and seen at an earlier tick than burned.
-#[derive(Drop)]
+#[derive(Clone, Copy)]
 pub struct LogCounts {
     pub both: Cells,
     pub only_burned: Cells,
@@ -31,7 +33,7 @@ pub struct LogCounts {
 }
 
 // What Compare answers.
-#[derive(Drop)]
+#[derive(Clone, Copy)]
 pub enum LogsAnswer {
     Refused(Refusal),
     Given(LogCounts),
@@ -75,7 +77,7 @@ fn one_if(yes: bool) -> u32
 }
 
 // How many of the camera's cells are the laser's, and how many of them were not burned yet when seen.
-#[derive(Drop)]
+#[derive(Clone, Copy)]
 struct Met {
     both: u32,
     earlier: u32,

@@ -4,7 +4,7 @@ use logs::{LogCounts, LogsAnswer, compare};
 use trial::numbers::at_most;
 
 // What Compare is called with: the panel, and how many bytes of each buffer are lent.
-#[derive(Drop)]
+#[derive(Clone, Copy)]
 pub struct Job {
     pub panel: Panel,
     pub burned: usize,
@@ -13,7 +13,7 @@ pub struct Job {
 }
 
 // The numbers of an answer.
-#[derive(Drop)]
+#[derive(Clone, Copy)]
 pub struct Told {
     pub refusal: u32,
     pub both: u32,

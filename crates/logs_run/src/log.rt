@@ -36,7 +36,7 @@ pub fn put_entry(log: &mut [u8], i: u32, c: Cell, tick: u32) {
 
 // The panel, whether its rows are logged from the last cell to the first, and the tick of the first entry:
 // every other entry has one more than the one before it.
-#[derive(Drop)]
+#[derive(Clone, Copy)]
 pub struct Rows {
     pub panel: Panel,
     pub backwards: bool,

@@ -36,7 +36,7 @@ const DIFFERENT: usize = 25;
 // ---- logs
 
 // How many entries a log has, and the tick of the last.
-#[derive(Drop)]
+#[derive(Clone, Copy)]
 struct Made {
     entries: u32,
     tick: u32,

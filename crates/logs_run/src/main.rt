@@ -6,6 +6,8 @@
 // the numbers were given, as by the peer, with the same bytes in scratch, and how often it differed. Standard
 // error has the processor's time, in microseconds, of each call with 1,024 entries or more of the camera's,
 // and of the peer's with as many, each with how many cells were seen earlier.
+#![tactic(auto)]
+
 mod call;
 mod log;
 mod made_up;
@@ -77,7 +79,7 @@ fn try_job(j: Job, burned: &[u8], seen: &[u8], scratch: &mut [u8]) {
 // ---- logs as text
 
 // How far a line is read: how many bytes both logs have by now, and how many of them are the laser's.
-#[derive(Drop)]
+#[derive(Clone, Copy)]
 struct Reading {
     bytes: usize,
     lasers: usize,

@@ -8,7 +8,7 @@ use trial::numbers::add;
 
 // What an entry of a log is tested for: its cell is off the panel; it stands before; its tick is below the
 // one before it; the other log has its cell; it has it not; it has it at a later tick.
-#[derive(Drop)]
+#[derive(Clone, Copy)]
 enum Test {
     Off,
     Again,

@@ -1,4 +1,6 @@
 // One order line in, a longest track drawn for it, and the text that `foil` prints out, on slices.
+#![tactic(auto)]
+
 ghost use Rattle.order.specs.declared.Line.TheVariants.{Order};
 ghost use Rattle.order.specs.Line.{line_in};
 ghost use Rattle.order.specs.Order.{DrawsLine, Answers};
@@ -13,14 +15,14 @@ mod read;
 pub use read::read_line;
 
 // The first line of an input: an order, or another form.
-#[derive(Drop)]
+#[derive(Clone, Copy)]
 pub enum Line {
     Other,
     Order(Panel, Cell, Cell),
 }
 
 // What a line comes to: why it is refused, or the panel, with class and count of the track drawn.
-#[derive(Drop)]
+#[derive(Clone, Copy)]
 pub enum Drawing {
     Refused(Refusal),
     Given(Panel, ClassCount),

@@ -1,5 +1,7 @@
 // Writes the text of `order::answer` for all of standard input, or for its first 256 bytes. It reads to the
 // end and looks for no line feed: .ci/foil holds `foil`, which stops early, to what is written here.
+#![tactic(auto)]
+
 use libc::{STDIN_FILENO, STDOUT_FILENO};
 
 fn main() {

@@ -1,4 +1,6 @@
 // One order line in, the layer of a longest track out, on slices: what the program `layer` writes.
+#![tactic(auto)]
+
 ghost use Rattle.plot.specs.Plot.{Plots};
 
 use gerber_write::{DIGIT_ROOM, put_layer};

@@ -1,4 +1,6 @@
 // The lines that `foil` prints, put into a buffer; each function gives the place behind them.
+#![tactic(auto)]
+
 ghost use Rattle.std.specs.Prelude.{◌≡◌, ◌≤◌, ◌+◌, length};
 ghost use Rattle.grid.specs.Bytes.{cells_in};
 ghost use Rattle.step_letters.specs.Letters.{letters_of};

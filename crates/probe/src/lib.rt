@@ -1,4 +1,6 @@
 // Probe: inspection touches up to 64 cells of a foil and is told where along its track each one is.
+#![tactic(auto)]
+
 ghost use Rattle.std.specs.Prelude.{◌≡◌, []};
 ghost use Rattle.grid.specs.declared.Check.TheVariants as check;
 ghost use Rattle.probe.specs.Probe.{few_probes, sheet, Probes};
@@ -12,7 +14,7 @@ use probe_walk::{PLACES, find_probes, nearest_cells};
 // counted from 1, or 0, and for a probe that is not on the track its nearest cell, else (0, 0); and how
 // many cells of the list were read to find the positions. `refusal` is the number of the refusal, and all
 // else is 0 then.
-#[derive(Drop)]
+#[derive(Clone, Copy)]
 pub struct ProbeSheet {
     pub refusal: u32,
     pub positions: [u32; PLACES],

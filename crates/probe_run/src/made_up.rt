@@ -23,7 +23,7 @@ const PROBES: usize = 140;
 
 // How often a sheet was given, without probes, with every probe on the track, and with some missed; how often
 // each number refused; and how often sheet or scratch differed from the peer's.
-#[derive(Drop)]
+#[derive(Clone, Copy)]
 struct Tally {
     empty: u32,
     found: u32,
@@ -33,7 +33,7 @@ struct Tally {
 }
 
 // What Probe is called with: the order, and how many bytes of each buffer are lent.
-#[derive(Drop)]
+#[derive(Clone, Copy)]
 struct Job {
     order: Order,
     list: usize,

@@ -5,6 +5,8 @@
 // position and the nearest cell, eight places to a line. At last, for orders made up by a fixed sequence,
 // how often a sheet was given and how often refused as by a plain peer, with the same scratch, and how often
 // it differed.
+#![tactic(auto)]
+
 mod made_up;
 mod peer;
 

@@ -4,6 +4,8 @@
 // probes are found, and how many places of the sheets differ (refusal and cells read counted as one). Standard
 // error has, in the same order, the processor's time of a call of Judge, of Probe and of the plain way, in
 // nanoseconds, the shortest of some turns, each with a sum over what it gave.
+#![tactic(auto)]
+
 use grid::{Cell, cells_values, panel_of};
 use probe::ProbeSheet;
 use std::num::wrapping_add_u32;
@@ -16,7 +18,7 @@ use trial::times::{
 };
 
 // What is timed.
-#[derive(Drop)]
+#[derive(Clone, Copy)]
 enum Way {
     Judge,
     Probe,

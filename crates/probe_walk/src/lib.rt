@@ -1,5 +1,7 @@
 // Probes: cells of a foil that inspection touches. Where each stands on a track is found in one walk of it,
 // by marks in scratch; for one that is not on it the nearest cell is searched.
+#![tactic(auto)]
+
 ghost use Rattle.std.specs.Prelude.{◌≡◌, true, [], ◌*◌, ◌<◌, ◌≤◌, length, drop, replicate};
 ghost use Rattle.grid.specs.Panel.{good_sides, area};
 ghost use Rattle.grid.specs.Bytes.{InBytes, cells_in};
@@ -17,7 +19,7 @@ pub const PLACES: usize = 64;
 
 // The positions of the probes, 0 for one that is not on the track and at unused places, and how many
 // cells of the track were read for them.
-#[derive(Drop)]
+#[derive(Clone, Copy)]
 pub struct Found {
     pub positions: [u32; PLACES],
     pub read: Cells,

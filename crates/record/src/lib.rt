@@ -1,5 +1,7 @@
 // Records: Write makes one of a panel and a list of neighbours, Read gives panel and list back, Letters
 // hands back the part of the file that holds the step letters.
+#![tactic(auto)]
+
 ghost use Rattle.std.specs.Prelude.{◌≡◌, true, ◌≤◌, ◌<◌, ◌*◌, length};
 ghost use Rattle.grid.specs.Panel.{OnPanel, on_panel, good_panel};
 ghost use Rattle.grid.specs.Answer.{cells_answer};
@@ -14,7 +16,7 @@ use record_head::{HEAD, check_head, head_in, letters_in, write_head};
 use step_letters::{Stepped, step_by, write_letters};
 
 // What Read answers: why it refuses, or the panel, the cell count and the record length.
-#[derive(Drop)]
+#[derive(Clone, Copy)]
 pub enum ReadAnswer {
     Refused(Refusal),
     Given(Panel, Cells, u32),

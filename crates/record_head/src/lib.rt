@@ -1,4 +1,6 @@
 // The head of a record: written, read back and checked, and where the letters lie behind it.
+#![tactic(auto)]
+
 ghost use Rattle.std.specs.Prelude.{◌≡◌, true, ◌++◌, ◌≤◌, ◌<◌, ◌+◌, ◌/◌, ◌%◌, length, drop, set};
 ghost use Rattle.grid.specs.Panel.{on_panel, good_panel};
 ghost use Rattle.grid.specs.Bytes.{PartOf};
@@ -32,7 +34,7 @@ pub const STEPS_LOW: usize = 9;
 pub const HEAD: usize = 10;
 
 // The fields of a record's head.
-#[derive(Drop)]
+#[derive(Clone, Copy)]
 pub struct Head {
     pub panel: Panel,
     pub entry: Cell,

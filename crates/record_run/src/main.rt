@@ -1,6 +1,8 @@
 // Tries Write, Read and Letters. A line `write` gives the refusal's number (0: none) and the bytes written; a line
 // `read` the number, the panel (sides and pitch), the cells and the record's length; a line `letters` what Letters
 // hands back; a line `bytes` a buffer after a call.
+#![tactic(auto)]
+
 ghost use Rattle.std.specs.Prelude.{◌≤◌, ◌<◌, length};
 
 use grid::{BytesAnswer, Panel, number_of, panel_of};

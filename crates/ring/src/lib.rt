@@ -1,5 +1,7 @@
 // Ring: a longest closed track from (1, 1). It is the corner track from (1, 1) to its neighbour (2, 1)
 // in the whole panel.
+#![tactic(auto)]
+
 ghost use Rattle.std.specs.Prelude.{◌≡◌};
 ghost use Rattle.grid.specs.Panel.{GoodSides};
 ghost use Rattle.ring.specs.Ring.{two_wide, ring_count, ring_check, Rings};

@@ -3,6 +3,8 @@
 // of a larger buffer, filled with 7 before, says: `closed`, the cells are a track from (1, 1) whose last
 // cell is a neighbour of its first, and the bytes behind are 7; a refusal has no cell, and `untouched`, all
 // bytes are 7; else `FAULT`.
+#![tactic(auto)]
+
 use grid::{Cell, Panel, cells_values, panel_of};
 use trial::PITCH;
 use trial::cells::{Order, byte_at, filled, is_closed, is_track};

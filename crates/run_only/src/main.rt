@@ -1,6 +1,8 @@
 // Answers a table of inputs, one for each form that document 01 names, as `foil` prints them. The
 // answers for the largest panel are told by their first two lines, their length and the sum of their
 // bytes.
+#![tactic(auto)]
+
 ghost use Rattle.std.specs.Prelude.{◌≤◌, length};
 
 use libc::STDOUT_FILENO;

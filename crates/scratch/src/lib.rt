@@ -1,4 +1,6 @@
 // The scratch of a panel: a byte for each of its cells, row by row, where a cell that was met is marked.
+#![tactic(auto)]
+
 ghost use Rattle.std.specs.Prelude.{◌≡◌, true, ◌≤◌, length};
 ghost use Rattle.grid.specs.Panel.{good_sides, area, on_panel};
 ghost use Rattle.scratch.specs.Scratch.{place, zeros_for, cleared};

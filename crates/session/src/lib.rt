@@ -1,5 +1,7 @@
 // An edit session: a drawing is edited by bulges and presses, and its last edits can be taken back. The session
 // is lent to the one call; the list is in a lent buffer beside it.
+#![tactic(auto)]
+
 ghost use Rattle.std.specs.Prelude.{◌≡◌, true, cond, [], ◌∷◌, ◌++◌, ◌+◌, ◌-◌, ◌*◌, ◌≤◌, length, drop};
 ghost use Rattle.grid.specs.declared.CellsAnswer.TheVariants.{Refused};
 ghost use Rattle.grid.specs.Panel.{good_sides};
@@ -17,7 +19,7 @@ const KEPT_EDITS: usize = 32;
 
 // An edit session, which is an undo history: the cell count of a drawing, how many edits are recorded, and the
 // edits, oldest first.
-#[derive(Drop)]
+#[derive(Clone, Copy)]
 pub struct Session {
     pub count: Cells,
     pub recorded: u32,
@@ -25,7 +27,7 @@ pub struct Session {
 }
 
 // A bulge at a place, left of the way or else right; a press at a place; or the newest edit taken back.
-#[derive(Drop)]
+#[derive(Clone, Copy)]
 pub enum Command {
     Bulge(u32, bool),
     Press(u32),
@@ -33,7 +35,7 @@ pub enum Command {
 }
 
 // What the call answers, with the session that it leaves.
-#[derive(Drop)]
+#[derive(Clone, Copy)]
 pub struct Edited {
     pub session: Session,
     pub answer: CellsAnswer,

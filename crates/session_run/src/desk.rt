@@ -21,7 +21,7 @@ const VALUES: [u32; 19] = [
 // A session with its list, and the numbers that are set by letters: width, height and pitch; the entry, i and j;
 // the exit, x and y; the session's count, and how many edits are recorded; and how many bytes of the buffers for
 // the list (n) and for scratch are lent.
-#[derive(Drop)]
+#[derive(Clone, Copy)]
 struct Desk {
     session: Session,
     numbers: [u32; 32],
@@ -53,7 +53,7 @@ pub fn called(
 }
 
 // An edit's place, 1 for a bulge and 1 for left.
-#[derive(Drop)]
+#[derive(Clone, Copy)]
 struct Newest {
     place: u32,
     bulge: u32,

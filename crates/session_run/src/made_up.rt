@@ -26,7 +26,7 @@ const ROWS: usize = 13668;
 const DIFFERENT: u32 = 7;
 
 // A session with its list, the plain way beside it, and the tally.
-#[derive(Drop)]
+#[derive(Clone, Copy)]
 struct Both {
     session: Session,
     list: [u8; LIST],

@@ -7,6 +7,8 @@
 // call alters the session. Then, for edits made up by a fixed sequence on small panels, how many were made, taken
 // back and refused by each number, and how many calls differed in answer, session, list or scratch from what the
 // plain way leaves, or left a list that Judge does not take.
+#![tactic(auto)]
+
 mod desk;
 mod made_up;
 mod plain;

@@ -18,7 +18,7 @@ const KEPT: u32 = 32;
 
 // Where the row of the list begins, and how many cells it has; how many the lent buffer has room for; how many
 // edits may be taken back.
-#[derive(Drop)]
+#[derive(Clone, Copy)]
 pub struct Plain {
     pub row: u32,
     pub cells: u32,
@@ -27,7 +27,7 @@ pub struct Plain {
 }
 
 // The refusal, 0 for none, with what is left.
-#[derive(Drop)]
+#[derive(Clone, Copy)]
 pub struct Answer {
     pub refusal: u32,
     pub plain: Plain,

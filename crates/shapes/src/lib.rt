@@ -1,4 +1,6 @@
 // The plans as code: each function gives the plan of its name in the crate plan (specs/Plan.antt).
+#![tactic(auto)]
+
 ghost use Rattle.std.specs.Prelude.{◌≡◌, ◌-◌, ◌≤◌};
 ghost use Rattle.plan.specs.declared.Plan.TheVariants.{One};
 ghost use Rattle.plan.specs.Leg.{cell, forth};
@@ -12,7 +14,7 @@ use plan::{Leg, Plan};
 pub mod motions;
 
 // How a plan is moved: turned, or mirrored so that x, or y, becomes the number less it.
-#[derive(Drop)]
+#[derive(Clone, Copy)]
 pub enum Motion {
     Turn,
     MirrorX(u32),

@@ -3,6 +3,8 @@
 // wanted count Exit's cell, against a plain scan of what the search found. Prints, for each class, the
 // number of pairs and the sum of their counts; how many pairs were wrong; how often Exit was to give a
 // cell, how often none, and how often it answered otherwise.
+#![tactic(auto)]
+
 use bound::bound_values;
 use exit::ExitAnswer;
 use grid::{Cell, Cells, Panel, cells_values, number_of, panel_of};
@@ -11,7 +13,7 @@ use trial::cells::{Order, Tally, is_track, same, tallied};
 use trial::print::{named, tally, text};
 
 // Pairs and cells for each class, and the wrong pairs; and how Exit answered.
-#[derive(Drop)]
+#[derive(Clone, Copy)]
 struct Totals {
     pairs: [u32; 7],
     cells: [u32; 7],

@@ -1,4 +1,6 @@
 // The corners of a list of cells, and its squares.
+#![tactic(auto)]
+
 ghost use Rattle.std.specs.Prelude.{◌≡◌, ◌≤◌, length};
 ghost use Rattle.grid.specs.Bytes.{cells_in};
 ghost use Rattle.squares.specs.Squares.{corner_between, corners, squares};

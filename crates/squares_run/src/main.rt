@@ -1,5 +1,7 @@
 // Counts corners and squares of lists of every kind, some that are no tracks and some that are no whole
 // cells. Each line says what the list is, how many corners it has, and its squares in hundredths.
+#![tactic(auto)]
+
 ghost use Rattle.std.specs.Prelude.{◌≤◌, length};
 
 use squares::{corners_of, squares_of};

@@ -1,4 +1,6 @@
 // The step letters of a record: the letter of a step and the step of a letter, and the letters of a list.
+#![tactic(auto)]
+
 ghost use Rattle.std.specs.Prelude.{◌≡◌, ◌≤◌, ◌+◌, length};
 ghost use Rattle.grid.specs.Panel.{OnPanel};
 ghost use Rattle.grid.specs.Bytes.{cells_in};
@@ -17,7 +19,7 @@ pub const SOUTH: u8 = 0x53;
 pub const WEST: u8 = 0x57;
 
 // Where a letter leads.
-#[derive(Drop)]
+#[derive(Clone, Copy)]
 pub enum Stepped {
     Refused(Refusal),
     To(Cell),

@@ -1,5 +1,7 @@
 // The 3 by 3 panel: its longest tracks stand in a table, and a row of it is placed on the panel for
 // two terminals.
+#![tactic(auto)]
+
 ghost use Rattle.std.specs.Prelude.{◌≡◌, ◌++◌, ℕ, ◌≤◌, ◌<◌, ◌*◌, length, drop};
 ghost use Rattle.grid.specs.Panel.{panel};
 ghost use Rattle.grid.specs.Bytes.{bytes};
@@ -26,7 +28,7 @@ const ROWS: [[u8; 19]; 8] = [
 
 // How a row is placed on the panel: turned, then mirrored in x (`across`) and in y (`down`), and
 // walked from its end where `back` is set.
-#[derive(Drop)]
+#[derive(Clone, Copy)]
 pub struct Placing {
     pub row: usize,
     pub turn: bool,

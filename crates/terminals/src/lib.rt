@@ -1,5 +1,7 @@
 // The tests on the terminals that the choice of a plan goes by: each function gives what the definition of its
 // name in the crate plan (specs/Plan.antt) does.
+#![tactic(auto)]
+
 ghost use Rattle.std.specs.Prelude.{◌≡◌, not, cond, ◌&&◌, ◌||◌, ◌≤◌, ◌+◌, eqb, leb};
 ghost use Rattle.grid.specs.Panel.{black};
 ghost use Rattle.count.specs.Count.{odd};

@@ -1,4 +1,6 @@
 // Numbers in base ten and other text: read from bytes, and put into a buffer.
+#![tactic(auto)]
+
 mod read;
 mod write;
 
@@ -20,7 +22,7 @@ pub const LINE_FEED: u8 = b'\n';
 pub const LARGEST_NUMBER: u64 = 4294967295;
 
 // A number that was read, and the position behind the byte that ends it; or another form.
-#[derive(Drop)]
+#[derive(Clone, Copy)]
 pub enum Number {
     Bad,
     Until(u32, usize),

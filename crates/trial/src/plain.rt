@@ -4,7 +4,7 @@ use grid::Cell;
 use std::num::wrapping_add_u32;
 
 // The numbers of Probe's sheet.
-#[derive(Drop)]
+#[derive(Clone, Copy)]
 pub struct Sheet {
     pub refusal: u32,
     pub positions: [u32; 64],

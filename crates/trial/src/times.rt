@@ -12,7 +12,7 @@ const LEAST: u64 = 2000;
 pub const DOUBLED: u32 = 16;
 
 // How long a turn took, and a sum over what it gave, so that none of it may be left out.
-#[derive(Drop)]
+#[derive(Clone, Copy)]
 pub struct Turn {
     pub micros: u64,
     pub sum: u32,
