@@ -42,7 +42,7 @@ sum_both f g a k e h = sum_add f g (λ i. e) a k h ∙ sum_const (λ i. e) a k e
 -- a sum of sums, the other way round
 pub sum_swap : (f : ℕ → ℕ → ℕ) (a k b n : ℕ) → partial_sum (λ x. partial_sum (f x) b n) a k ≡ partial_sum (λ y. partial_sum (λ x. f x y) a k) b n
 sum_swap f a zero b n = sym (sum_const (λ y. 0) b n 0 (λ i p q. refl) ∙ mul-zero n)
-sum_swap f a (suc k) b n = ap (λ (z : ℕ). partial_sum (f (a + suc k)) b n + z) (sum_swap f a k b n) ∙ sum_add _ _ _ b n (λ y. refl)
+sum_swap f a (suc k) b n = ap (λ (z : ℕ). partial_sum (f (a + suc k)) b n + z) (sum_swap f a k b n) ∙ sum_add (f (a + suc k)) (λ y. partial_sum (λ x. f x y) a k) (λ y. partial_sum (λ x. f x y) a (suc k)) b n (λ y. refl)
 
 pub sum_split : (f : ℕ → ℕ) (a k j : ℕ) → partial_sum f a (k + j) ≡ partial_sum f a k + partial_sum f (a + k) j
 sum_split f a k zero = rw (add-zero k) (omega arith)
