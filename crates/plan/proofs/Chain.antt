@@ -101,6 +101,7 @@ data Among : List Leg → Cell → Type 0 where
   later : {g : Leg} {l : List Leg} {c : Cell} → Among l c → Among (g ∷ l) c
 
 sep_among : {g : Leg} {l : List Leg} {c : Cell} → Each (Sep g) l → Inside g.a g.b c → Among l c → ⊥
+sep_among Each.none i m = elim m [ ]
 sep_among (Each.more s e) i (Among.here j) = sep_apart s _ i j
 sep_among (Each.more s e) i (Among.later m) = sep_among e i m
 

@@ -2,7 +2,7 @@
 use Prim.Native.Nat.{ℕ, ◌+◌, ◌-◌, ◌*◌, ◌%◌, ◌≤◌, ◌<◌, max}
 use mathlib.Core.Path.{◌≡◌, refl, sym, ap, ◌∙◌}
 use mathlib.Core.Logic.{⊎_elim, dite}
-use mathlib.Core.Bool.{Bool, true, false, not, ◌&&◌, ◌||◌, and_false}
+use mathlib.Core.Bool.{Bool, true, false, not, ◌&&◌, ◌||◌, and-false}
 use native.Mathlib.Omega.{arith}
 use native.Mathlib.Decide.{ℕ_discrete}
 use native.Mathlib.Nat.{mul-one}
@@ -150,13 +150,13 @@ module _ (p : Panel) (s t : Cell) where
 
   f2_not : beside ≡ false → f2 p s t ≡ false
   unfolding f2
-  f2_not e = ap (λ (b : Bool). eqb p.height 2 && b) e ∙ and_false (eqb p.height 2)
+  f2_not e = ap (λ (b : Bool). eqb p.height 2 && b) e ∙ and-false (eqb p.height 2)
 
   pub f2_row : s.x < t.x → s.y ≡ t.y → f2 p s t ≡ false
   f2_row l e =
       let a = ne_eqb s.x t.x (λ (q : s.x ≡ t.x). omega arith) in
       let b = eq-eqb s.y t.y e in
-      f2_not ((λ i. a i || (eqb (s.x + 1) t.x && not (b i))) ∙ and_false (eqb (s.x + 1) t.x))
+      f2_not ((λ i. a i || (eqb (s.x + 1) t.x && not (b i))) ∙ and-false (eqb (s.x + 1) t.x))
 
   f2_far : s.x + 1 < t.x → f2 p s t ≡ false
   f2_far l =

@@ -3,7 +3,7 @@
 use Prim.Native.Nat.{ℕ, ◌+◌, ◌-◌, ◌*◌, ◌≤◌}
 use mathlib.Core.Path.{◌≡◌, refl, sym, ap, ◌∙◌, subst₂}
 use mathlib.Core.Logic.{dite}
-use mathlib.Core.Bool.{Bool, true, false, not, ◌&&◌, ◌||◌, beq, and_false}
+use mathlib.Core.Bool.{Bool, true, false, not, ◌&&◌, ◌||◌, beq, and-false}
 use native.Mathlib.Omega.{arith}
 use native.Mathlib.Decide.{ℕ_discrete}
 use lib.Dec.{eqb}
@@ -43,7 +43,7 @@ far_size a b w h e f p q = dite (ℕ_discrete h 1) row block
         let flat = count_flat (dx + 1) (dy + 1) dx dy (f ∙ z) in
         let whole : dx + 1 + 0 ≡ w * 1 = omega arith in
         (λ i. flat i + bit (not (odd w) && not (odd (z i))))
-        ∙ ap (λ (b : Bool). dx + 1 + bit b) (and_false (not (odd w))) ∙ whole ∙ ap (λ (k : ℕ). w * k) (sym z)
+        ∙ ap (λ (b : Bool). dx + 1 + bit b) (and-false (not (odd w))) ∙ whole ∙ ap (λ (k : ℕ). w * k) (sym z)
 
     parities : differ (black a) (black b) ≡ differ (differ (odd w) true) (differ (odd h) true)
     parities = sym (distance_odd a b) ∙ odd_sum dx dy ∙ (λ i. differ (odd_rest dx 1 w e i) (odd_rest dy 1 h f i))
