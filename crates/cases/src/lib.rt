@@ -34,6 +34,7 @@ pub fn is_end(k: u32, a: u32) -> bool
     a == k
 }
 
+#[tactic(auto, unfolding(count::specs::Count::f1))]
 pub fn is_f1(p: Panel, s: Cell, t: Cell) -> bool
     ensures { result ≡ f1 p s t }
 {
@@ -46,6 +47,7 @@ pub fn is_f1(p: Panel, s: Cell, t: Cell) -> bool
     true
 }
 
+#[tactic(auto, unfolding(count::specs::Count::f2))]
 pub fn is_f2(p: Panel, s: Cell, t: Cell) -> bool
     requires { s.x ≤ max_side }
     ensures { result ≡ f2 p s t }
@@ -98,6 +100,7 @@ fn f3_apart(s: Cell, t: Cell) -> bool
     t.y == 2
 }
 
+#[tactic(auto, unfolding(count::specs::Count::f3))]
 pub fn is_f3(p: Panel, s: Cell, t: Cell) -> bool
     requires { s.x ≤ max_side }
     ensures { result ≡ f3 p s t }
