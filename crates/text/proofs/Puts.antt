@@ -11,7 +11,7 @@ use Rattle.grid.proofs.Lists.{take_next}
 use Rattle.text.specs.Decimal.{digit, decimal}
 use Rattle.text.specs.Field.{blank, field_of}
 use Rattle.text.specs.Put.{put, Put}
-use Rattle.text.proofs.Decimals.{decimal_small, decimal_more, length_decimal}
+use Rattle.text.proofs.Decimals.{decimal_small, decimal_more, length_decimal, some_digit}
 
 module _ (out : List ℕ) (at : ℕ) where
   pub put_one : (b : ℕ) → at < length out → set out at b ≡ put out at (b ∷ [])
@@ -138,6 +138,10 @@ module _ {n r at : ℕ} {s : List ℕ} (d : Digits n r s at) where
   digits_left =
       let all = ap length d.digits ∙ length-append (decimal r) (drop at s) in
       omega (arith, d.within, length-drop at s)
+
+  -- a buffer with room for all digits has room for one more
+  pub more : (old : List ℕ) → length s ≡ length old → length (decimal n) ≤ length old → 1 ≤ at
+  more old e h = omega (arith, digits_left, some_digit r)
 
   -- the last digit of r is stored in front of them
   module _ (b : ℕ) (one : 1 ≤ at) where

@@ -1,6 +1,6 @@
 // Puts text into a buffer, each part behind the one before, and gives the place behind it.
 ghost use Rattle.std.specs.Prelude.{◌≡◌, [], ◌∷◌, ◌≤◌, ◌<◌, ◌+◌, ◌-◌, length};
-ghost use Rattle.grid.specs.Bytes.{PartOf};
+ghost use Rattle.text.specs.Part.{MutPartOf};
 ghost use Rattle.text.specs.Decimal.{digit, decimal};
 ghost use Rattle.text.specs.Field.{blank, field_of};
 ghost use Rattle.text.specs.Put.{Put};
@@ -50,7 +50,7 @@ pub fn put_decimal(n: u32, out: &mut [u8], at: usize) -> usize
 // The digits of a number, made from the last one on: the part of scratch that holds them, up to its end.
 pub fn digits_of<'a>(n: u32, scratch: &'a mut [u8]) -> &'a mut [u8]
     requires { length (decimal n) ≤ length scratch.old }
-    ensures { PartOf scratch.entry (length scratch.old - length (decimal n)) (decimal n) result }
+    ensures { MutPartOf scratch.entry (length scratch.old - length (decimal n)) (decimal n) result }
 {
     let room = scratch.len();
     let mut at = room;
