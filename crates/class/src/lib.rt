@@ -38,6 +38,7 @@ fn decide(p: Panel, s: Cell, t: Cell) -> ClassCount
     by_colour(p, s, t)
 }
 
+#[tactic(auto, unfolding(count::specs::Count::named))]
 fn name_terminals(p: Panel, s: Cell, t: Cell) -> ClassCount
     requires { Placed p s t }
     ensures { result ≡ named p s t }
@@ -53,6 +54,7 @@ fn name_terminals(p: Panel, s: Cell, t: Cell) -> ClassCount
 }
 
 // The definition as it stands: the panel turned, the terminals named, the first line that fits.
+#[tactic(auto, unfolding(count::specs::Count::class_count))]
 fn line_by_line(p: Panel, s: Cell, t: Cell) -> ClassCount
     requires { Placed p s t }
     ensures { result ≡ class_count p s t }
@@ -75,6 +77,7 @@ fn shorter_side(p: Panel) -> u32
 
 // Class and count of two cells on a good panel. With more than 3 rows and columns only the colours
 // matter, which are the same turned and in either order.
+#[tactic(auto, using(count::proofs::Laws::class_by_colour))]
 pub fn class_count(p: Panel, s: Cell, t: Cell) -> ClassCount
     requires good_sides { GoodSides p }
     requires on_panel { OnPanel p s }
@@ -88,6 +91,7 @@ pub fn class_count(p: Panel, s: Cell, t: Cell) -> ClassCount
 }
 
 // Class and count of an order: equal terminals are class 6, tried before class 1.
+#[tactic(auto, unfolding(count::specs::Order::order_class_count))]
 pub fn order_class_count(p: Panel, s: Cell, t: Cell) -> ClassCount
     requires good_sides { GoodSides p }
     requires on_panel { OnPanel p s }
