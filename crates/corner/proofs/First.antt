@@ -19,7 +19,6 @@ use Rattle.line.specs.Drawn.{InBytes}
 use Rattle.line.proofs.Between.{Between, between_sym, parts, dist_same, dist_ne, dist_less, dist_small, at_once, by_eq, Cut, cut}
 use Rattle.line.proofs.Frame.{Frame, in_rows, in_columns, inside_x, inside_y, in_bytes, turning_even, turning_odd, sweep_row, sweep_column}
 use Rattle.line.proofs.Sweep.{row_bytes, column_bytes, sweep_home, line_home}
-use Rattle.corner.specs.declared.Peeled.{Peeled}
 use Rattle.corner.specs.declared.Sizes.{Sizes}
 use Rattle.corner.specs.declared.Lines.{Lines}
 use Rattle.corner.specs.Corner.{corner_count, track_count}
