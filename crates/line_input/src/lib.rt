@@ -1,9 +1,10 @@
-// Reads one line from standard input into a lent buffer, for the programs that take one order.
+// Reads one line into a lent buffer, for the programs that take one order from standard input.
 #![tactic(auto)]
 
-ghost use Rattle.std.specs.Prelude.{◌+◌, ◌≤◌, length};
+ghost use Rattle.std.specs.Prelude.{◌+◌, ◌≤◌, length, IfOk};
 
-use libc::STDIN_FILENO;
+use std::io;
+use std::io::Read;
 
 // Whether a line feed is among the bytes.
 fn has_line(bytes: &[u8]) -> bool {
@@ -18,29 +19,28 @@ fn has_line(bytes: &[u8]) -> bool {
 }
 
 // Reads once, behind the first n bytes, and gives the number of bytes read.
-fn read_more(bytes: &mut [u8], n: usize) -> usize
+fn read_more(input: &mut impl Read, bytes: &mut [u8], n: usize) -> io::Result<usize>
     requires { n ≤ length bytes.old }
-    ensures { n + result ≤ length bytes.new }
+    ensures { IfOk result (λ k. n + k ≤ length bytes.new) }
 {
-    let got = libc::read(STDIN_FILENO, &mut bytes[n..]);
-    io::count(got, &bytes[n..])
+    input.read(&mut bytes[n..])
 }
 
 // Reads until a line feed, the end of the input, or a full buffer, however the input is cut into
 // pieces, and gives the number of bytes read.
-pub fn read_line(bytes: &mut [u8]) -> usize
-    ensures { result ≤ length bytes.new }
+pub fn read_line(input: &mut impl Read, bytes: &mut [u8]) -> io::Result<usize>
+    ensures { IfOk result (λ n. n ≤ length bytes.new) }
 {
     let mut n = 0;
     while n < bytes.len() {
-        let more = read_more(bytes, n);
+        let more = read_more(input, bytes, n)?;
         if more == 0 {
-            return n;
+            return Ok(n);
         }
         n += more;
         if has_line(&bytes[..n]) {
-            return n;
+            return Ok(n);
         }
     }
-    n
+    Ok(n)
 }
