@@ -22,7 +22,7 @@ loop-opposite-smaller c =
 
 pub loop-opposite-preserved : goal.loop-opposite-preserved
 loop-opposite-preserved c =
-    step p.requires p.loop-opposite.invariant (sym c.one_line.ensures ∙ c.loop-opposite-test.true) c.peel-p.ensures (omega arith)
+    step c.requires c.loop-opposite.invariant (sym c.one_line.ensures ∙ c.loop-opposite-test.true) c.peel-p.ensures (omega arith)
     c.draw_sweep.ensures
 
 pub draw_sweep-requires-2-clause-fact_3 : goal.draw_sweep-requires-2-clause-fact_3
@@ -31,6 +31,6 @@ draw_sweep-requires-2-clause-fact_3 c =
 
 pub returns : goal.returns
 returns c = (
-      s.corner_count-count.ensures,
-      finish s.requires s.loop-opposite.invariant (sym c.one_line.ensures ∙ c.loop-opposite-test.false) c.draw_sweep-2.ensures,
-    )
+  c.corner_count-count.ensures,
+  finish c.requires c.loop-opposite.invariant (sym c.one_line.ensures ∙ c.loop-opposite-test.false) c.draw_sweep-2.ensures,
+)

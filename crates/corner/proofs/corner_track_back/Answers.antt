@@ -50,6 +50,6 @@ draw_sweep-requires-2-clause-fact_3 c =
 
 pub returns : goal.returns
 returns c = (
-      s.corner_count-count.ensures,
-      finish s.requires s.loop-opposite.invariant (sym c.one_line.ensures ∙ c.loop-opposite-test.false) c.draw_sweep-2.ensures,
-    )
+  c.corner_count-count.ensures,
+  finish c.requires c.loop-opposite.invariant (sym c.one_line.ensures ∙ c.loop-opposite-test.false) c.draw_sweep-2.ensures,
+)
