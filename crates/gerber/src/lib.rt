@@ -38,6 +38,7 @@ fn half_pitches(p: Panel, k: u32) -> u32
     k * p.pitch * 500
 }
 
+#[tactic(auto, unfolding(crate::specs::Layer::plot_x))]
 pub fn plot_x(p: Panel, c: Cell) -> u32
     requires { (GoodPanel p) × (OnPanel p c) }
     ensures { result ≡ plot_x p c }
@@ -45,6 +46,7 @@ pub fn plot_x(p: Panel, c: Cell) -> u32
     half_pitches(p, 2 * c.x - 1)
 }
 
+#[tactic(auto, unfolding(crate::specs::Layer::plot_y))]
 pub fn plot_y(p: Panel, c: Cell) -> u32
     requires { (GoodPanel p) × (OnPanel p c) }
     ensures { result ≡ plot_y p c }
@@ -53,6 +55,7 @@ pub fn plot_y(p: Panel, c: Cell) -> u32
 }
 
 // Whether b is the middle of a and c. Sums of any 32-bit numbers fit.
+#[tactic(auto, unfolding(crate::specs::Layer::straight))]
 pub fn is_straight(a: Cell, b: Cell, c: Cell) -> bool
     ensures { result ≡ straight a b c }
 {
