@@ -16,8 +16,7 @@ use Rattle.grid.proofs.Moves.{turn_on}
 use Rattle.grid.proofs.Tests.{both_branches}
 use Rattle.count.specs.Count.{odd}
 use Rattle.count.proofs.Laws.{not_f3}
-use Rattle.plan.specs.declared.Plan.{Plan}
-use Rattle.plan.specs.Leg.{mirror_x, mirror_y}
+use Rattle.plan.specs.Leg.{mirror_y}
 use Rattle.plan.specs.Plan.{moving, left_first, differ, critical, steep, inner_split, wrapped, at_edge, bridged, four_rows}
 use Rattle.plan.proofs.Cases.{if_equal, if_less}
 use Rattle.plan.proofs.Chain.{Plans, exchanged}

@@ -29,6 +29,7 @@ pub fn alone(a: Cell, b: Cell, t: Cell, back: bool) -> Plan
 }
 
 // Two blocks, columns 1 to c and c + 1 to m, joined in row j, which is 1 or n.
+#[tactic(auto, unfolding(plan::specs::Plan::split))]
 pub fn split(m: u32, n: u32, s: Cell, t: Cell, c: u32, j: u32) -> Plan
     requires n_bound { n ≤ 128 }
     requires c_bound { c ≤ 130 }
@@ -52,6 +53,7 @@ pub fn split(m: u32, n: u32, s: Cell, t: Cell, c: u32, j: u32) -> Plan
 }
 
 // The rows from 3 on split after column c, joined by rows 1 and 2.
+#[tactic(auto, unfolding(plan::specs::Plan::bridge))]
 pub fn bridge(m: u32, n: u32, s: Cell, t: Cell, c: u32) -> Plan
     requires { c ≤ 130 }
     ensures { result ≡ bridge m n s t c }
@@ -79,6 +81,7 @@ pub fn bridge(m: u32, n: u32, s: Cell, t: Cell, c: u32) -> Plan
 }
 
 // Once around t, the right neighbour of s.
+#[tactic(auto, unfolding(plan::specs::Plan::wrap))]
 pub fn wrap(m: u32, n: u32, s: Cell, t: Cell) -> Plan
     requires { SmallOrder m n s t }
     ensures { result ≡ wrap m n s t }
@@ -121,6 +124,7 @@ pub fn wrap(m: u32, n: u32, s: Cell, t: Cell) -> Plan
 }
 
 // Three rows: the columns from x to far, entered in row r and left in row q.
+#[tactic(auto, unfolding(plan::specs::Plan::round))]
 pub fn round(x: u32, far: u32, r: u32, q: u32) -> Leg
     ensures { result ≡ round x far r q }
 {
@@ -160,6 +164,7 @@ fn row(x: u32, far: u32, y: u32) -> Leg
 
 // Three rows, all different: along s's row, around on the right, back in the row r, around on the
 // left, along t's row.
+#[tactic(auto, unfolding(plan::specs::Plan::zigzag))]
 pub fn zigzag(m: u32, s: Cell, t: Cell, r: u32) -> Plan
     requires { SmallOrder m 3 s t }
     ensures { result ≡ zigzag m s t r }
@@ -174,6 +179,7 @@ pub fn zigzag(m: u32, s: Cell, t: Cell, r: u32) -> Plan
 }
 
 // Three rows: two blocks joined in row 2.
+#[tactic(auto, unfolding(plan::specs::Plan::middle))]
 pub fn middle(m: u32, s: Cell, t: Cell) -> Plan
     ensures { result ≡ middle m s t }
 {

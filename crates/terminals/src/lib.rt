@@ -125,6 +125,7 @@ pub fn wraps_below(n: u32, s: Cell) -> bool
 }
 
 // The row that a split after column c crosses in.
+#[tactic(auto, unfolding(plan::specs::Plan::crossing))]
 pub fn crossing(n: u32, s: Cell, t: Cell, c: u32) -> u32
     requires { c ≤ 130 }
     ensures { result ≡ crossing n s t c }
