@@ -127,8 +127,8 @@ module _ (f : Cell → Bool) where
     pub none_first : ((d : Cell) → OnPanel p d → f d ≡ false) → Nothing ≡ first f (reading p)
     none_first h =
         none_each f (row p) 1 p.height (λ y t b.
-        none_each f _ 1 p.width (λ x l r.
-        cond_no _ _ (h (cell x y) (record { left = l; right = omega arith; top = t; bottom = omega arith })) refl))
+        none_each f (λ x. cell x y ∷ []) 1 p.width (λ x l r.
+        cond_no (At (cell x y)) Nothing (h (cell x y) (record { left = l; right = omega arith; top = t; bottom = omega arith })) refl))
 
     -- the cell found is the first on the panel
     pub first_on : (c : Cell) → At c ≡ first f (reading p) → FirstOn f p c

@@ -90,6 +90,7 @@ fn most_from(p: Panel, entry: Cell) -> u32
 }
 
 // The first fit. Where the colours say that there is none, no cell is looked at.
+#[tactic(auto, using(crate::proofs::Most::none_above))]
 fn first_fit(p: Panel, entry: Cell, wanted: Cells) -> Search
     requires good_sides { GoodSides p }
     requires on_panel { OnPanel p entry }
