@@ -21,6 +21,7 @@ use terminals::{
     is_steep, odd_and_critical, wraps_below,
 };
 
+#[tactic(auto, unfolding(plan::specs::Plan::two_rows))]
 fn two_rows(m: u32, s: Cell, t: Cell) -> Plan
     requires { SmallOrder m 2 s t }
     ensures { result ≡ two_rows m s t }
@@ -46,6 +47,7 @@ fn third(s: Cell, t: Cell) -> u32
     less(6, s.y + t.y)
 }
 
+#[tactic(auto, unfolding(plan::specs::Plan::three_rows_apart))]
 fn three_rows_apart(m: u32, s: Cell, t: Cell) -> Plan
     requires { SmallOrder m 3 s t }
     ensures { result ≡ three_rows_apart m s t }
@@ -69,6 +71,7 @@ fn mirrored_zigzag(m: u32, s: Cell, t: Cell) -> Plan
     move_plan(mirror, p)
 }
 
+#[tactic(auto, unfolding(plan::specs::Plan::three_rows))]
 fn three_rows(m: u32, s: Cell, t: Cell) -> Plan
     requires { SmallOrder m 3 s t }
     ensures { result ≡ three_rows m s t }
@@ -95,6 +98,7 @@ fn flipped_wrap(m: u32, n: u32, s: Cell, t: Cell) -> Plan
     move_plan(mirror, p)
 }
 
+#[tactic(auto, unfolding(plan::specs::Plan::wrapped))]
 fn wrapped(m: u32, n: u32, s: Cell, t: Cell) -> Plan
     requires { SmallOrder m n s t }
     ensures { result ≡ wrapped m n s t }
@@ -105,6 +109,7 @@ fn wrapped(m: u32, n: u32, s: Cell, t: Cell) -> Plan
     wrap(m, n, s, t)
 }
 
+#[tactic(auto, unfolding(plan::specs::Plan::inner_split))]
 fn inner_split(m: u32, n: u32, s: Cell, t: Cell) -> Plan
     requires { SmallOrder m n s t }
     ensures { result ≡ inner_split m n s t }
@@ -116,6 +121,7 @@ fn inner_split(m: u32, n: u32, s: Cell, t: Cell) -> Plan
 }
 
 // s in column 1, t in column 2, t below s: split by rows, over the last column.
+#[tactic(auto, unfolding(plan::specs::Plan::edge_split))]
 fn edge_split(m: u32, n: u32, s: Cell, t: Cell) -> Plan
     requires { SmallOrder m n s t }
     ensures { result ≡ edge_split m n s t }
@@ -133,6 +139,7 @@ fn flipped_edge_split(m: u32, n: u32, s: Cell, t: Cell) -> Plan
     move_plan(mirror, p)
 }
 
+#[tactic(auto, unfolding(plan::specs::Plan::at_edge))]
 fn at_edge(m: u32, n: u32, s: Cell, t: Cell) -> Plan
     requires { SmallOrder m n s t }
     ensures { result ≡ at_edge m n s t }
@@ -166,6 +173,7 @@ fn flipped_bridge(m: u32, n: u32, s: Cell, t: Cell, c: u32) -> Plan
 }
 
 // m even, n odd, s black, t white.
+#[tactic(auto, unfolding(plan::specs::Plan::bridged))]
 fn bridged(m: u32, n: u32, s: Cell, t: Cell, c: u32) -> Plan
     requires small_order { SmallOrder m n s t }
     requires c_bound { c ≤ 130 }
@@ -194,6 +202,7 @@ fn at_right_edge(m: u32, n: u32, s: Cell, t: Cell) -> Plan
 }
 
 // Four rows or more, s left of t and no further from it in rows than in columns.
+#[tactic(auto, unfolding(plan::specs::Plan::four_rows))]
 fn four_rows(m: u32, n: u32, s: Cell, t: Cell) -> Plan
     requires { SmallOrder m n s t }
     ensures { result ≡ four_rows m n s t }
@@ -259,6 +268,7 @@ fn inner(m: u32, n: u32, s: Cell, t: Cell) -> Plan
 }
 
 // m not less than n, s not right of t.
+#[tactic(auto, unfolding(plan::specs::Plan::wide))]
 fn wide(m: u32, n: u32, s: Cell, t: Cell) -> Plan
     requires { SmallOrder m n s t }
     ensures { result ≡ wide m n s t }
@@ -288,6 +298,7 @@ fn ordered_wide(m: u32, n: u32, s: Cell, t: Cell) -> Plan
     wide(m, n, s, t)
 }
 
+#[tactic(auto, unfolding(plan::specs::Plan::plan_of))]
 pub fn plan_of(m: u32, n: u32, s: Cell, t: Cell) -> Plan
     requires { SmallOrder m n s t }
     ensures { result ≡ plan_of m n s t }
