@@ -78,6 +78,7 @@ fn is_free(p: Panel, list: &[u8], c: Cell) -> bool
 }
 
 // Whether the step at the place is there, with a free detour on that side.
+#[tactic(auto, using(list::proofs::Cells::length_cells))]
 fn can_bulge(p: Panel, list: &[u8], place: u32, left: bool) -> bool
     ensures { result ≡ can_bulge p left place (cells_in list.now) }
 {
@@ -97,6 +98,7 @@ fn can_bulge(p: Panel, list: &[u8], place: u32, left: bool) -> bool
 }
 
 // Whether the two cells behind the place are the detour of a step, on that side.
+#[tactic(auto, using(list::proofs::Cells::length_cells))]
 fn is_detour(list: &[u8], place: u32, left: bool) -> bool
     ensures { result ≡ is_detour left place (cells_in list.now) }
 {
