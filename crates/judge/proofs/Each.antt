@@ -34,17 +34,17 @@ module _ (p : Panel) (s t : Cell) (step : State → Cell → State) (verdict : K
   after z [] = z
   after z (c ∷ l) = after (step z c) l
 
-  stands_after : {z : State} (l m : List Cell) → Stands p s l z.kept z.marks → 2 * (length l + length m) < 2 ^ 64
+  stands_after : (z : State) (l m : List Cell) → Stands p s l z.kept z.marks → 2 * (length l + length m) < 2 ^ 64
       → Stands p s (l ++ m) (after z m).kept (after z m).marks
-  stands_after {z} l [] h n = subst (λ (k : List Cell). Stands p s k z.kept z.marks) (sym (append-nil l)) h
-  stands_after {z} l (c ∷ m) h n =
+  stands_after z l [] h n = subst (λ (k : List Cell). Stands p s k z.kept z.marks) (sym (append-nil l)) h
+  stands_after z l (c ∷ m) h n =
       let t = takes z c (record { list = l; stands = h }) (omega (arith, h.bytes)) in
-      let more = stands_after (l ++ c ∷ []) m (t.next l h) (omega (arith, length-append l (c ∷ []))) in
+      let more = stands_after (step z c) (l ++ c ∷ []) m (t.next l h) (omega (arith, length-append l (c ∷ []))) in
       subst (λ (k : List Cell). Stands p s k (after (step z c) m).kept (after (step z c) m).marks) (append_assoc l (c ∷ []) m) more
 
   module _ {start : State} (begins : Begins start.kept) (clean : Clean p start.marks) (l : List Cell) (small : 2 * length l < 2 ^ 64) where
     stands : Stands p s l (after start l).kept (after start l).marks
-    stands = stands_after [] l (begins.empty p s start.marks clean) (omega arith)
+    stands = stands_after start [] l (begins.empty p s start.marks clean) (omega arith)
 
     pub each_cell_lem : verdict (after start l).kept ≡ cells_check p s t l
     each_cell_lem = (decides (after start l).kept).told p s l (after start l).marks stands

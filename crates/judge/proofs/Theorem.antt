@@ -97,7 +97,7 @@ spot_refused p s list room z w other = go (none_twice l) refl
     wrong : none_twice l ≡ true → runs s s l ≡ false
     wrong e =
         test_fails (runs s s l)
-        (λ r. other (one_cell (tests_track record { on_panel_lem = walks.0; steps = walks.1; once = e; ends = r })))
+        (λ r. other (one_cell (tests_track {p = p} record { on_panel_lem = walks.0; steps = walks.1; once = e; ends = r })))
 
     go : (b : Bool) → none_twice l ≡ b → judge_of p s s list room ≡ Refused (cond b WrongEnds Repeated)
     go true e =
