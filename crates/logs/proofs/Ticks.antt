@@ -4,7 +4,7 @@ use Prim.Native.Nat.{ℕ, ◌≤◌, ◌<◌}
 use native.Mathlib.Omega.{arith}
 use native.Mathlib.Nat.{le_refl}
 use mathlib.Core.Path.{◌≡◌, refl, ap, ◌∙◌}
-use mathlib.Core.Bool.{Bool, true, ◌&&◌, ◌||◌, and-true, and_false}
+use mathlib.Core.Bool.{Bool, true, ◌&&◌, ◌||◌, and-true, and-false}
 use mathlib.Core.List.{List, [], ◌∷◌}
 use lib.Dec.{leb}
 use borrow.Author.Tests.{leb-true, leb-false, le-leb, lt-ltb, le-ltb}
@@ -44,7 +44,7 @@ later_from e t (f ∷ l) r =
     not_later : f.tick ≤ e.tick → logged_later (f ∷ l) e ≡ logged_later l e
     not_later h =
         ap (λ (b : Bool). (same_cell e.cell f.cell && b) || logged_later l e) (le-ltb e.tick f.tick h)
-        ∙ ap (λ (b : Bool). b || logged_later l e) (and_false (same_cell e.cell f.cell))
+        ∙ ap (λ (b : Bool). b || logged_later l e) (and-false (same_cell e.cell f.cell))
 
 pub later_is_ahead : (e : Entry) (l : List Entry) → rises l ≡ true → logged_later l e ≡ logged (ahead e.tick l) e
 later_is_ahead e l r = later_from e 0 l r
