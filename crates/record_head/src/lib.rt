@@ -71,6 +71,7 @@ pub fn write_head(p: Panel, entry: Cell, steps: Steps, out: &mut [u8])
     put_pair(out, STEPS_HIGH, STEPS_LOW, steps.0);
 }
 
+#[tactic(auto, unfolding(crate::specs::Head::has_mark))]
 fn has_mark(file: &[u8]) -> bool
     ensures { result ≡ has_mark file.now }
 {

@@ -25,6 +25,7 @@ pub enum Stepped {
     To(Cell),
 }
 
+#[tactic(auto, unfolding(crate::specs::Letters::letter))]
 fn letter_of(a: Cell, b: Cell) -> u8
     ensures { result ≡ letter a b }
 {
@@ -55,6 +56,7 @@ pub fn write_letters(list: &[u8], out: &mut [u8], from: usize)
 }
 
 // Four letters lead to a cell, every other byte is refused.
+#[tactic(auto, unfolding(crate::specs::Letters::known, crate::specs::Letters::stepped))]
 pub fn step_by(c: Cell, letter: u8) -> Stepped
     requires { OnPanel largest_panel c }
     ensures { result ≡ step_by c letter }
