@@ -7,8 +7,8 @@
 #![tactic(auto)]
 
 use bound::bound_values;
-use check::same;
 use grid::{Cell, CellsAnswer, Panel, area_of, cells_values, panel_of};
+use std::io;
 use trial::PITCH;
 use trial::cells::Order;
 use trial::numbers::{add, at_most, below, one_less, scrambled};
@@ -189,8 +189,8 @@ fn try_both(
 ) -> Tally {
     let a = lent(large, o, list, one, size);
     let b = lent(bench, o, list, two, size);
-    let equal = same(one, two);
-    let kept = same(two, before);
+    let equal = one == two;
+    let kept = two == before;
     tallied(t, o.panel, a, b, equal, kept)
 }
 
@@ -396,33 +396,35 @@ fn all_trials(small: bool, trials: u32) -> Totals {
 
 // ---- what is printed
 
-fn print_tally(name: &[u8], t: Tally) {
-    text(name);
-    named(b": given ", t.given);
-    named(b", refused ", t.refused);
-    named(b", by 19 ", t.off_bench);
-    named(b", different ", t.different);
-    text(b"\n");
+fn print_tally(rt: &impl Print, name: &[u8], t: Tally) -> io::Result<()> {
+    text(rt, name)?;
+    named(rt, b": given ", t.given)?;
+    named(rt, b", refused ", t.refused)?;
+    named(rt, b", by 19 ", t.off_bench)?;
+    named(rt, b", different ", t.different)?;
+    text(rt, b"\n")
 }
 
-fn print_totals(name: &[u8], trials: u32, t: Totals) {
-    text(name);
-    named(b", trials ", trials);
-    text(b"\n");
-    print_tally(b"bound", t.bound);
-    print_tally(b"draw", t.draw);
-    print_tally(b"judge", t.judge);
+fn print_totals(rt: &impl Print, name: &[u8], trials: u32, t: Totals) -> io::Result<()> {
+    text(rt, name)?;
+    named(rt, b", trials ", trials)?;
+    text(rt, b"\n")?;
+    print_tally(rt, b"bound", t.bound)?;
+    print_tally(rt, b"draw", t.draw)?;
+    print_tally(rt, b"judge", t.judge)
 }
 
-fn main() {
+fn main(rt: HostRuntime) -> io::Result<()> {
     print_totals(
+        &rt,
         b"every order up to 3 by 3",
         SMALL_TRIALS,
         all_trials(true, SMALL_TRIALS),
-    );
+    )?;
     print_totals(
+        &rt,
         b"made up, up to 129 by 129",
         MADE_UP,
         all_trials(false, MADE_UP),
-    );
+    )
 }

@@ -8,6 +8,7 @@ ghost use Rattle.corner.specs.Corner.{Inside};
 ghost use Rattle.corner.specs.Drawn.{InBytes};
 
 use grid::{Cell, panel_of};
+use std::io;
 use trial::PITCH;
 use trial::cells::{Order, filled, is_track};
 use trial::print::{named, text};
@@ -129,10 +130,10 @@ fn every() -> Tally {
     sum
 }
 
-fn main() {
+fn main(rt: HostRuntime) -> io::Result<()> {
     let sum = every();
-    named(b"tracks ", sum.tracks);
-    named(b"\ncells ", sum.cells);
-    named(b"\nwrong ", sum.wrong);
-    text(b"\n");
+    named(&rt, b"tracks ", sum.tracks)?;
+    named(&rt, b"\ncells ", sum.cells)?;
+    named(&rt, b"\nwrong ", sum.wrong)?;
+    text(&rt, b"\n")
 }

@@ -3,6 +3,7 @@ use crate::call::{Job, Told, called, same_numbers};
 use crate::log::{entries_in, put_entry};
 use crate::peer::{expected, place_in, size_refusal};
 use grid::{Cell, Panel, area_of, panel_of};
+use std::io;
 use std::num::wrapping_sub_u32;
 use trial::PITCH;
 use trial::cells::{fill, filled};
@@ -194,10 +195,13 @@ fn all_made_up(tally: &mut [u32]) {
     }
 }
 
-pub fn run() {
+pub fn run(rt: &impl Print) -> io::Result<()> {
     let mut tally = [0u32; 26];
     all_made_up(&mut tally);
-    named(b"made up, pairs of logs ", PAIRS);
-    text(b"\nrefused by 0 (none) to 21; in both, seen earlier, wrong totals, different:\n");
-    row(&tally, b"\n");
+    named(rt, b"made up, pairs of logs ", PAIRS)?;
+    text(
+        rt,
+        b"\nrefused by 0 (none) to 21; in both, seen earlier, wrong totals, different:\n",
+    )?;
+    row(rt, &tally, b"\n")
 }

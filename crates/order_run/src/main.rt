@@ -2,12 +2,13 @@
 // end and looks for no line feed: .ci/foil holds `foil`, which stops early, to what is written here.
 #![tactic(auto)]
 
-use libc::{STDIN_FILENO, STDOUT_FILENO};
+use std::io;
+use std::io::Read;
 
-fn main() {
-    let mut input = [0u8; 256];
-    let n = io::read_full(STDIN_FILENO, &mut input);
+fn main(rt: HostRuntime) -> io::Result<()> {
+    let mut input = Vec::new(rt.alloc());
+    rt.stdin().take(256).read_to_end(&mut input)?;
     let mut text = [0u8; 16512];
-    let k = order::answer(&input[..n], &mut text);
-    io::write_all(STDOUT_FILENO, &text[..k]);
+    let k = order::answer(&input, &mut text);
+    rt.write_all(&text[..k])
 }

@@ -1,8 +1,8 @@
 // Orders, lists and probes made up by a fixed sequence, and Probe on them beside the peer.
 use crate::peer::expected_sheet;
-use check::same;
 use grid::{Cell, Panel, area_of, cells_values, panel_of};
 use probe::ProbeSheet;
+use std::io;
 use trial::PITCH;
 use trial::cells::{Order, cell_at, cells_in, fill, put};
 use trial::numbers::{add, at_most, one_less, pick};
@@ -279,7 +279,7 @@ fn alike(s: ProbeSheet, expected: Sheet, one: &[u8], two: &[u8]) -> bool {
     if different(expected, s.refusal, positions, nearest, s.read.0) != 0 {
         return false;
     }
-    same(one, two)
+    one == two
 }
 
 fn probed(o: Order, list: &[u8], scratch: &mut [u8], probes: &[u8]) -> ProbeSheet {
@@ -351,27 +351,28 @@ fn all_made_up() -> Tally {
 // ---- what is printed
 
 // Each number that refused, and how often.
-fn print_refused(refused: [u32; 32]) {
+fn print_refused(rt: &impl Print, refused: [u32; 32]) -> io::Result<()> {
     let mut i = 0;
     while i < 32 {
         if refused[i] != 0 {
-            named(b"refused by ", i as u32);
-            named(b": ", refused[i]);
-            text(b"\n");
+            named(rt, b"refused by ", i as u32)?;
+            named(rt, b": ", refused[i])?;
+            text(rt, b"\n")?;
         }
         i += 1;
     }
+    Ok(())
 }
 
-pub fn run() {
+pub fn run(rt: &impl Print) -> io::Result<()> {
     let t = all_made_up();
-    named(b"made up, orders ", ORDERS);
-    named(b"\ngiven: without probes ", t.empty);
-    named(b", all found ", t.found);
-    named(b", some missed ", t.missed);
-    text(b"\n");
+    named(rt, b"made up, orders ", ORDERS)?;
+    named(rt, b"\ngiven: without probes ", t.empty)?;
+    named(rt, b", all found ", t.found)?;
+    named(rt, b", some missed ", t.missed)?;
+    text(rt, b"\n")?;
     let refused = t.refused;
-    print_refused(refused);
-    named(b"different ", t.different);
-    text(b"\n");
+    print_refused(rt, refused)?;
+    named(rt, b"different ", t.different)?;
+    text(rt, b"\n")
 }

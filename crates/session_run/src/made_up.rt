@@ -4,6 +4,7 @@ use crate::plain::{Answer, COUNT, Plain, answered, build, fits};
 use grid::{Cell, Cells, Panel, area_of, cells_values, panel_of};
 use judge::judge;
 use session::{Edited, Session, new_session};
+use std::io;
 use trial::PITCH;
 use trial::cells::{Order, cell_at, count, put, same};
 use trial::numbers::{add, at_most, below, made_up, pick};
@@ -239,13 +240,14 @@ fn order_of(code: u32) -> Order {
     }
 }
 
-pub fn run() {
+pub fn run(rt: &impl Print) -> io::Result<()> {
     let mut tally = [0u32; 8];
     for code in 0..RUNS {
         tally = try_run(code, order_of(code), tally);
     }
     text(
+        rt,
         b"made up: bulges left and right, presses, takings back; refused by 22, 23, 5; different\n",
-    );
-    row(&tally, b"\n");
+    )?;
+    row(rt, &tally, b"\n")
 }

@@ -8,6 +8,7 @@
 use bound::bound_values;
 use exit::ExitAnswer;
 use grid::{Cell, Cells, Panel, cells_values, number_of, panel_of};
+use std::io;
 use trial::PITCH;
 use trial::cells::{Order, Tally, is_track, same, tallied};
 use trial::print::{named, tally, text};
@@ -263,26 +264,26 @@ fn all_panels() -> Totals {
     t
 }
 
-fn print_class(t: Totals, class: usize) {
+fn print_class(rt: &impl Print, t: Totals, class: usize) -> io::Result<()> {
     if 7 <= class {
-        return;
+        return Ok(());
     }
-    named(b"class ", (class % 7) as u32);
-    named(b": pairs ", t.pairs[class]);
-    named(b", cells ", t.cells[class]);
-    text(b"\n");
+    named(rt, b"class ", (class % 7) as u32)?;
+    named(rt, b": pairs ", t.pairs[class])?;
+    named(rt, b", cells ", t.cells[class])?;
+    text(rt, b"\n")
 }
 
-fn main() {
+fn main(rt: HostRuntime) -> io::Result<()> {
     let t = all_panels();
-    print_class(t, 1);
-    print_class(t, 2);
-    print_class(t, 3);
-    print_class(t, 4);
-    print_class(t, 5);
-    print_class(t, 6);
-    named(b"wrong ", t.wrong);
-    text(b"\n");
-    text(b"exits: ");
-    tally(t.exits);
+    print_class(&rt, t, 1)?;
+    print_class(&rt, t, 2)?;
+    print_class(&rt, t, 3)?;
+    print_class(&rt, t, 4)?;
+    print_class(&rt, t, 5)?;
+    print_class(&rt, t, 6)?;
+    named(&rt, b"wrong ", t.wrong)?;
+    text(&rt, b"\n")?;
+    text(&rt, b"exits: ")?;
+    tally(&rt, t.exits)
 }
