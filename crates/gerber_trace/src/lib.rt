@@ -36,6 +36,7 @@ pub enum Advance {
 }
 
 // The cell that a and b would be the centre of.
+#[tactic(auto, unfolding(crate::specs::Trace::plotted))]
 fn plotted(p: Panel, a: u32, b: u32) -> Cell
     requires { GoodPanel p }
     ensures { result ≡ plotted p a b }
@@ -121,6 +122,7 @@ fn third(a: u32, b: u32) -> u32
 }
 
 // The cell beside b towards g.
+#[tactic(auto, unfolding(crate::specs::Trace::towards))]
 fn towards(b: Cell, g: Cell) -> Cell
     requires { (b.x ≤ max_side) × (b.y ≤ max_side) × (1 ≤ b.y) }
     ensures { result ≡ towards b g }
