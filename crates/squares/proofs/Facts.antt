@@ -1,6 +1,6 @@
 -- Which cells are corners.
 use mathlib.Core.Path.{◌≡◌}
-use mathlib.Core.Bool.{true, false, and_false}
+use mathlib.Core.Bool.{true, false, and-false}
 use mathlib.Core.Logic.{◌≢◌}
 use borrow.Author.Tests.{eq-eqb, ne_eqb}
 use Rattle.grid.specs.declared.Cell.{Cell}
@@ -13,7 +13,7 @@ module _ (a c : Cell) where
 
   pub in_row : a.y ≡ c.y → corner_between a c ≡ false
   unfolding corner_between
-  in_row e = simp (eq-eqb a.y c.y e, and_false)
+  in_row e = simp (eq-eqb a.y c.y e, and-false)
 
   pub bent : a.x ≢ c.x → a.y ≢ c.y → corner_between a c ≡ true
   unfolding corner_between

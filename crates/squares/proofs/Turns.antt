@@ -2,7 +2,7 @@
 use Prim.Native.Nat.{ℕ, ◌+◌, ◌≤◌, ◌<◌}
 use native.Mathlib.Omega.{arith}
 use mathlib.Core.Path.{◌≡◌, sym, ap, ◌∙◌}
-use mathlib.Core.Bool.{cond}
+use mathlib.Core.Bool.{Bool, cond}
 use mathlib.Core.List.{List, ◌∷◌}
 use lib.ListN.{length, drop, length-drop}
 use Rattle.grid.specs.declared.Cell.{Cell}
@@ -25,6 +25,11 @@ module _ (b : List ℕ) (i : ℕ) where
           cells_next b (i + 2) (omega arith)
           ∙ ap (λ (k : ℕ). cell_at b (i + 2) ∷ cells_in (drop k b)) four
           ∙ ap (λ (k : List Cell). cell_at b (i + 2) ∷ k) (cells_next b (i + 4) (omega arith))
+
+  -- the same by a test that says whether that cell is a corner
+  pub turn_counted : (r : Bool) → i + 5 < length b → r ≡ corner_between (cell_at b i) (cell_at b (i + 4))
+      → corners (cells_in (drop i b)) ≡ cond r 1 0 + corners (cells_in (drop (i + 2) b))
+  turn_counted r h e = corner_turn h ∙ ap (λ (t : Bool). cond t 1 0 + corners (cells_in (drop (i + 2) b))) (sym e)
 
   pub corner_end : length b ≤ i + 5 → corners (cells_in (drop i b)) ≡ 0
   corner_end h = omega (arith, corners_few (cells_in (drop i b)), length_cells (drop i b), length-drop i b)

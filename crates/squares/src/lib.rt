@@ -9,6 +9,7 @@ use grid::Cell;
 use list::cell_at;
 
 // Whether the cell between these two is a corner.
+#[tactic(auto, unfolding(crate::specs::Squares::corner_between))]
 pub fn corner_between(before: Cell, after: Cell) -> bool
     ensures { result ≡ corner_between before after }
 {
