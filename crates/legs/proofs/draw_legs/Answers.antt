@@ -30,7 +30,9 @@ module _ (l : List Leg) (i : ℕ) {n : ℕ} {old : List ℕ} (five : length l �
     start = start_fits (take i l) (get_or l i none ∷ []) both w
 
 pub slice_bounds-draw_leg-count : goal.slice_bounds-draw_leg-count
-slice_bounds-draw_leg-count c = start c.args.legs c.loop-i.i (search rules) c.requires.n_bound c.loop-i-test.true c.requires.room c.loop-i.invariant.1
+slice_bounds-draw_leg-count c =
+    let h = start c.args.legs c.loop-i.i (search rules) c.requires.n_bound c.loop-i-test.true c.requires.room c.loop-i.invariant.1 in
+    omega arith
 
 pub slice_bounds-draw_leg-start : goal.slice_bounds-draw_leg-start
 slice_bounds-draw_leg-start c = omega (arith, slice_bounds-draw_leg-count c)
