@@ -2,7 +2,7 @@
 use Prim.Native.Nat.{ℕ, suc, ◌+◌, ◌≤◌, max}
 use native.Mathlib.Omega.{arith}
 use mathlib.Core.Path.{◌≡◌, refl, sym, ap, ◌∙◌}
-use mathlib.Core.Bool.{Bool, true, false, cond, ◌&&◌, ◌||◌, false≢true, and_false}
+use mathlib.Core.Bool.{Bool, true, false, cond, ◌&&◌, ◌||◌, false≢true, and-false}
 use mathlib.Core.List.{List, [], ◌∷◌, ◌++◌}
 use lib.Dec.{eqb}
 use lib.ListN.{length, take, drop, take-append-drop, length-take}
@@ -85,7 +85,7 @@ unfound_none (c ∷ q) l = go (all_among q l) (among c q) refl refl (unfound_non
         by_last false = ne_eqb (1 + unfound q l) 0 (λ h. omega arith)
     go false b e f n =
         let some = eqb-false (unfound q l) 0 n in
-        ne_eqb (cond b 0 (cond (among c l) 0 1) + unfound q l) 0 (λ h. omega (arith, some)) ∙ sym (and_false (among c l))
+        ne_eqb (cond b 0 (cond (among c l) 0 1) + unfound q l) 0 (λ h. omega (arith, some)) ∙ sym (and-false (among c l))
 
 -- a probe marked: its cell is one more unless it was there
 pub unfound_marked : (q : List Cell) (c : Cell) → unfound (q ++ c ∷ []) [] ≡ unfound q [] + cond (among c q) 0 1
