@@ -4,7 +4,7 @@ use Rattle.scratch.proofs.Places.{place_in}
 use Rattle.log_entries.specs.Log.{entries_in}
 use Rattle.log_entries.proofs.Entries.{length_entries, on_entry}
 use Rattle.log_entries.proofs.Turns.{below}
-use Rattle.logs.proofs.Passing.{all_passed, passed_next}
+use Rattle.logs.proofs.Passing.{all_passed, stopped, passed_next}
 use Rattle.logs.proofs.pass.Goals as goal
 
 pub tick_of-requires : goal.tick_of-requires
@@ -29,3 +29,6 @@ loop-i-preserved c =
 
 pub returns : goal.returns
 returns c = all_passed _ _ c.loop-i.invariant (omega (arith, c.loop-i-test.false, length_entries c.args.burned.now))
+
+pub returns-then-tick-tick_of : goal.returns-then-tick-tick_of
+returns-then-tick-tick_of c = stopped _ _ c.loop-i.invariant (below c.args.burned.now _ c.loop-i-test.true) (omega (arith, c.if-tick-tick_of.true, c.tick_of.ensures))
