@@ -55,7 +55,7 @@ put_cell-requires c =
     let q = ap (λ (k : ClassCount). k.count.0) c.order_class_count-found.ensures in
     let a = same_eq _ _ (sym c.same_cell.ensures ∙ c.if-same_cell.true) in
     let g = good_order c.args.p c.args.entry c.args.exit e in
-    let room = cell_room _ _ _ _ c.order_class_count-found.result.count e q c.if-buf-cells.false a in
+    let room = cell_room c.args.p c.args.entry c.args.exit c.args.buf.now c.order_class_count-found.result.count e q (omega arith) a in
     (omega (arith, g.entry.right, g.panel.sides.widest), omega (arith, g.entry.bottom, g.panel.sides.highest), omega (arith, room))
 
 pub returns-then-same_cell : goal.returns-then-same_cell
@@ -63,7 +63,7 @@ returns-then-same_cell c =
     let e = sym c.check_order-c.ensures ∙ c.in_default.is in
     let q = ap (λ (k : ClassCount). k.count.0) c.order_class_count-found.ensures in
     let a = same_eq _ _ (sym c.same_cell.ensures ∙ c.if-same_cell.true) in
-    let both = spot_given _ _ _ _ c.order_class_count-found.result.count e q c.if-buf-cells.false a c.put_cell.ensures in
+    let both = spot_given c.args.p c.args.entry c.args.exit c.args.buf.now c.order_class_count-found.result.count e q (omega arith) a c.put_cell.ensures in
     record { draws = both.0; cells = both.1 }
 
 pub draw_longest-requires : goal.draw_longest-requires
@@ -71,12 +71,12 @@ draw_longest-requires c =
     let e = sym c.check_order-c.ensures ∙ c.in_default.is in
     let q = ap (λ (k : ClassCount). k.count.0) c.order_class_count-found.ensures in
     let d = same_ne _ _ (sym c.same_cell.ensures ∙ c.if-same_cell.false) in
-    ready c.args.p _ _ _ c.order_class_count-found.result.count e q c.if-buf-cells.false d
+    ready c.args.p c.args.entry c.args.exit c.args.buf.now c.order_class_count-found.result.count e q (omega arith) d
 
 pub returns : goal.returns
 returns c =
     let e = sym c.check_order-c.ensures ∙ c.in_default.is in
     let q = ap (λ (k : ClassCount). k.count.0) c.order_class_count-found.ensures in
     let d = same_ne _ _ (sym c.same_cell.ensures ∙ c.if-same_cell.false) in
-    let both = two_given _ _ _ _ c.order_class_count-found.result.count e q c.if-buf-cells.false d c.draw_longest.ensures in
+    let both = two_given c.args.p c.args.entry c.args.exit c.args.buf.now c.order_class_count-found.result.count e q (omega arith) d c.draw_longest.ensures in
     record { draws = both.0; cells = both.1 }
