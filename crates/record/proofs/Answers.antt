@@ -13,7 +13,7 @@ use Rattle.grid.specs.Answer.{cells_answer}
 use Rattle.grid.proofs.Answers.{read_off}
 use Rattle.grid.proofs.Facts.{clash}
 use Rattle.grid.proofs.Passed.{expect_passed, after_passed, after_rest}
-use Rattle.grid.proofs.Tests.{after_good}
+use Rattle.grid.proofs.Tests.{after_good, answer_refused}
 use Rattle.list.specs.List.{all_on}
 use Rattle.step_letters.specs.Letters.{all_known, walk_from}
 use Rattle.record_head.specs.declared.Head.{Head}
@@ -72,3 +72,7 @@ module _ (file old : List ℕ) {r : ReadAnswer} (e : r ≡ read_answer file old)
     bytes = part (λ a. (read_values a).length);
     buffer = b;
   }
+
+-- a refusal that leaves the buffer as it was
+pub refuses : (f list : List ℕ) {new : List ℕ} {r : Refusal} → check_read f list ≡ Check.Refused r → new ≡ list → Reads f list new (ReadAnswer.Refused r)
+refuses f list e same = reads f list (answer_refused ReadAnswer.Refused _ e) (same ∙ answer_refused (λ r. list) _ e)

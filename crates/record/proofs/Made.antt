@@ -1,5 +1,7 @@
 -- A head with the letters behind it is a record, and that is what Write promises.
-use Prim.Native.Nat.{ℕ, ◌+◌}
+use Prim.Native.Nat.{ℕ, ◌+◌, ◌/◌, ◌≤◌}
+use native.Mathlib.Omega.{arith}
+use mathlib.Core.Bool.{true}
 use mathlib.Core.Path.{◌≡◌, sym, ap, ◌∙◌, subst⁻¹}
 use mathlib.Core.List.{List, ◌∷◌, ◌++◌}
 use lib.ListN.{length, drop}
@@ -11,9 +13,15 @@ use Rattle.grid.specs.declared.Check.{Check}
 use Rattle.grid.specs.declared.Check.TheVariants.{Good}
 use Rattle.grid.specs.declared.BytesAnswer.TheVariants.{Refused, Given}
 use Rattle.grid.specs.Bytes.{cells_in}
+use Rattle.grid.specs.Panel.{on_panel}
 use Rattle.grid.proofs.Answers.{gives_bytes}
+use Rattle.grid.proofs.Facts.{good as is-good-panel, area_small, and_parts}
 use Rattle.grid.proofs.Tests.{after_refused, answer_good, answer_refused}
 use Rattle.list.specs.Check.{check_list}
+use Rattle.list.specs.List.{all_on, cell_at}
+use Rattle.list.proofs.Cells.{length_cells, cells_next}
+use Rattle.list.proofs.Checks.{GoodList}
+use Rattle.step_letters.proofs.Lists.{steps_and_one}
 use Rattle.step_letters.specs.Letters.{letters_from, steps_of, with_letters}
 use Rattle.record_head.specs.Head.{head_of, head_length}
 use Rattle.record.specs.Write.{record_of, record_length, check_write, Writes}
@@ -32,6 +40,20 @@ module _ (p : Panel) (s : Cell) (k : ℕ) (out : List ℕ) where
   pub record_made_lem : (l r : List Cell) → l ≡ s ∷ r → k ≡ steps_of l → with_letters head_length l headed ≡ record_of p l ++ drop (record_length l) out
   record_made_lem l r e =
       subst⁻¹ (λ (m : List Cell). k ≡ steps_of m → with_letters head_length m headed ≡ record_of p m ++ drop (record_length m) out) e (first_made r)
+
+-- a good list: how long it is, its steps, its first cell and the others, and that the first cell is on the panel
+pub few : (p : Panel) (l : List Cell) → GoodList p l → length l ≤ 16384
+few p l g = omega (arith, g.few, area_small (is-good-panel p g.panel).sides)
+
+module _ (p : Panel) (list : List ℕ) (g : GoodList p (cells_in list)) where
+  pub counted : {k : ℕ} → k + 1 ≡ length list / 2 → k ≡ steps_of (cells_in list)
+  counted e = omega (arith, e, g.some, length_cells list, steps_and_one (cells_in list) g.some)
+
+  pub split : cells_in list ≡ cell_at list 0 ∷ cells_in (drop 2 list)
+  split = cells_next list 0 (omega (arith, g.some, length_cells list))
+
+  pub first_on : on_panel p (cell_at list 0) ≡ true
+  first_on = (and_parts (on_panel p (cell_at list 0)) (all_on p (cells_in (drop 2 list))) (sym (ap (all_on p) split) ∙ g.on)).0
 
 -- the head is written, its entry the first cell, and the letters behind it
 module _ {p : Panel} {list out headed new : List ℕ} {s t : Cell} {r : List Cell} {k : ℕ} where

@@ -1,7 +1,7 @@
 -- Letters walked from the front: the cells that they lead over, one by one, into a buffer too; and that the cells of a good panel are cells
 -- of the largest, where a letter may be tried.
 use Prim.Native.Nat.{ℕ, suc, ◌+◌, ◌<◌}
-use mathlib.Core.Path.{◌≡◌, refl, ap, ◌∙◌}
+use mathlib.Core.Path.{◌≡◌, refl, sym, ap, ◌∙◌}
 use mathlib.Core.Bool.{Bool, true, false, ◌||◌, true≢false}
 use mathlib.Core.List.{List, [], ◌∷◌, ◌++◌}
 use native.Mathlib.Omega.{arith}
@@ -59,6 +59,11 @@ length_walk c (b ∷ l) = ap suc (length_walk (stepped c b) l)
 pub walk_more : (l : List ℕ) (i : ℕ) (c : Cell) {d : Cell} → i < length l → stepped c (get_or l i 0) ≡ d
     → walk_on c (drop i l) ≡ d ∷ walk_on d (drop (i + 1) l)
 walk_more l i c h e = ap (walk_on c) (drop_next 0 l i h) ∙ ap (λ (d : Cell). d ∷ walk_on d (drop (i + 1) l)) e
+
+-- where all of them are on the largest panel, that cell is, and so are those behind it
+pub next_on : (l : List ℕ) (i : ℕ) (c : Cell) {d : Cell} → i < length l → all_on largest_panel (walk_on c (drop i l)) ≡ true
+    → stepped c (get_or l i 0) ≡ d → (on_panel largest_panel d ≡ true) × (all_on largest_panel (walk_on d (drop (i + 1) l)) ≡ true)
+next_on l i c {d} h all e = and_parts (on_panel largest_panel d) _ (sym (ap (all_on largest_panel) (walk_more l i c h e)) ∙ all)
 
 -- ---- a buffer: what is still to be written from k on, up to n
 
