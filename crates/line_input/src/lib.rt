@@ -1,7 +1,7 @@
 // Reads one line into a lent buffer, for the programs that take one order from standard input.
 #![tactic(auto)]
 
-ghost use Rattle.std.specs.Prelude.{◌+◌, ◌≤◌, length, IfOk};
+ghost use Rattle.std.specs.Prelude.{◌≡◌, ◌+◌, ◌≤◌, length, IfOk};
 
 use std::io;
 use std::io::Read;
@@ -18,18 +18,21 @@ fn has_line(bytes: &[u8]) -> bool {
     false
 }
 
-// Reads once, behind the first n bytes, and gives the number of bytes read.
+// Reads once, behind the first n bytes, and gives the number of bytes read, or the input's own error.
 fn read_more(input: &mut impl Read, bytes: &mut [u8], n: usize) -> io::Result<usize>
     requires { n ≤ length bytes.old }
-    ensures { IfOk result (λ k. n + k ≤ length bytes.new) }
+    ensures within { IfOk result (λ k. n + k ≤ length bytes.new) }
+    ensures kept { length bytes.new ≡ length bytes.old }
 {
     input.read(&mut bytes[n..])
 }
 
 // Reads until a line feed, the end of the input, or a full buffer, however the input is cut into
-// pieces, and gives the number of bytes read.
+// pieces, and gives the number of bytes read. The only error is the input's own; the buffer keeps its
+// length then too, with any bytes in it.
 pub fn read_line(input: &mut impl Read, bytes: &mut [u8]) -> io::Result<usize>
-    ensures { IfOk result (λ n. n ≤ length bytes.new) }
+    ensures within { IfOk result (λ n. n ≤ length bytes.new) }
+    ensures kept { length bytes.new ≡ length bytes.old }
 {
     let mut n = 0;
     while n < bytes.len() {
