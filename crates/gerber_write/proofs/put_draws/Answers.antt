@@ -27,15 +27,15 @@ put_turn-next-requires-clause-good_panel c = (c.requires.plottable.0.panel, next
 pub put_turn-next-requires-clause-i_in_bounds_2 : goal.put_turn-next-requires-clause-i_in_bounds_2
 put_turn-next-requires-clause-i_in_bounds_2 c =
     let l = c.loop-i in
-    room_first (parts c.args.p c.args.list.now l.i l.invariant.3 c.loop-i-test.true)
+    room_first (parts c.args.p c.args.list.now l.i l.invariant.3 (omega (arith, c.loop-i-test.true)))
 
 pub loop-i-preserved : goal.loop-i-preserved
 loop-i-preserved c =
     let l = c.loop-i in (
-      place_next l.invariant.0 c.loop-i-test.true,
+      place_next l.invariant.0 (omega (arith, c.loop-i-test.true)),
       c.put_turn-next.auto.scratch ∙ l.invariant.1,
       c.put_turn-next.auto.out ∙ l.invariant.2,
-      left_next l.invariant.3 (parts c.args.p c.args.list.now l.i l.invariant.3 c.loop-i-test.true) c.put_turn-next.ensures,
+      left_next l.invariant.3 (parts c.args.p c.args.list.now l.i l.invariant.3 (omega (arith, c.loop-i-test.true))) c.put_turn-next.ensures,
     )
 
 pub put_last-requires-clause-good_panel : goal.put_last-requires-clause-good_panel
@@ -45,9 +45,9 @@ put_last-requires-clause-good_panel c =
 pub put_last-requires-clause-end_line_in_bounds : goal.put_last-requires-clause-end_line_in_bounds
 put_last-requires-clause-end_line_in_bounds c =
     let l = c.loop-i in
-    omega (arith, l.invariant.3.fits, ap length (ends c.args.p c.args.list.now l.i c.cell_at.ensures c.loop-i-test.false))
+    omega (arith, l.invariant.3.fits, ap length (ends c.args.p c.args.list.now l.i c.cell_at.ensures (omega (arith, c.loop-i-test.false))))
 
 pub returns : goal.returns
 returns c =
     let l = c.loop-i in
-    l.invariant.3.then (through_is c.put_last.ensures (ends c.args.p c.args.list.now l.i c.cell_at.ensures c.loop-i-test.false))
+    l.invariant.3.then (through_is c.put_last.ensures (ends c.args.p c.args.list.now l.i c.cell_at.ensures (omega (arith, c.loop-i-test.false))))
