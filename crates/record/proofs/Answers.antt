@@ -1,6 +1,6 @@
 -- What a passed check of a record says, what the answer of a part of Read says of the check, and Read's promise from answer and buffer.
 use Prim.Native.Nat.{ℕ, ◌+◌}
-use mathlib.Core.Path.{◌≡◌, refl, ap, ap₂, ◌∙◌}
+use mathlib.Core.Path.{◌≡◌, ◌∙◌}
 use mathlib.Core.Bool.{true}
 use mathlib.Core.List.{List}
 use lib.ListN.{length}
@@ -13,11 +13,10 @@ use Rattle.grid.specs.Answer.{cells_answer}
 use Rattle.grid.proofs.Answers.{read_off}
 use Rattle.grid.proofs.Facts.{clash}
 use Rattle.grid.proofs.Passed.{expect_passed, after_passed, after_rest}
-use Rattle.grid.proofs.Tests.{after_good, answer_refused}
+use Rattle.grid.proofs.Tests.{answer_refused}
 use Rattle.list.specs.List.{all_on}
-use Rattle.step_letters.specs.Letters.{all_known, walk_from}
-use Rattle.record_head.specs.declared.Head.{Head}
-use Rattle.record_head.specs.Head.{head_length, panel_in, entry_in, steps_in, head_in, letters_in, check_head}
+use Rattle.step_letters.specs.Letters.{all_known}
+use Rattle.record_head.specs.Head.{head_length, panel_in, entry_in, steps_in, letters_in, check_head}
 use Rattle.record_head.proofs.Heads.{GoodHead, head_good}
 use Rattle.record.specs.declared.ReadAnswer.{ReadAnswer}
 use Rattle.record.specs.declared.ReadAnswer.TheVariants.{Refused, Given}
@@ -37,14 +36,6 @@ record_good f e =
       letters = expect_passed (all_known (letters_in f)) _ _ (after_passed (check_known (letters_in f)) _ k);
       cells = expect_passed (all_on (panel_in f) (cells_read f)) _ _ (after_rest (check_known (letters_in f)) _ k);
     }
-
--- behind a good head the letters decide
-pub behind_head : (f : List ℕ) {l : List ℕ} {h : Head} {r : CellsAnswer} → check_head f ≡ Good → h ≡ head_in f → l ≡ letters_in f
-    → r ≡ cells_answer (check_letters h.panel h.entry l) (length (walk_from h.entry l)) → r ≡ record_cells f
-behind_head f g e m a =
-    a
-    ∙ ap₂ (λ (h : Head) (l : List ℕ). cells_answer (check_letters h.panel h.entry l) (length (walk_from h.entry l))) e m
-    ∙ ap (λ (k : Check). cells_answer k (length (cells_read f))) (after_good _ g refl)
 
 -- an answer that is a refusal is the check's
 cells_refused : (c : Check) (n : ℕ) {r : Refusal} → cells_answer c n ≡ CellsAnswer.Refused r → c ≡ Check.Refused r

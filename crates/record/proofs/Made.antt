@@ -16,8 +16,7 @@ use Rattle.grid.specs.Bytes.{cells_in}
 use Rattle.grid.specs.Panel.{on_panel}
 use Rattle.grid.proofs.Answers.{gives_bytes}
 use Rattle.grid.proofs.Facts.{good as is-good-panel, area_small, and_parts}
-use Rattle.grid.proofs.Tests.{after_refused, answer_good, answer_refused}
-use Rattle.list.specs.Check.{check_list}
+use Rattle.grid.proofs.Tests.{answer_good, answer_refused}
 use Rattle.list.specs.List.{all_on, cell_at}
 use Rattle.list.proofs.Cells.{length_cells, cells_next}
 use Rattle.list.proofs.Checks.{GoodList}
@@ -71,7 +70,3 @@ module _ (p : Panel) (list out : List ℕ) {new : List ℕ} {r : Refusal} where
   -- a refusal that leaves the buffer as it was
   pub refused : check_write p list out ≡ Check.Refused r → new ≡ out → Writes p list out new (Refused r)
   refused e same = record { gives = gives_bytes _ _ (answer_refused Refused _ e); buffer = same ∙ answer_refused (λ r. out) _ e }
-
-  -- a refusal of the list, whatever the buffer
-  pub list_refused : check_list p list ≡ Check.Refused r → new ≡ out → Writes p list out new (Refused r)
-  list_refused e = refused (sym (after_refused _ e))
