@@ -27,4 +27,4 @@ loop-i-preserved c =
     )
 
 pub returns : goal.returns
-returns c = omega (arith, corner_end c.args.list.now c.loop-i.i c.loop-i-test.false, c.loop-i.invariant.1)
+returns c = omega (arith, corner_end c.args.list.now c.loop-i.i (omega arith), c.loop-i.invariant.1)
