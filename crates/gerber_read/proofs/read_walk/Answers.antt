@@ -55,13 +55,13 @@ returns-then-count-lt2 c =
     let a = c.args in
     let h = c.requires in
     let F = a.file.now in
-    let none = several_none (led a.p F c.first_at-first.ensures c.in-At.is) (omega (arith, c.if-count-lt2.true, c.count_cells-count.ensures)) in
+    let none = several_none (led a.p F c.first_at-first.ensures c.in-At.is) (omega (arith, c.count_cells-count.ensures)) in
     file_refused a.p F a.list.now h.0 (none ∙ all a.p F c.first_at-first.ensures c.in-At.is h.1) refl
 
 pub overflow_mul-count : goal.overflow_mul-count
 overflow_mul-count c =
     let h = c.requires in
-    let n = few c.args.p c.args.file.now c.first_at-first.ensures c.in-At.is h.1 c.count_cells-count.ensures c.if-count-lt2.false h.0 in
+    let n = few c.args.p c.args.file.now c.first_at-first.ensures c.in-At.is h.1 c.count_cells-count.ensures (omega arith) h.0 in
     omega (arith, n)
 
 pub returns-then-list-count : goal.returns-then-list-count
@@ -70,7 +70,7 @@ returns-then-list-count c =
     let h = c.requires in
     let F = a.file.now in
     let size = c.count_cells-count.ensures in
-    short_refused a.p F a.list.now h.0 _ (found a.p F c.first_at-first.ensures c.in-At.is h.1 size c.if-count-lt2.false)
+    short_refused a.p F a.list.now h.0 _ (found a.p F c.first_at-first.ensures c.in-At.is h.1 size (omega arith))
     (omega (arith, c.if-list-count.true, size)) refl
 
 pub write_cells-requires-clause-good_panel : goal.write_cells-requires-clause-good_panel
@@ -79,7 +79,7 @@ write_cells-requires-clause-good_panel c = (c.requires.0, first_on c.args.p c.ar
 pub overflow_cast-cells : goal.overflow_cast-cells
 overflow_cast-cells c =
     let h = c.requires in
-    let n = few c.args.p c.args.file.now c.first_at-first.ensures c.in-At.is h.1 c.count_cells-count.ensures c.if-count-lt2.false h.0 in
+    let n = few c.args.p c.args.file.now c.first_at-first.ensures c.in-At.is h.1 c.count_cells-count.ensures (omega arith) h.0 in
     omega (arith, n)
 
 pub returns : goal.returns
@@ -88,5 +88,5 @@ returns c =
     let h = c.requires in
     let F = a.file.now in
     let size = c.count_cells-count.ensures in
-    given_list a.p F a.list.now h.0 _ (found a.p F c.first_at-first.ensures c.in-At.is h.1 size c.if-count-lt2.false) size
+    given_list a.p F a.list.now h.0 _ (found a.p F c.first_at-first.ensures c.in-At.is h.1 size (omega arith)) size
     (omega (arith, c.if-list-count.false, size)) c.write_cells.ensures
