@@ -189,8 +189,8 @@ fn try_both(
 ) -> Tally {
     let a = lent(large, o, list, one, size);
     let b = lent(bench, o, list, two, size);
-    let equal = one == two;
-    let kept = two == before;
+    let equal = &*one == &*two;
+    let kept = &*two == before;
     tallied(t, o.panel, a, b, equal, kept)
 }
 
