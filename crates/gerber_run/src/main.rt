@@ -574,7 +574,8 @@ fn round(list: &mut [u8]) {
 fn large_case(rt: &impl Print, list: &[u8]) -> io::Result<()> {
     let mut out = [FILL; 442500];
     let mut back = [FILL; 32800];
-    both_ways(rt, panel_of(128, 128, 10000), list, &mut out, &mut back)
+    both_ways(rt, panel_of(128, 128, 10000), list, &mut out, &mut back)?;
+    Ok(())
 }
 
 // The longest lists, with the fewest lines and with the most, and one that is a cell longer.
