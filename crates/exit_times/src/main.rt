@@ -134,7 +134,7 @@ fn say_case(rt: &(impl CpuClock + Eprint), c: Case, scanned: bool) -> io::Result
     let calls = calls_of(rt, c, scanned);
     let t = shortest(rt, c, calls, scanned);
     say_time(rt, each(t, calls), t.sum)?;
-    say(rt, " ")
+    say(rt, b" ")
 }
 
 // ---- cases
@@ -167,7 +167,7 @@ fn try_case(
     tally(rt, compared(c))?;
     say_case(rt, c, false)?;
     say_case(rt, c, true)?;
-    say(rt, "\n")
+    say(rt, b"\n")
 }
 
 // A count that no cell fits, all cells, and one fewer; then panels of three columns and of three rows,

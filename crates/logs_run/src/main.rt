@@ -37,7 +37,7 @@ const ENTRIES: usize = 1024;
 // The time of what began at `start`.
 fn say_turn(
     rt: &(impl CpuClock + Eprint),
-    name: &str,
+    name: &[u8],
     j: Job,
     start: u64,
     t: Told,
@@ -48,7 +48,7 @@ fn say_turn(
     }
     say(rt, name)?;
     say_time(rt, turn.micros, turn.sum)?;
-    say(rt, "\n")
+    say(rt, b"\n")
 }
 
 fn try_peer(
@@ -60,7 +60,7 @@ fn try_peer(
 ) -> io::Result<()> {
     let start = micros(rt);
     let e = expected(j, burned, seen);
-    say_turn(rt, "peer ", j, start, e)?;
+    say_turn(rt, b"peer ", j, start, e)?;
     if !same_numbers(t, e) {
         text(rt, b"the peer differs\n")?;
     }
@@ -77,7 +77,7 @@ fn try_job(
     fill(scratch, 255);
     let start = micros(rt);
     let t = called(j, burned, seen, scratch);
-    say_turn(rt, "compare ", j, start, t)?;
+    say_turn(rt, b"compare ", j, start, t)?;
     let zeros = count(scratch, 0);
     let kept = count(scratch, 255);
     row(

@@ -143,7 +143,7 @@ fn shortest(
 // In nanoseconds.
 fn say_way(
     rt: &(impl CpuClock + Eprint),
-    name: &str,
+    name: &[u8],
     way: Way,
     o: Order,
     list: &[u8],
@@ -158,16 +158,16 @@ fn say_way(
 
 fn say_times(
     rt: &(impl CpuClock + Eprint),
-    name: &str,
+    name: &[u8],
     o: Order,
     list: &[u8],
     probes: &[u8],
 ) -> io::Result<()> {
     say(rt, name)?;
-    say_way(rt, ": judge ", Way::Judge, o, list, probes)?;
-    say_way(rt, ", probe ", Way::Probe, o, list, probes)?;
-    say_way(rt, ", plain ", Way::Plain, o, list, probes)?;
-    say(rt, "\n")
+    say_way(rt, b": judge ", Way::Judge, o, list, probes)?;
+    say_way(rt, b", probe ", Way::Probe, o, list, probes)?;
+    say_way(rt, b", plain ", Way::Plain, o, list, probes)?;
+    say(rt, b"\n")
 }
 
 // ---- what both give
@@ -185,13 +185,13 @@ fn found_in(positions: [u32; 64]) -> u32 {
     n
 }
 
-fn compare(rt: &impl Print, name: &str, o: Order, list: &[u8], probes: &[u8]) -> io::Result<()> {
+fn compare(rt: &impl Print, name: &[u8], o: Order, list: &[u8], probes: &[u8]) -> io::Result<()> {
     let mut scratch = [0u8; 16384];
     let s = probed(o, list, &mut scratch, probes);
     let expected = plain_sheet(o, list, &mut scratch, probes);
     let positions = s.positions;
     let nearest = s.nearest;
-    text(rt, name.as_bytes())?;
+    text(rt, name)?;
     named(rt, b": read ", s.read.0)?;
     named(rt, b", found ", found_in(positions))?;
     named(
@@ -206,7 +206,7 @@ fn compare(rt: &impl Print, name: &str, o: Order, list: &[u8], probes: &[u8]) ->
 
 fn try_case(
     rt: &(impl CpuClock + Eprint + Print),
-    name: &str,
+    name: &[u8],
     exit: Cell,
     list: &[u8],
     probes: &[u8],
@@ -223,7 +223,7 @@ fn try_case(
 // All rows, of which the last ends at (1, 128).
 fn try_all_rows(
     rt: &(impl CpuClock + Eprint + Print),
-    name: &str,
+    name: &[u8],
     probes: &[u8],
 ) -> io::Result<()> {
     let mut list = [0u8; 32768];
@@ -232,7 +232,7 @@ fn try_all_rows(
 }
 
 // All rows but the last.
-fn try_missed(rt: &(impl CpuClock + Eprint + Print), name: &str, probes: &[u8]) -> io::Result<()> {
+fn try_missed(rt: &(impl CpuClock + Eprint + Print), name: &[u8], probes: &[u8]) -> io::Result<()> {
     let mut list = [0u8; 32512];
     snake(&mut list);
     try_case(rt, name, Cell { x: 128, y: 127 }, &list, probes)
@@ -242,13 +242,13 @@ fn try_missed(rt: &(impl CpuClock + Eprint + Print), name: &str, probes: &[u8]) 
 fn spread_cells(rt: &(impl CpuClock + Eprint + Print)) -> io::Result<()> {
     let mut probes = [0u8; 128];
     spread(&mut probes);
-    try_all_rows(rt, "64 to the end", &probes)
+    try_all_rows(rt, b"64 to the end", &probes)
 }
 
 fn last_cell(rt: &(impl CpuClock + Eprint + Print)) -> io::Result<()> {
     let mut probes = [0u8; 128];
     repeat(&mut probes, Cell { x: 1, y: 128 });
-    try_all_rows(rt, "the end 64 times", &probes)
+    try_all_rows(rt, b"the end 64 times", &probes)
 }
 
 // Every second cell of the last row.
@@ -258,14 +258,14 @@ fn last_row(rt: &(impl CpuClock + Eprint + Print)) -> io::Result<()> {
         let x = 2 * i + 1;
         put(&mut probes, i, Cell { x, y: 128 });
     }
-    try_missed(rt, "64 missed", &probes)
+    try_missed(rt, b"64 missed", &probes)
 }
 
 fn main(rt: HostRuntime) -> io::Result<()> {
-    try_all_rows(&rt, "no probe", b"")?;
-    try_all_rows(&rt, "the end", b"\x01\x80")?;
+    try_all_rows(&rt, b"no probe", b"")?;
+    try_all_rows(&rt, b"the end", b"\x01\x80")?;
     spread_cells(&rt)?;
     last_cell(&rt)?;
-    try_missed(&rt, "one missed", b"\x40\x80")?;
+    try_missed(&rt, b"one missed", b"\x40\x80")?;
     last_row(&rt)
 }

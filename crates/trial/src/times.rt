@@ -58,8 +58,13 @@ pub fn each(t: Turn, calls: u32) -> u64 {
     t.micros % 1000000000 * 10000 / (calls as u64)
 }
 
-pub fn say(rt: &impl Eprint, s: &str) -> io::Result<()> {
-    rt.eprint(s)
+// ASCII bytes to standard error, whose handle prints characters.
+pub fn say(rt: &impl Eprint, s: &[u8]) -> io::Result<()> {
+    for b in s {
+        let character = char::from(*b);
+        eprint!(rt; "{character}")?;
+    }
+    Ok(())
 }
 
 // The time of a call, and the sum of its turn.
