@@ -17,8 +17,8 @@ ghost use Rattle.std.specs.Prelude.{◌<◌, ◌≤◌, length, IfOk};
 use gerber_read::read_layer;
 use gerber_write::write_layer;
 use grid::{BytesAnswer, Panel, cells_values, number_of, panel_of};
+use line_input::read_full;
 use std::io;
-use std::io::Read;
 use std::num::wrapping_add_u32;
 use trial::cells::{fill, filled, snake};
 use trial::numbers::one_less;
@@ -594,8 +594,8 @@ fn largest(rt: &impl Print) -> io::Result<()> {
 }
 
 fn main(rt: HostRuntime) -> io::Result<()> {
-    let mut input = Vec::new(rt.alloc());
-    rt.stdin().take(32768).read_to_end(&mut input)?;
-    all_lines(&rt, &input)?;
+    let mut input = [0u8; 32768];
+    let n = read_full(&mut rt.stdin(), &mut input)?;
+    all_lines(&rt, &input[..n])?;
     largest(&rt)
 }

@@ -1,4 +1,5 @@
-// Reads one line into a lent buffer, for the programs that take one order from standard input.
+// Reads one line, or all of an input, into a lent buffer, for the programs that take orders or cases from
+// standard input.
 #![tactic(auto)]
 
 ghost use Rattle.std.specs.Prelude.{◌≡◌, ◌+◌, ◌≤◌, length, IfOk};
@@ -44,6 +45,23 @@ pub fn read_line(input: &mut impl Read, bytes: &mut [u8]) -> io::Result<usize>
         if has_line(&bytes[..n]) {
             return Ok(n);
         }
+    }
+    Ok(n)
+}
+
+// Reads until the end of the input or a full buffer, and gives the number of bytes read. The only error is
+// the input's own; the buffer keeps its length then too, with any bytes in it.
+pub fn read_full(input: &mut impl Read, bytes: &mut [u8]) -> io::Result<usize>
+    ensures within { IfOk result (λ n. n ≤ length bytes.new) }
+    ensures kept { length bytes.new ≡ length bytes.old }
+{
+    let mut n = 0;
+    while n < bytes.len() {
+        let more = read_more(input, bytes, n)?;
+        if more == 0 {
+            return Ok(n);
+        }
+        n += more;
     }
     Ok(n)
 }
