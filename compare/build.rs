@@ -20,9 +20,9 @@ fn main() {
     let package = PathBuf::from(env::var_os("CARGO_MANIFEST_DIR").unwrap());
     let out = PathBuf::from(env::var_os("OUT_DIR").unwrap());
 
-    let archive = package.join("../target/staticlib");
+    let archive = package.join("../crates/host/out");
     let file = archive.join("libhost.a");
-    assert!(file.exists(), "there is no target/staticlib/libhost.a: `rt staticlib host` makes it");
+    assert!(file.exists(), "there is no crates/host/out/libhost.a: `rt lib` makes it in crates/host");
     println!("cargo:rerun-if-changed={}", file.display());
     println!("cargo:rustc-link-search=native={}", archive.display());
     println!("cargo:rustc-link-lib=static=host");

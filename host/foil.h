@@ -11,7 +11,7 @@
  * parameters for the bench cutter, foil_bench_bound, foil_bench_draw and foil_bench_judge, whose bed takes
  * 32 cells a side.
  *
- * Link with libhost.a, the archive that `rt staticlib host` writes to target/staticlib. The calls keep
+ * Link with libhost.a, the archive that `rt lib` in crates/host writes to crates/host/out. The calls keep
  * no state, call nothing but memcpy and memset, and may be made from several threads at once on different buffers.
  * Any numbers may be passed: what is wrong is refused, and nothing is written outside the buffers.
  *

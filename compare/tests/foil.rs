@@ -1,5 +1,5 @@
 //! The program `foil` beside the independent implementation: its whole text, for the track that the
-//! archive draws. `rt check foil` builds it.
+//! archive draws. `rt run` in crates/foil builds it.
 
 use compare::archive;
 use compare::directions::{letters, squares};
@@ -8,7 +8,7 @@ use compare::{bound, every_pair, Order};
 use std::io::Write;
 use std::process::{Command, Stdio};
 
-const FOIL: &str = concat!(env!("CARGO_MANIFEST_DIR"), "/../target/bin/foil");
+const FOIL: &str = concat!(env!("CARGO_MANIFEST_DIR"), "/../crates/foil/out/foil");
 
 /// What `foil` prints for an order.
 fn foil(order: &Order) -> String {
@@ -16,7 +16,7 @@ fn foil(order: &Order) -> String {
         .stdin(Stdio::piped())
         .stdout(Stdio::piped())
         .spawn()
-        .expect("target/bin/foil, which `rt check foil` builds");
+        .expect("crates/foil/out/foil, which `rt run` in crates/foil builds");
     let Order { width, height, pitch, entry, exit } = order;
     let line = format!("{width} {height} {} {} {} {} {pitch}\n", entry.0, entry.1, exit.0, exit.1);
     child.stdin.take().unwrap().write_all(line.as_bytes()).unwrap();

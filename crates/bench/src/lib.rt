@@ -1,22 +1,18 @@
 // The calls of the bench cutter, whose bed takes 32 cells a side: Bound, Draw and Judge for the panels
 // that it takes. Each is the call for large panels behind a check of its own.
+#![tactic(auto)]
+
+ghost use Rattle.std.specs.Prelude.{◌≡◌};
+ghost use Rattle.bench.specs.Bench.{fits_bench, check_bench, BenchBounds, BenchDraws, bench_buffer, BenchJudges};
+
 use bound::BoundAnswer;
-use grid::Cell;
-use grid::CellsAnswer;
-use grid::Check;
-use grid::Panel;
-use grid::Refusal;
-use grid::after;
-use grid::check_panel;
-use grid::expect;
-ghost use mathlib.Core.Path.{_≡_};
-ghost use Rattle·bench·specs.specs.Bench.{fitsBench, checkBench, BenchBounds, BenchDraws, benchBuffer, BenchJudges};
+use grid::{Cell, CellsAnswer, Check, Panel, Refusal, after, check_panel, expect};
 
 // The largest side of a panel on the bench.
 const BENCH_SIDE: u32 = 32;
 
 fn fits_bench(p: Panel) -> bool
-    ensures { λ r. ⌜ r ≡ fitsBench p ⌝ }
+    ensures { result ≡ fits_bench p }
 {
     if p.width <= BENCH_SIDE {
         p.height <= BENCH_SIDE
@@ -27,7 +23,7 @@ fn fits_bench(p: Panel) -> bool
 
 // What a bench call refuses of its panel: 1, 18, 19.
 pub fn check_bench(p: Panel) -> Check
-    ensures { λ r. ⌜ r ≡ checkBench p ⌝ }
+    ensures { result ≡ check_bench p }
 {
     let panel = check_panel(p);
     let fits = expect(fits_bench(p), Refusal::BenchSide, Check::Good);
@@ -36,7 +32,7 @@ pub fn check_bench(p: Panel) -> Check
 
 // Bound on the bench.
 pub fn bound(p: Panel, entry: Cell, exit: Cell) -> BoundAnswer
-    ensures { λ r. ⌜ BenchBounds p entry exit r ⌝ }
+    ensures { BenchBounds p entry exit result }
 {
     let c = check_bench(p);
     if let Check::Refused(r) = c {
@@ -47,8 +43,8 @@ pub fn bound(p: Panel, entry: Cell, exit: Cell) -> BoundAnswer
 
 // Draw on the bench.
 pub fn draw(p: Panel, entry: Cell, exit: Cell, buf: &mut [u8]) -> CellsAnswer
-    ensures { λ r. ⌜ BenchDraws p entry exit (now (buf .entry)) (now (buf .exit)) r ⌝ }
-    ensures cells { λ _. ⌜ now (buf .exit) ≡ benchBuffer p entry exit (now (buf .entry)) ⌝ }
+    ensures bench_draws { BenchDraws p entry exit buf.old buf.new result }
+    ensures cells { buf.new ≡ bench_buffer p entry exit buf.old }
 {
     let c = check_bench(p);
     if let Check::Refused(r) = c {
@@ -59,7 +55,7 @@ pub fn draw(p: Panel, entry: Cell, exit: Cell, buf: &mut [u8]) -> CellsAnswer
 
 // Judge on the bench.
 pub fn judge(p: Panel, entry: Cell, exit: Cell, list: &[u8], scratch: &mut [u8]) -> CellsAnswer
-    ensures { λ r. ⌜ BenchJudges p entry exit (now (list .entry)) (now (scratch .entry)) (now (scratch .exit)) r ⌝ }
+    ensures { BenchJudges p entry exit list.now scratch.old scratch.new result }
 {
     let c = check_bench(p);
     if let Check::Refused(r) = c {

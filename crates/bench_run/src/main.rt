@@ -4,23 +4,15 @@
 // and pitch are otherwise good, the bench must say 19 and leave every byte; else both answers and all bytes
 // must be equal. A line gives, for a call, how often both gave and both refused alike, how often the bench
 // said 19 as it must, and how often it did otherwise.
+#![tactic(auto)]
+
 use bound::bound_values;
-use check::same;
-use grid::Cell;
-use grid::CellsAnswer;
-use grid::Panel;
-use grid::area_of;
-use grid::cells_values;
-use grid::panel_of;
+use grid::{Cell, CellsAnswer, Panel, area_of, cells_values, panel_of};
+use std::io;
 use trial::PITCH;
 use trial::cells::Order;
-use trial::numbers::add;
-use trial::numbers::at_most;
-use trial::numbers::below;
-use trial::numbers::one_less;
-use trial::numbers::scrambled;
-use trial::print::named;
-use trial::print::text;
+use trial::numbers::{add, at_most, below, one_less, scrambled};
+use trial::print::{named, text};
 
 // More bytes than a call needs, for panels up to 3 by 3 and up to 129 by 129.
 const SMALL: usize = 20;
@@ -39,6 +31,7 @@ const SIDES: [u32; 8] = [1, 2, 3, 31, 32, 33, 128, 129];
 
 const PITCHES: [u32; 8] = [1000, 4000, 10000, 2000, 4000, 6000, 999, 10001];
 
+#[derive(Clone, Copy)]
 struct Tally {
     given: u32,
     refused: u32,
@@ -46,6 +39,7 @@ struct Tally {
     different: u32,
 }
 
+#[derive(Clone, Copy)]
 struct Totals {
     bound: Tally,
     draw: Tally,
@@ -53,6 +47,7 @@ struct Totals {
 }
 
 // The calls that are lent bytes.
+#[derive(Clone, Copy)]
 enum Call {
     Draw,
     BenchDraw,
@@ -61,6 +56,7 @@ enum Call {
 }
 
 // What a call answered.
+#[derive(Clone, Copy)]
 struct Seen {
     refusal: u32,
     class: u32,
@@ -69,6 +65,7 @@ struct Seen {
 
 // How many bytes Draw is lent, how many of them Judge then gets for its list, which of these is changed
 // between (one behind the list: none), and how many bytes of scratch Judge is lent.
+#[derive(Clone, Copy)]
 struct Sizes {
     buffer: usize,
     list: usize,
@@ -192,8 +189,8 @@ fn try_both(
 ) -> Tally {
     let a = lent(large, o, list, one, size);
     let b = lent(bench, o, list, two, size);
-    let equal = same(one, two);
-    let kept = same(two, before);
+    let equal = &*one == &*two;
+    let kept = &*two == before;
     tallied(t, o.panel, a, b, equal, kept)
 }
 
@@ -399,33 +396,35 @@ fn all_trials(small: bool, trials: u32) -> Totals {
 
 // ---- what is printed
 
-fn print_tally(name: &[u8], t: Tally) {
-    text(name);
-    named(b": given ", t.given);
-    named(b", refused ", t.refused);
-    named(b", by 19 ", t.off_bench);
-    named(b", different ", t.different);
-    text(b"\n");
+fn print_tally(rt: &impl Print, name: &[u8], t: Tally) -> io::Result<()> {
+    text(rt, name)?;
+    named(rt, b": given ", t.given)?;
+    named(rt, b", refused ", t.refused)?;
+    named(rt, b", by 19 ", t.off_bench)?;
+    named(rt, b", different ", t.different)?;
+    text(rt, b"\n")
 }
 
-fn print_totals(name: &[u8], trials: u32, t: Totals) {
-    text(name);
-    named(b", trials ", trials);
-    text(b"\n");
-    print_tally(b"bound", t.bound);
-    print_tally(b"draw", t.draw);
-    print_tally(b"judge", t.judge);
+fn print_totals(rt: &impl Print, name: &[u8], trials: u32, t: Totals) -> io::Result<()> {
+    text(rt, name)?;
+    named(rt, b", trials ", trials)?;
+    text(rt, b"\n")?;
+    print_tally(rt, b"bound", t.bound)?;
+    print_tally(rt, b"draw", t.draw)?;
+    print_tally(rt, b"judge", t.judge)
 }
 
-fn main() {
+fn main(rt: HostRuntime) -> io::Result<()> {
     print_totals(
+        &rt,
         b"every order up to 3 by 3",
         SMALL_TRIALS,
         all_trials(true, SMALL_TRIALS),
-    );
+    )?;
     print_totals(
+        &rt,
         b"made up, up to 129 by 129",
         MADE_UP,
         all_trials(false, MADE_UP),
-    );
+    )
 }

@@ -1,15 +1,15 @@
 -- Within its range the pitch does not change what Bound answers.
 use Prim.Native.Nat.{ℕ}
-use mathlib.Core.Path.{_≡_}
+use mathlib.Core.Path.{◌≡◌}
 use mathlib.Core.Bool.{true}
-use Rattle·grid.specs.declared.Cell.{Cell}
-use Rattle·grid.specs.Panel.{panel, goodPitch}
-use Rattle·grid.specs.Check.{answer}
-use Rattle·grid.proofs.Sides.{order-same}
-use Rattle·count.proofs.Sides.{order-by-sides}
-use Rattle·bound·specs.specs.declared.BoundAnswer.the-variants.{Refused, Given}
-use Rattle·bound·specs.specs.Bound.{boundOf}
+use Rattle.grid.specs.declared.Cell.{Cell}
+use Rattle.grid.specs.Panel.{panel, good_pitch}
+use Rattle.grid.specs.Check.{answer}
+use Rattle.grid.proofs.Sides.{order_same}
+use Rattle.count.proofs.Sides.{order_by_sides}
+use Rattle.bound.specs.declared.BoundAnswer.TheVariants.{Refused, Given}
+use Rattle.bound.specs.Bound.{bound_of}
 
-pub bound-same : (m n a b : ℕ) → goodPitch (panel m n a) ≡ true → goodPitch (panel m n b) ≡ true → (s t : Cell)
-    → boundOf (panel m n a) s t ≡ boundOf (panel m n b) s t
-bound-same m n a b u v s t = λ i. answer (order-same m n a b u v s t i) Refused (Given (order-by-sides m n a b s t i))
+pub bound_same : (m n a b : ℕ) → good_pitch (panel m n a) ≡ true → good_pitch (panel m n b) ≡ true → (s t : Cell)
+    → bound_of (panel m n a) s t ≡ bound_of (panel m n b) s t
+bound_same m n a b u v s t = λ i. answer (order_same m n a b u v s t i) Refused (Given (order_by_sides m n a b s t i))

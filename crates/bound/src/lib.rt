@@ -1,21 +1,22 @@
 // The call Bound: the class and the count of an order.
+#![tactic(auto)]
+
+ghost use Rattle.std.specs.Prelude.{◌≡◌};
+ghost use Rattle.bound.specs.Bound.{bound_values, Bounds};
+
 use class::order_class_count;
 use count::ClassCount;
-use grid::Cell;
-use grid::Cells;
-use grid::Check;
-use grid::Panel;
-use grid::Refusal;
-ghost use mathlib.Core.Path.{_≡_};
-ghost use Rattle·bound·specs.specs.Bound.{boundValues, Bounds};
+use grid::{Cell, Cells, Check, Panel, Refusal};
 
 // What Bound answers.
+#[derive(Clone, Copy)]
 pub enum BoundAnswer {
     Refused(Refusal),
     Given(ClassCount),
 }
 
 // The number of the refusal, 0 where nothing is refused, and class and count, 0 where refused.
+#[derive(Clone, Copy)]
 pub struct BoundValues {
     pub refusal: u32,
     pub class: u32,
@@ -23,7 +24,7 @@ pub struct BoundValues {
 }
 
 pub fn bound_values(a: BoundAnswer) -> BoundValues
-    ensures { λ r. ⌜ r ≡ boundValues a ⌝ }
+    ensures { result ≡ bound_values a }
 {
     match a {
         BoundAnswer::Refused(r) => BoundValues {
@@ -44,7 +45,7 @@ pub fn bound_values(a: BoundAnswer) -> BoundValues
 
 // The call.
 pub fn bound(p: Panel, entry: Cell, exit: Cell) -> BoundAnswer
-    ensures { λ r. ⌜ Bounds p entry exit r ⌝ }
+    ensures { Bounds p entry exit result }
 {
     let c = grid::check_order(p, entry, exit);
     if let Check::Refused(r) = c {

@@ -1,23 +1,23 @@
 -- The cells lost to the colours, from the area and the terminals' sums x + y: what the code adds up is the class and the count by colour.
-use Prim.Native.Nat.{ℕ, _+_, _-_, _%_, _≤_}
-use mathlib.Core.Path.{_≡_, refl, ap, _∙_}
+use Prim.Native.Nat.{ℕ, ◌+◌, ◌-◌, ◌%◌, ◌≤◌}
+use mathlib.Core.Path.{◌≡◌, refl, ap, ◌∙◌}
 use mathlib.Core.Bool.{Bool, true, false, cond}
 use native.Mathlib.Omega.{arith}
 use lib.Dec.{eqb}
 use borrow.Author.Tests.{eqb-true, eqb-false}
-use Rattle·grid.specs.declared.Panel.{Panel}
-use Rattle·grid.specs.declared.Cell.{Cell}
-use Rattle·grid.specs.Panel.{OnPanel, area, black}
-use Rattle·count.specs.Count.{odd, found}
-use Rattle·count.specs.ByColour.{coloured, byColour}
-use Rattle·count.proofs.Laws.{area-of-cell}
+use Rattle.grid.specs.declared.Panel.{Panel}
+use Rattle.grid.specs.declared.Cell.{Cell}
+use Rattle.grid.specs.Panel.{OnPanel, area, black}
+use Rattle.count.specs.Count.{odd, found}
+use Rattle.count.specs.ByColour.{coloured, by_colour}
+use Rattle.count.proofs.Laws.{area_of_cell}
 
 -- if the area is odd (o), and if not
 abbrev pub lost : Bool → ℕ → ℕ → ℕ
 lost o x y = cond o (x % 2 + y % 2) (1 - (x % 2 + y % 2) % 2)
 
-lost-coloured : (a x y l : ℕ) (o : Bool) → l ≡ lost o x y → found (3 + l) (a - l) ≡ coloured a o (eqb (x % 2) 1) (eqb (y % 2) 1)
-lost-coloured a x y l o e = go o (eqb (x % 2) 1) (eqb (y % 2) 1) e refl refl
+lost_coloured : (a x y l : ℕ) (o : Bool) → l ≡ lost o x y → found (3 + l) (a - l) ≡ coloured a o (eqb (x % 2) 1) (eqb (y % 2) 1)
+lost_coloured a x y l o e = go o (eqb (x % 2) 1) (eqb (y % 2) 1) e refl refl
   where
     is : (k : ℕ) → l ≡ k → found (3 + l) (a - l) ≡ found (3 + k) (a - k)
     is k = ap (λ (k : ℕ). found (3 + k) (a - k))
@@ -35,14 +35,14 @@ lost-coloured a x y l o e = go o (eqb (x % 2) 1) (eqb (y % 2) 1) e refl refl
     go false false true e f g = none (omega (arith, eqb-false (x % 2) 1 f, eqb-true (y % 2) 1 g))
     go false false false e f g = is 1 (omega (arith, eqb-false (x % 2) 1 f, eqb-false (y % 2) 1 g))
 
-module _ (p : Panel) (s t : Cell) {a l : ℕ} (e : a ≡ area p) (f : l ≡ lost (odd a) (s .x + s .y) (t .x + t .y)) where
-  pub lost-by-colour : found (3 + l) (a - l) ≡ byColour p s t
-  lost-by-colour = lost-coloured a (s .x + s .y) (t .x + t .y) l (odd a) f ∙ (λ i. coloured (e i) (odd (e i)) (black s) (black t))
+module _ (p : Panel) (s t : Cell) {a l : ℕ} (e : a ≡ area p) (f : l ≡ lost (odd a) (s.x + s.y) (t.x + t.y)) where
+  pub lost_by_colour : found (3 + l) (a - l) ≡ by_colour p s t
+  lost_by_colour = lost_coloured a (s.x + s.y) (t.x + t.y) l (odd a) f ∙ (λ i. coloured (e i) (odd (e i)) (black s) (black t))
 
   -- a panel with a black cell has two cells
-  pub lost-fits : OnPanel p s → (l ≤ 2) × (l ≤ a)
-  lost-fits o = go (odd a) f
+  pub lost_fits : OnPanel p s → (l ≤ 2) × (l ≤ a)
+  lost_fits o = go (odd a) f
     where
-      go : (o : Bool) → l ≡ lost o (s .x + s .y) (t .x + t .y) → (l ≤ 2) × (l ≤ a)
-      go true f = omega (arith, area-of-cell p s o)
-      go false f = omega (arith, area-of-cell p s o)
+      go : (o : Bool) → l ≡ lost o (s.x + s.y) (t.x + t.y) → (l ≤ 2) × (l ≤ a)
+      go true f = omega (arith, area_of_cell p s o)
+      go false f = omega (arith, area_of_cell p s o)

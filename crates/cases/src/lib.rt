@@ -1,34 +1,32 @@
 // The cases of document 01's "Class and count", each by itself: F1, F2* and F3 are equated with the tests
 // of those names in the crate `count`; C2 without F3, C0 and C1 are one sum of colours.
+#![tactic(auto)]
+
+ghost use Rattle.std.specs.Prelude.{◌≡◌, cond, not, ◌&&◌, ◌≤◌, ◌+◌, ◌-◌, ◌%◌};
+ghost use Rattle.grid.specs.Panel.{max_side, black};
+ghost use Rattle.count.specs.Count.{odd, is_end, f1, f2, f2_count, f3_apart, f3};
+ghost use Rattle.count.specs.ByColour.{by_colour};
+ghost use Rattle.cases.specs.Placed.{Placed};
+
 use count::ClassCount;
-use grid::Cell;
-use grid::Cells;
-use grid::Panel;
-use grid::area_of;
-ghost use mathlib.Core.Path.{_≡_};
-ghost use mathlib.Core.Bool.{cond, not, _&&_};
-ghost use Prim.Native.Nat.{_≤_, _+_, _-_, _%_};
-ghost use Rattle·grid.specs.Panel.{maxSide, black};
-ghost use Rattle·count.specs.Count.{odd, isEnd, f1, f2, f2Count, f3Apart, f3};
-ghost use Rattle·count.specs.ByColour.{byColour};
-ghost use Rattle·cases·specs.specs.Placed.{Placed};
+use grid::{Cell, Cells, Panel, area_of};
 
 // Whether a cell is black; the sum of any two coordinates may not fit, its parity does.
 pub fn is_black(c: Cell) -> bool
-    ensures { λ r. ⌜ r ≡ black c ⌝ }
+    ensures { result ≡ black c }
 {
     (c.x % 2 + c.y % 2) % 2 == 1
 }
 
 pub fn is_odd(k: u32) -> bool
-    ensures { λ r. ⌜ r ≡ odd k ⌝ }
+    ensures { result ≡ odd k }
 {
     k % 2 == 1
 }
 
 // Whether a is the first or the last of k.
 pub fn is_end(k: u32, a: u32) -> bool
-    ensures { λ r. ⌜ r ≡ isEnd k a ⌝ }
+    ensures { result ≡ is_end k a }
 {
     if a == 1 {
         return true;
@@ -36,8 +34,9 @@ pub fn is_end(k: u32, a: u32) -> bool
     a == k
 }
 
+#[tactic(auto, unfolding(count::specs::Count::f1))]
 pub fn is_f1(p: Panel, s: Cell, t: Cell) -> bool
-    ensures { λ r. ⌜ r ≡ f1 p s t ⌝ }
+    ensures { result ≡ f1 p s t }
 {
     if p.height != 1 {
         return false;
@@ -48,9 +47,10 @@ pub fn is_f1(p: Panel, s: Cell, t: Cell) -> bool
     true
 }
 
+#[tactic(auto, unfolding(count::specs::Count::f2))]
 pub fn is_f2(p: Panel, s: Cell, t: Cell) -> bool
-    requires { ⌜ s .x ≤ maxSide ⌝ }
-    ensures { λ r. ⌜ r ≡ f2 p s t ⌝ }
+    requires { s.x ≤ max_side }
+    ensures { result ≡ f2 p s t }
 {
     if p.height != 2 {
         return false;
@@ -66,8 +66,8 @@ pub fn is_f2(p: Panel, s: Cell, t: Cell) -> bool
 
 // The cells on one side of the terminals in two rows, or on the other, whichever is more.
 pub fn f2_count(p: Panel, s: Cell, t: Cell) -> u32
-    requires { ⌜ Placed p s t ⌝ }
-    ensures { λ r. ⌜ r ≡ f2Count (p .width) (s .x + t .x) ⌝ }
+    requires { Placed p s t }
+    ensures { result ≡ f2_count p.width (s.x + t.x) }
 {
     let sum = s.x + t.x;
     let rest = 2 * p.width - sum + 2;
@@ -75,7 +75,7 @@ pub fn f2_count(p: Panel, s: Cell, t: Cell) -> u32
 }
 
 fn black_to_white(s: Cell, t: Cell) -> bool
-    ensures { λ r. ⌜ r ≡ (black s && not (black t)) ⌝ }
+    ensures { result ≡ (black s && not (black t)) }
 {
     if is_black(s) {
         return !is_black(t);
@@ -85,8 +85,8 @@ fn black_to_white(s: Cell, t: Cell) -> bool
 
 // The x differ by 2 or more, or by 1 with both in row 2.
 fn f3_apart(s: Cell, t: Cell) -> bool
-    requires { ⌜ s .x ≤ maxSide ⌝ }
-    ensures { λ r. ⌜ r ≡ f3Apart s t ⌝ }
+    requires { s.x ≤ max_side }
+    ensures { result ≡ f3_apart s t }
 {
     if s.x + 2 <= t.x {
         return true;
@@ -100,9 +100,10 @@ fn f3_apart(s: Cell, t: Cell) -> bool
     t.y == 2
 }
 
+#[tactic(auto, unfolding(count::specs::Count::f3))]
 pub fn is_f3(p: Panel, s: Cell, t: Cell) -> bool
-    requires { ⌜ s .x ≤ maxSide ⌝ }
-    ensures { λ r. ⌜ r ≡ f3 p s t ⌝ }
+    requires { s.x ≤ max_side }
+    ensures { result ≡ f3 p s t }
 {
     if p.height != 3 {
         return false;
@@ -118,7 +119,7 @@ pub fn is_f3(p: Panel, s: Cell, t: Cell) -> bool
 
 // The cells lost to the colours: if mn is odd one for each black terminal, else one if both are alike.
 fn lost(area: u32, blacks: u32) -> u32
-    ensures { λ r. ⌜ r ≡ cond (odd area) blacks (1 - blacks % 2) ⌝ }
+    ensures { result ≡ cond (odd area) blacks (1 - blacks % 2) }
 {
     if is_odd(area) { blacks } else { 1 - blacks % 2 }
 }
@@ -126,8 +127,8 @@ fn lost(area: u32, blacks: u32) -> u32
 // The classes 3, 4 and, F3 aside, 5 lose 0, 1 and 2 cells. A sum and no tests: on random orders a jump
 // by colour would be mispredicted half of the time.
 pub fn by_colour(p: Panel, s: Cell, t: Cell) -> ClassCount
-    requires { ⌜ Placed p s t ⌝ }
-    ensures { λ r. ⌜ r ≡ byColour p s t ⌝ }
+    requires { Placed p s t }
+    ensures { result ≡ by_colour p s t }
 {
     let area = area_of(p) as u32;
     let blacks = (s.x + s.y) % 2 + (t.x + t.y) % 2;

@@ -1,45 +1,30 @@
 // Which plan a longest track is drawn by: each function gives what the definition of its name in the
 // crate plan (specs/Plan.antt) does.
-use grid::Cell;
-use grid::turn_cell;
-use plan::Plan;
-use shapes::Motion;
-use shapes::alone;
-use shapes::bridge;
-use shapes::middle;
-use shapes::motions::less;
-use shapes::motions::move_cell;
-use shapes::motions::move_plan;
-use shapes::motions::reverse_plan;
-use shapes::split;
-use shapes::wrap;
-use shapes::zigzag;
-use terminals::beside_and_odd;
-use terminals::both_at_most;
-use terminals::crossing;
-use terminals::even_and_beside;
-use terminals::is_corner;
-use terminals::is_critical;
-use terminals::is_free;
-use terminals::is_steep;
-use terminals::odd_and_critical;
-use terminals::wraps_below;
-ghost use mathlib.Core.Path.{_≡_};
-ghost use mathlib.Core.Bool.{cond};
-ghost use Prim.Native.Nat.{_≤_, _+_, _-_};
-ghost use lib.Dec.{eqb};
-ghost use Rattle·grid.specs.Panel.{turnedCell};
-ghost use Rattle·plan.specs.declared.Plan.the-variants.{One};
-ghost use Rattle·plan.specs.Leg.{cell, mirrorX, mirrorY, reversedPlan};
-ghost use Rattle·plan.specs.Plan.{moving, leftFirst, bridge, wrap, zigzag};
-ghost use Rattle·plan.specs.Plan.{steep, third};
-ghost use Rattle·plan.specs.Plan.{twoRows, threeRowsApart, threeRows, wrapped, innerSplit, edgeSplit};
-ghost use Rattle·plan.specs.Plan.{atEdge, bridged, fourRows, wide, planOf};
-ghost use Rattle·plan.specs.Small.{SmallCells, SmallOrder};
+#![tactic(auto)]
 
+ghost use Rattle.std.specs.Prelude.{◌≡◌, cond, ◌≤◌, ◌+◌, ◌-◌, eqb};
+ghost use Rattle.grid.specs.Panel.{turned_cell};
+ghost use Rattle.plan.specs.declared.Plan.TheVariants.{One};
+ghost use Rattle.plan.specs.Leg.{cell, mirror_x, mirror_y, reversed_plan};
+ghost use Rattle.plan.specs.Plan.{moving, left_first, bridge, wrap, zigzag};
+ghost use Rattle.plan.specs.Plan.{steep, third};
+ghost use Rattle.plan.specs.Plan.{two_rows, three_rows_apart, three_rows, wrapped, inner_split, edge_split};
+ghost use Rattle.plan.specs.Plan.{at_edge, bridged, four_rows, wide, plan_of};
+ghost use Rattle.plan.specs.Small.{SmallCells, SmallOrder};
+
+use grid::{Cell, turn_cell};
+use plan::Plan;
+use shapes::motions::{less, move_cell, move_plan, reverse_plan};
+use shapes::{Motion, alone, bridge, middle, split, wrap, zigzag};
+use terminals::{
+    beside_and_odd, both_at_most, crossing, even_and_beside, is_corner, is_critical, is_free,
+    is_steep, odd_and_critical, wraps_below,
+};
+
+#[tactic(auto, unfolding(plan::specs::Plan::two_rows))]
 fn two_rows(m: u32, s: Cell, t: Cell) -> Plan
-    requires { ⌜ SmallOrder m 2 s t ⌝ }
-    ensures { λ r. ⌜ r ≡ twoRows m s t ⌝ }
+    requires { SmallOrder m 2 s t }
+    ensures { result ≡ two_rows m s t }
 {
     let other = less(3, s.y);
     if s.y == t.y {
@@ -56,15 +41,16 @@ fn two_rows(m: u32, s: Cell, t: Cell) -> Plan
 }
 
 fn third(s: Cell, t: Cell) -> u32
-    requires { ⌜ SmallCells s t ⌝ }
-    ensures { λ r. ⌜ r ≡ third s t ⌝ }
+    requires { SmallCells s t }
+    ensures { result ≡ third s t }
 {
     less(6, s.y + t.y)
 }
 
+#[tactic(auto, unfolding(plan::specs::Plan::three_rows_apart))]
 fn three_rows_apart(m: u32, s: Cell, t: Cell) -> Plan
-    requires { ⌜ SmallOrder m 3 s t ⌝ }
-    ensures { λ r. ⌜ r ≡ threeRowsApart m s t ⌝ }
+    requires { SmallOrder m 3 s t }
+    ensures { result ≡ three_rows_apart m s t }
 {
     if is_steep(s, t) {
         return zigzag(m, s, t, third(s, t));
@@ -77,17 +63,18 @@ fn three_rows_apart(m: u32, s: Cell, t: Cell) -> Plan
 
 // The zigzag of the mirrored panel, mirrored in x.
 fn mirrored_zigzag(m: u32, s: Cell, t: Cell) -> Plan
-    requires { ⌜ SmallOrder m 3 s t ⌝ }
-    ensures { λ r. ⌜ r ≡ moving (mirrorX m) (λ a b. zigzag m a b (third s t)) s t ⌝ }
+    requires { SmallOrder m 3 s t }
+    ensures { result ≡ moving (mirror_x m) (λ a b. zigzag m a b (third s t)) s t }
 {
     let mirror = Motion::MirrorX(m + 1);
     let p = zigzag(m, move_cell(mirror, s), move_cell(mirror, t), third(s, t));
     move_plan(mirror, p)
 }
 
+#[tactic(auto, unfolding(plan::specs::Plan::three_rows))]
 fn three_rows(m: u32, s: Cell, t: Cell) -> Plan
-    requires { ⌜ SmallOrder m 3 s t ⌝ }
-    ensures { λ r. ⌜ r ≡ threeRows m s t ⌝ }
+    requires { SmallOrder m 3 s t }
+    ensures { result ≡ three_rows m s t }
 {
     if !is_critical(m, s, t) {
         return three_rows_apart(m, s, t);
@@ -103,17 +90,18 @@ fn three_rows(m: u32, s: Cell, t: Cell) -> Plan
 
 // The wrap of the panel mirrored in y, mirrored.
 fn flipped_wrap(m: u32, n: u32, s: Cell, t: Cell) -> Plan
-    requires { ⌜ SmallOrder m n s t ⌝ }
-    ensures { λ r. ⌜ r ≡ moving (mirrorY n) (wrap m n) s t ⌝ }
+    requires { SmallOrder m n s t }
+    ensures { result ≡ moving (mirror_y n) (wrap m n) s t }
 {
     let mirror = Motion::MirrorY(n + 1);
     let p = wrap(m, n, move_cell(mirror, s), move_cell(mirror, t));
     move_plan(mirror, p)
 }
 
+#[tactic(auto, unfolding(plan::specs::Plan::wrapped))]
 fn wrapped(m: u32, n: u32, s: Cell, t: Cell) -> Plan
-    requires { ⌜ SmallOrder m n s t ⌝ }
-    ensures { λ r. ⌜ r ≡ wrapped m n s t ⌝ }
+    requires { SmallOrder m n s t }
+    ensures { result ≡ wrapped m n s t }
 {
     if wraps_below(n, s) {
         return flipped_wrap(m, n, s, t);
@@ -121,9 +109,10 @@ fn wrapped(m: u32, n: u32, s: Cell, t: Cell) -> Plan
     wrap(m, n, s, t)
 }
 
+#[tactic(auto, unfolding(plan::specs::Plan::inner_split))]
 fn inner_split(m: u32, n: u32, s: Cell, t: Cell) -> Plan
-    requires { ⌜ SmallOrder m n s t ⌝ }
-    ensures { λ r. ⌜ r ≡ innerSplit m n s t ⌝ }
+    requires { SmallOrder m n s t }
+    ensures { result ≡ inner_split m n s t }
 {
     if s.x < 2 {
         return split(m, n, s, t, 2, crossing(n, s, t, 2));
@@ -132,26 +121,28 @@ fn inner_split(m: u32, n: u32, s: Cell, t: Cell) -> Plan
 }
 
 // s in column 1, t in column 2, t below s: split by rows, over the last column.
+#[tactic(auto, unfolding(plan::specs::Plan::edge_split))]
 fn edge_split(m: u32, n: u32, s: Cell, t: Cell) -> Plan
-    requires { ⌜ SmallOrder m n s t ⌝ }
-    ensures { λ r. ⌜ r ≡ edgeSplit m n s t ⌝ }
+    requires { SmallOrder m n s t }
+    ensures { result ≡ edge_split m n s t }
 {
     let p = split(n, m, turn_cell(s), turn_cell(t), s.y, m);
     move_plan(Motion::Turn, p)
 }
 
 fn flipped_edge_split(m: u32, n: u32, s: Cell, t: Cell) -> Plan
-    requires { ⌜ SmallOrder m n s t ⌝ }
-    ensures { λ r. ⌜ r ≡ moving (mirrorY n) (edgeSplit m n) s t ⌝ }
+    requires { SmallOrder m n s t }
+    ensures { result ≡ moving (mirror_y n) (edge_split m n) s t }
 {
     let mirror = Motion::MirrorY(n + 1);
     let p = edge_split(m, n, move_cell(mirror, s), move_cell(mirror, t));
     move_plan(mirror, p)
 }
 
+#[tactic(auto, unfolding(plan::specs::Plan::at_edge))]
 fn at_edge(m: u32, n: u32, s: Cell, t: Cell) -> Plan
-    requires { ⌜ SmallOrder m n s t ⌝ }
-    ensures { λ r. ⌜ r ≡ atEdge m n s t ⌝ }
+    requires { SmallOrder m n s t }
+    ensures { result ≡ at_edge m n s t }
 {
     if s.y == t.y {
         return wrapped(m, n, s, t);
@@ -164,17 +155,17 @@ fn at_edge(m: u32, n: u32, s: Cell, t: Cell) -> Plan
 
 // A split by rows: the inner split of the turned panel.
 fn turned_split(m: u32, n: u32, s: Cell, t: Cell) -> Plan
-    requires { ⌜ SmallOrder m n s t ⌝ }
-    ensures { λ r. ⌜ r ≡ moving turnedCell (innerSplit n m) s t ⌝ }
+    requires { SmallOrder m n s t }
+    ensures { result ≡ moving turned_cell (inner_split n m) s t }
 {
     let p = inner_split(n, m, turn_cell(s), turn_cell(t));
     move_plan(Motion::Turn, p)
 }
 
 fn flipped_bridge(m: u32, n: u32, s: Cell, t: Cell, c: u32) -> Plan
-    requires { ⌜ SmallOrder m n s t ⌝ }
-    requires { ⌜ c ≤ 130 ⌝ }
-    ensures { λ r. ⌜ r ≡ moving (mirrorY n) (λ a b. bridge m n a b c) s t ⌝ }
+    requires small_order { SmallOrder m n s t }
+    requires c_bound { c ≤ 130 }
+    ensures { result ≡ moving (mirror_y n) (λ a b. bridge m n a b c) s t }
 {
     let mirror = Motion::MirrorY(n + 1);
     let p = bridge(m, n, move_cell(mirror, s), move_cell(mirror, t), c);
@@ -182,10 +173,11 @@ fn flipped_bridge(m: u32, n: u32, s: Cell, t: Cell, c: u32) -> Plan
 }
 
 // m even, n odd, s black, t white.
+#[tactic(auto, unfolding(plan::specs::Plan::bridged))]
 fn bridged(m: u32, n: u32, s: Cell, t: Cell, c: u32) -> Plan
-    requires { ⌜ SmallOrder m n s t ⌝ }
-    requires { ⌜ c ≤ 130 ⌝ }
-    ensures { λ r. ⌜ r ≡ bridged m n s t c ⌝ }
+    requires small_order { SmallOrder m n s t }
+    requires c_bound { c ≤ 130 }
+    ensures { result ≡ bridged m n s t c }
 {
     if both_at_most(3, s.y, 3, t.y) {
         return bridge(m, n, s, t, c);
@@ -201,8 +193,8 @@ fn bridged(m: u32, n: u32, s: Cell, t: Cell, c: u32) -> Plan
 
 // t in the last column, s in the one before: as at the left edge of the panel mirrored in x.
 fn at_right_edge(m: u32, n: u32, s: Cell, t: Cell) -> Plan
-    requires { ⌜ SmallOrder m n s t ⌝ }
-    ensures { λ r. ⌜ r ≡ moving (mirrorX m) (λ a b. reversedPlan (atEdge m n b a)) s t ⌝ }
+    requires { SmallOrder m n s t }
+    ensures { result ≡ moving (mirror_x m) (λ a b. reversed_plan (at_edge m n b a)) s t }
 {
     let mirror = Motion::MirrorX(m + 1);
     let p = at_edge(m, n, move_cell(mirror, t), move_cell(mirror, s));
@@ -210,9 +202,10 @@ fn at_right_edge(m: u32, n: u32, s: Cell, t: Cell) -> Plan
 }
 
 // Four rows or more, s left of t and no further from it in rows than in columns.
+#[tactic(auto, unfolding(plan::specs::Plan::four_rows))]
 fn four_rows(m: u32, n: u32, s: Cell, t: Cell) -> Plan
-    requires { ⌜ SmallOrder m n s t ⌝ }
-    ensures { λ r. ⌜ r ≡ fourRows m n s t ⌝ }
+    requires { SmallOrder m n s t }
+    ensures { result ≡ four_rows m n s t }
 {
     if t.x == 2 {
         return at_edge(m, n, s, t);
@@ -231,8 +224,8 @@ fn four_rows(m: u32, n: u32, s: Cell, t: Cell) -> Plan
 
 // The terminals named so that s is not right of t.
 fn ordered_four(m: u32, n: u32, s: Cell, t: Cell) -> Plan
-    requires { ⌜ SmallOrder m n s t ⌝ }
-    ensures { λ r. ⌜ r ≡ leftFirst (fourRows m n) s t ⌝ }
+    requires { SmallOrder m n s t }
+    ensures { result ≡ left_first (four_rows m n) s t }
 {
     if t.x < s.x {
         return reverse_plan(four_rows(m, n, t, s));
@@ -242,9 +235,9 @@ fn ordered_four(m: u32, n: u32, s: Cell, t: Cell) -> Plan
 
 // The leg from a corner of the panel.
 fn from_corner(m: u32, n: u32, s: Cell, t: Cell, back: bool) -> Plan
-    requires { ⌜ m ≤ 128 ⌝ }
-    requires { ⌜ n ≤ 128 ⌝ }
-    ensures { λ r. ⌜ r ≡ One (record { a = s; b = cell (m + 1 - s .x) (n + 1 - s .y); t = t; back = back }) ⌝ }
+    requires m_bound { m ≤ 128 }
+    requires n_bound { n ≤ 128 }
+    ensures { result ≡ One (record { a = s; b = cell (m + 1 - s.x) (n + 1 - s.y); t = t; back = back }) }
 {
     let x = less(m + 1, s.x);
     let y = less(n + 1, s.y);
@@ -253,8 +246,8 @@ fn from_corner(m: u32, n: u32, s: Cell, t: Cell, back: bool) -> Plan
 
 // The panel turned, so that the terminals are no further apart in rows than in columns.
 fn turned_four(m: u32, n: u32, s: Cell, t: Cell) -> Plan
-    requires { ⌜ SmallOrder m n s t ⌝ }
-    ensures { λ r. ⌜ r ≡ moving turnedCell (leftFirst (fourRows n m)) s t ⌝ }
+    requires { SmallOrder m n s t }
+    ensures { result ≡ moving turned_cell (left_first (four_rows n m)) s t }
 {
     let p = ordered_four(n, m, turn_cell(s), turn_cell(t));
     move_plan(Motion::Turn, p)
@@ -262,8 +255,8 @@ fn turned_four(m: u32, n: u32, s: Cell, t: Cell) -> Plan
 
 // m not less than n, s not right of t, three rows or more, and no terminal in a corner.
 fn inner(m: u32, n: u32, s: Cell, t: Cell) -> Plan
-    requires { ⌜ SmallOrder m n s t ⌝ }
-    ensures { λ r. ⌜ r ≡ cond (eqb n 3) (threeRows m s t) (cond (steep s t) (moving turnedCell (leftFirst (fourRows n m)) s t) (fourRows m n s t)) ⌝ }
+    requires { SmallOrder m n s t }
+    ensures { result ≡ cond (eqb n 3) (three_rows m s t) (cond (steep s t) (moving turned_cell (left_first (four_rows n m)) s t) (four_rows m n s t)) }
 {
     if n == 3 {
         return three_rows(m, s, t);
@@ -275,9 +268,10 @@ fn inner(m: u32, n: u32, s: Cell, t: Cell) -> Plan
 }
 
 // m not less than n, s not right of t.
+#[tactic(auto, unfolding(plan::specs::Plan::wide))]
 fn wide(m: u32, n: u32, s: Cell, t: Cell) -> Plan
-    requires { ⌜ SmallOrder m n s t ⌝ }
-    ensures { λ r. ⌜ r ≡ wide m n s t ⌝ }
+    requires { SmallOrder m n s t }
+    ensures { result ≡ wide m n s t }
 {
     if n == 1 {
         return alone(s, t, t, false);
@@ -295,8 +289,8 @@ fn wide(m: u32, n: u32, s: Cell, t: Cell) -> Plan
 }
 
 fn ordered_wide(m: u32, n: u32, s: Cell, t: Cell) -> Plan
-    requires { ⌜ SmallOrder m n s t ⌝ }
-    ensures { λ r. ⌜ r ≡ leftFirst (wide m n) s t ⌝ }
+    requires { SmallOrder m n s t }
+    ensures { result ≡ left_first (wide m n) s t }
 {
     if t.x < s.x {
         return reverse_plan(wide(m, n, t, s));
@@ -304,9 +298,10 @@ fn ordered_wide(m: u32, n: u32, s: Cell, t: Cell) -> Plan
     wide(m, n, s, t)
 }
 
+#[tactic(auto, unfolding(plan::specs::Plan::plan_of))]
 pub fn plan_of(m: u32, n: u32, s: Cell, t: Cell) -> Plan
-    requires { ⌜ SmallOrder m n s t ⌝ }
-    ensures { λ r. ⌜ r ≡ planOf m n s t ⌝ }
+    requires { SmallOrder m n s t }
+    ensures { result ≡ plan_of m n s t }
 {
     if m < n {
         let p = ordered_wide(n, m, turn_cell(s), turn_cell(t));

@@ -1,29 +1,21 @@
 // Class and count of two different terminals: the panel turned, the terminals named, the first line that
 // fits; and of an order, whose terminals may be equal.
-use cases::by_colour;
-use cases::f2_count;
-use cases::is_f1;
-use cases::is_f2;
-use cases::is_f3;
+#![tactic(auto)]
+
+ghost use Rattle.std.specs.Prelude.{◌≡◌, ◌≤◌, min};
+ghost use Rattle.grid.specs.Panel.{GoodSides, OnPanel};
+ghost use Rattle.count.specs.Count.{decided, named, class_count};
+ghost use Rattle.count.specs.Order.{order_class_count};
+ghost use Rattle.cases.specs.Placed.{Placed};
+
+use cases::{by_colour, f2_count, is_f1, is_f2, is_f3};
 use count::ClassCount;
-use grid::Cell;
-use grid::Cells;
-use grid::Panel;
-use grid::area_of;
-use grid::same_cell;
-use grid::turn_cell;
-use grid::turn_panel;
-ghost use mathlib.Core.Path.{_≡_};
-ghost use Prim.Native.Nat.{_≤_, min};
-ghost use Rattle·grid.specs.Panel.{GoodSides, OnPanel};
-ghost use Rattle·count.specs.Count.{decided, named, classCount};
-ghost use Rattle·count.specs.Order.{orderClassCount};
-ghost use Rattle·cases.specs.Placed.{Placed};
+use grid::{Cell, Cells, Panel, area_of, same_cell, turn_cell, turn_panel};
 
 fn decide(p: Panel, s: Cell, t: Cell) -> ClassCount
-    requires { ⌜ Placed p s t ⌝ }
-    requires { ⌜ s .x ≤ t .x ⌝ }
-    ensures { λ r. ⌜ r ≡ decided p s t ⌝ }
+    requires placed { Placed p s t }
+    requires x_le_x { s.x ≤ t.x }
+    ensures { result ≡ decided p s t }
 {
     if is_f1(p, s, t) {
         return ClassCount {
@@ -46,9 +38,10 @@ fn decide(p: Panel, s: Cell, t: Cell) -> ClassCount
     by_colour(p, s, t)
 }
 
+#[tactic(auto, unfolding(count::specs::Count::named))]
 fn name_terminals(p: Panel, s: Cell, t: Cell) -> ClassCount
-    requires { ⌜ Placed p s t ⌝ }
-    ensures { λ r. ⌜ r ≡ named p s t ⌝ }
+    requires { Placed p s t }
+    ensures { result ≡ named p s t }
 {
     // Exchanged before the one call of `decide`, which is so compiled in place.
     let mut left = s;
@@ -61,9 +54,10 @@ fn name_terminals(p: Panel, s: Cell, t: Cell) -> ClassCount
 }
 
 // The definition as it stands: the panel turned, the terminals named, the first line that fits.
+#[tactic(auto, unfolding(count::specs::Count::class_count))]
 fn line_by_line(p: Panel, s: Cell, t: Cell) -> ClassCount
-    requires { ⌜ Placed p s t ⌝ }
-    ensures { λ r. ⌜ r ≡ classCount p s t ⌝ }
+    requires { Placed p s t }
+    ensures { result ≡ class_count p s t }
 {
     if p.width < p.height {
         return name_terminals(turn_panel(p), turn_cell(s), turn_cell(t));
@@ -72,7 +66,7 @@ fn line_by_line(p: Panel, s: Cell, t: Cell) -> ClassCount
 }
 
 fn shorter_side(p: Panel) -> u32
-    ensures { λ r. ⌜ r ≡ min (p .width) (p .height) ⌝ }
+    ensures { result ≡ min p.width p.height }
 {
     if p.height < p.width {
         p.height
@@ -83,11 +77,12 @@ fn shorter_side(p: Panel) -> u32
 
 // Class and count of two cells on a good panel. With more than 3 rows and columns only the colours
 // matter, which are the same turned and in either order.
+#[tactic(auto, using(count::proofs::Laws::class_by_colour))]
 pub fn class_count(p: Panel, s: Cell, t: Cell) -> ClassCount
-    requires { ⌜ GoodSides p ⌝ }
-    requires { ⌜ OnPanel p s ⌝ }
-    requires { ⌜ OnPanel p t ⌝ }
-    ensures { λ r. ⌜ r ≡ classCount p s t ⌝ }
+    requires good_sides { GoodSides p }
+    requires on_panel { OnPanel p s }
+    requires on_panel_2 { OnPanel p t }
+    ensures { result ≡ class_count p s t }
 {
     if 3 < shorter_side(p) {
         return by_colour(p, s, t);
@@ -96,11 +91,12 @@ pub fn class_count(p: Panel, s: Cell, t: Cell) -> ClassCount
 }
 
 // Class and count of an order: equal terminals are class 6, tried before class 1.
+#[tactic(auto, unfolding(count::specs::Order::order_class_count))]
 pub fn order_class_count(p: Panel, s: Cell, t: Cell) -> ClassCount
-    requires { ⌜ GoodSides p ⌝ }
-    requires { ⌜ OnPanel p s ⌝ }
-    requires { ⌜ OnPanel p t ⌝ }
-    ensures { λ r. ⌜ r ≡ orderClassCount p s t ⌝ }
+    requires good_sides { GoodSides p }
+    requires on_panel { OnPanel p s }
+    requires on_panel_2 { OnPanel p t }
+    ensures { result ≡ order_class_count p s t }
 {
     if same_cell(s, t) {
         return ClassCount {

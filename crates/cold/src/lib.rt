@@ -1,1 +1,3 @@
 // Which cells a track leaves uncovered: a theorem, without code.
+
+#![tactic(auto)]

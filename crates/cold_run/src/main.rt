@@ -3,27 +3,26 @@
 // colon, the number of such orders and how many white and how many black cells their tracks leave in all. The
 // last line says how many orders left other cells than document 02 promises, or were not drawn as a track of
 // Bound's count. Of spot heaters (class 6) nothing is promised.
+#![tactic(auto)]
+
 use bound::bound_values;
-use grid::Cell;
-use grid::Panel;
-use grid::cells_values;
-use grid::panel_of;
+use grid::{Cell, Panel, cells_values, panel_of};
+use std::io;
 use std::num::wrapping_add_u32 as add;
 use trial::PITCH;
-use trial::cells::Order;
-use trial::cells::is_track;
-use trial::cells::on;
+use trial::cells::{Order, is_track, on};
 use trial::plain::position_of;
-use trial::print::named;
-use trial::print::text;
+use trial::print::{named, text};
 
 // How many cells of each colour are left uncovered.
+#[derive(Clone, Copy)]
 struct Left {
     white: u32,
     black: u32,
 }
 
 // For each line the orders, and the cells left; and the wrong orders.
+#[derive(Clone, Copy)]
 struct Totals {
     orders: [u32; 16],
     white: [u32; 16],
@@ -190,38 +189,39 @@ fn every_order() -> Totals {
 
 // ---- the lines
 
-fn either(flag: u32, zero: &[u8], one: &[u8]) {
+fn either(rt: &impl Print, flag: u32, zero: &[u8], one: &[u8]) -> io::Result<()> {
     if flag == 0 {
-        text(zero);
+        text(rt, zero)
     } else {
-        text(one);
+        text(rt, one)
     }
 }
 
 // The line of that number, where there are such orders.
-fn show(t: Totals, i: u32) {
+fn show(rt: &impl Print, t: Totals, i: u32) -> io::Result<()> {
     let at = (i % 16) as usize;
     if t.orders[at] == 0 {
-        return;
+        return Ok(());
     }
-    named(b"class ", i / 4 + 3);
-    either(i / 2 % 2, b", mn even", b", mn odd");
-    either(i % 2, b", entry white", b", entry black");
-    named(b": orders ", t.orders[at]);
-    named(b", left white ", t.white[at]);
-    named(b", black ", t.black[at]);
-    text(b"\n");
+    named(rt, b"class ", i / 4 + 3)?;
+    either(rt, i / 2 % 2, b", mn even", b", mn odd")?;
+    either(rt, i % 2, b", entry white", b", entry black")?;
+    named(rt, b": orders ", t.orders[at])?;
+    named(rt, b", left white ", t.white[at])?;
+    named(rt, b", black ", t.black[at])?;
+    text(rt, b"\n")
 }
 
-fn show_lines(t: Totals) {
+fn show_lines(rt: &impl Print, t: Totals) -> io::Result<()> {
     for i in 0..16 {
-        show(t, i);
+        show(rt, t, i)?;
     }
+    Ok(())
 }
 
-fn main() {
+fn main(rt: HostRuntime) -> io::Result<()> {
     let t = every_order();
-    show_lines(t);
-    named(b"wrong ", t.wrong);
-    text(b"\n");
+    show_lines(&rt, t)?;
+    named(&rt, b"wrong ", t.wrong)?;
+    text(&rt, b"\n")
 }

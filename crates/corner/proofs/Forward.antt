@@ -1,29 +1,29 @@
 -- A corner track drawn line by line from its corner: what has been drawn, and the cells of the rectangle that remains, are together those of the whole.
-use Prim.Native.Nat.{ℕ, suc, _+_, _-_, _*_, _≤_, _<_}
-use mathlib.Core.Path.{_≡_, refl, sym, ap, _∙_}
+use Prim.Native.Nat.{ℕ, suc, ◌+◌, ◌-◌, ◌*◌, ◌≤◌, ◌<◌}
+use mathlib.Core.Path.{◌≡◌, refl, sym, ap, ◌∙◌}
 use mathlib.Core.Bool.{Bool, true, false}
-use mathlib.Core.List.{List, [], _++_, append-assoc}
+use mathlib.Core.List.{List, [], ◌++◌, append_assoc}
 use native.Mathlib.Omega.{arith}
 use lib.Dec.{eqb}
 use lib.ListN.{length, take, drop, length-append, length-drop}
-use borrow.Rule.Slice.PartMut.{putMid}
-use Rattle·grid.specs.declared.Cell.{Cell}
-use Rattle·grid.specs.Panel.{dist}
-use Rattle·grid.specs.Bytes.{bytes}
-use Rattle·grid.proofs.Bytes.{length-bytes}
-use Rattle·line.specs.Rectangle.{Inside, cellsBetween}
-use Rattle·line.specs.Sweep.{sweep}
-use Rattle·line.specs.Drawn.{InBytes, written}
-use Rattle·line.proofs.Frame.{first-inside, last-inside, in-bytes}
-use Rattle·line.proofs.Sweep.{length-sweep}
-use Rattle·line.proofs.Drawn.{part-behind, part-long, written-long}
-use Rattle·corner·specs.specs.declared.Peeled.{Peeled}
-use Rattle·corner·specs.specs.Corner.{trackCount}
-use Rattle·corner·specs.specs.Cells.{oneLine, peeled, cornerFrom, cornerCells}
-use Rattle·corner·specs.specs.Drawn.{Ready}
-use Rattle·corner·proofs.proofs.Chosen.{Peel}
-use Rattle·corner·proofs.proofs.First.{Only, only}
-use Rattle·corner·proofs.proofs.Track.{length-corner, one-left, more-left, peel-here}
+use borrow.Rule.Slice.PartMut.{put_mid}
+use Rattle.grid.specs.declared.Cell.{Cell}
+use Rattle.grid.specs.Panel.{dist}
+use Rattle.grid.specs.Bytes.{bytes}
+use Rattle.grid.proofs.Bytes.{length_bytes}
+use Rattle.line.specs.Rectangle.{Inside, cells_between}
+use Rattle.line.specs.Sweep.{sweep}
+use Rattle.line.specs.Drawn.{InBytes, written}
+use Rattle.line.proofs.Frame.{first_inside, last_inside, in_bytes}
+use Rattle.line.proofs.Sweep.{length_sweep}
+use Rattle.line.proofs.Drawn.{part_behind, part_long, written_long}
+use Rattle.corner.specs.declared.Peeled.{Peeled}
+use Rattle.corner.specs.Corner.{track_count}
+use Rattle.corner.specs.Cells.{one_line, peeled, corner_from, corner_cells}
+use Rattle.corner.specs.Drawn.{Ready}
+use Rattle.corner.proofs.Chosen.{Peel}
+use Rattle.corner.proofs.First.{Only, only}
+use Rattle.corner.proofs.Track.{length_corner, one_left, more_left, peel_here}
 
 -- the lines before the rectangle of a' and b' stand at the front of the buffer, `at` bytes
 pub record Begun (a b t : Cell) (old : List ℕ) (a' b' : Cell) (at : ℕ) (new : List ℕ) : Type 0 where
@@ -32,24 +32,24 @@ pub record Begun (a b t : Cell) (old : List ℕ) (a' b' : Cell) (at : ℕ) (new 
   pub target : Inside a' b' t
   pub cells : List Cell
   pub size : 2 * length cells ≡ at
-  pub counts : trackCount a b t ≡ length cells + trackCount a' b' t
+  pub counts : track_count a b t ≡ length cells + track_count a' b' t
   pub written : new ≡ bytes cells ++ drop at old
   pub turns : ℕ
-  pub enough : dist (a' .x) (b' .x) + dist (a' .y) (b' .y) < turns
-  pub whole : cornerCells a b t ≡ cells ++ cornerFrom turns a' b' t
+  pub enough : dist a'.x b'.x + dist a'.y b'.y < turns
+  pub whole : corner_cells a b t ≡ cells ++ corner_from turns a' b' t
 
 -- nothing drawn yet
 pub begun : {a b t : Cell} {old : List ℕ} → Ready a b t old → Begun a b t old a b 0 old
-unfolding cornerCells
+unfolding corner_cells
 begun {a} {b} r = record {
-  corner = r .corner;
-  opposite = r .opposite;
-  target = r .inside;
+  corner = r.corner;
+  opposite = r.opposite;
+  target = r.inside;
   cells = [];
   size = refl;
   counts = omega arith;
   written = refl;
-  turns = suc (dist (a .x) (b .x) + dist (a .y) (b .y));
+  turns = suc (dist a.x b.x + dist a.y b.y);
   enough = omega arith;
   whole = refl;
 }
@@ -57,84 +57,84 @@ begun {a} {b} r = record {
 module _ {a b t : Cell} {old : List ℕ} (ready : Ready a b t old) {a' b' : Cell} {at : ℕ} {new : List ℕ} (d : Begun a b t old a' b' at new) where
   pub long : length new ≡ length old
   long =
-      ap length (d .written) ∙ length-append (bytes (d .cells)) (drop at old)
-      ∙ omega (arith, length-bytes (d .cells), length-drop at old, d .size, d .counts, ready .room)
+      ap length d.written ∙ length-append (bytes d.cells) (drop at old)
+      ∙ omega (arith, length_bytes d.cells, length-drop at old, d.size, d.counts, ready.room)
 
   -- room for what remains
-  pub room : at + 2 * trackCount a' b' t ≤ length new
-  room = omega (arith, long, d .size, d .counts, ready .room)
+  pub room : at + 2 * track_count a' b' t ≤ length new
+  room = omega (arith, long, d.size, d.counts, ready.room)
 
   -- the part that is lent to the next lines
   abbrev lent : List ℕ
   lent = take (length new - at) (drop at new)
 
-  module _ {r : Peeled} (n : oneLine a' b' t ≡ false) (e : r ≡ peeled a' b' t) where
+  module _ {r : Peeled} (n : one_line a' b' t ≡ false) (e : r ≡ peeled a' b' t) where
     p : Peel a' b' t r
-    p = peel-here a' b' t n e (d .target)
+    p = peel_here a' b' t n e d.target
 
-    pub step : {at' : ℕ} {part : List ℕ} → at' ≡ at + 2 * r .cells .0
-        → part ≡ written (sweep (r .row) a' (r .far)) (cellsBetween a' (r .far)) lent
-        → Begun a b t old (r .corner) (r .opposite) at' (putMid at (length new - at) new part)
+    pub step : {at' : ℕ} {part : List ℕ} → at' ≡ at + 2 * r.cells.0
+        → part ≡ written (sweep r.row a' r.far) (cells_between a' r.far) lent
+        → Begun a b t old r.corner r.opposite at' (put_mid at (length new - at) new part)
     step {at'} {part} u w =
-        let lines = sweep (r .row) a' (r .far) in
-        let m = cellsBetween a' (r .far) in
-        let s = length-sweep (r .row) a' (r .far) in
-        let q : at + 2 * m ≡ at' = omega (arith, p .size, u) in
+        let lines = sweep r.row a' r.far in
+        let m = cells_between a' r.far in
+        let s = length_sweep r.row a' r.far in
+        let q : at + 2 * m ≡ at' = omega (arith, p.size, u) in
         record {
-          corner = in-bytes (d .corner) (d .opposite) (p .rest _ (first-inside _ _));
-          opposite = in-bytes (d .corner) (d .opposite) (p .rest _ (last-inside _ _));
-          target = p .target;
-          cells = d .cells ++ lines;
-          size = omega (arith, length-append (d .cells) lines, d .size, s, q);
-          counts = omega (arith, length-append (d .cells) lines, d .counts, p .counts, s, p .size);
+          corner = in_bytes d.corner d.opposite (p.rest _ (first_inside _ _));
+          opposite = in_bytes d.corner d.opposite (p.rest _ (last_inside _ _));
+          target = p.target;
+          cells = d.cells ++ lines;
+          size = omega (arith, length-append d.cells lines, d.size, s, q);
+          counts = omega (arith, length-append d.cells lines, d.counts, p.counts, s, p.size);
           written =
-              part-behind (d .cells) lines old new part at m (d .written) (d .size) (omega (arith, room)) w
-              ∙ ap (λ (i : ℕ). bytes (d .cells ++ lines) ++ drop i old) q;
-          turns = d .turns - 1;
-          enough = omega (arith, d .enough, p .less);
+              part_behind d.cells lines old new part at m d.written d.size (omega (arith, room)) w
+              ∙ ap (λ (i : ℕ). bytes (d.cells ++ lines) ++ drop i old) q;
+          turns = d.turns - 1;
+          enough = omega (arith, d.enough, p.less);
           whole =
-              d .whole ∙ ap (λ (l : List Cell). d .cells ++ l) (more-left a' b' t n e (d .turns) (omega (arith, d .enough)))
-              ∙ sym (append-assoc (d .cells) lines _);
+              d.whole ∙ ap (λ (l : List Cell). d.cells ++ l) (more_left a' b' t n e d.turns (omega (arith, d.enough)))
+              ∙ sym (append_assoc d.cells lines _);
         }
 
     -- what drawing the next lines asks for, and the numbers on the way
-    pub ask-lines : InBytes a' × (InBytes (r .far) × (2 * cellsBetween a' (r .far) ≤ length lent))
-    ask-lines = (
-      d .corner,
+    pub ask_lines : InBytes a' × (InBytes r.far × (2 * cells_between a' r.far ≤ length lent))
+    ask_lines = (
+      d.corner,
       (
-        in-bytes (d .corner) (d .opposite) (p .lines (r .far) (last-inside a' (r .far))),
-        omega (arith, part-long new at (omega (arith, room)), room, p .counts, p .size),
+        in_bytes d.corner d.opposite (p.lines r.far (last_inside a' r.far)),
+        omega (arith, part_long new at (omega (arith, room)), room, p.counts, p.size),
       ),
     )
 
-    pub line-end : at + 2 * r .cells .0 ≤ length old
-    line-end = omega (arith, room, long, p .counts)
+    pub line_end : at + 2 * r.cells.0 ≤ length old
+    line_end = omega (arith, room, long, p.counts)
 
   -- one line is left
-  module _ (y : oneLine a' b' t ≡ true) where
+  module _ (y : one_line a' b' t ≡ true) where
     abbrev row : Bool
-    row = eqb (a' .y) (t .y)
+    row = eqb a'.y t.y
 
     last : Only a' b' t row
-    last = only a' b' t (d .target) refl y
+    last = only a' b' t d.target refl y
 
-    pub ask-last : InBytes a' × (InBytes t × (2 * cellsBetween a' t ≤ length lent))
-    ask-last = (
-      d .corner,
+    pub ask_last : InBytes a' × (InBytes t × (2 * cells_between a' t ≤ length lent))
+    ask_last = (
+      d.corner,
       (
-        in-bytes (d .corner) (d .opposite) (d .target),
-        omega (arith, part-long new at (omega (arith, room)), room, last .counts),
+        in_bytes d.corner d.opposite d.target,
+        omega (arith, part_long new at (omega (arith, room)), room, last.counts),
       ),
     )
 
-    pub finish : {part : List ℕ} → part ≡ written (sweep row a' t) (cellsBetween a' t) lent
-        → putMid at (length new - at) new part ≡ written (cornerCells a b t) (trackCount a b t) old
+    pub finish : {part : List ℕ} → part ≡ written (sweep row a' t) (cells_between a' t) lent
+        → put_mid at (length new - at) new part ≡ written (corner_cells a b t) (track_count a b t) old
     finish {part} w =
-        let n : at + 2 * cellsBetween a' t ≡ 2 * trackCount a b t = omega (arith, d .size, d .counts, last .counts) in
-        let all = d .whole ∙ ap (λ (l : List Cell). d .cells ++ l) (one-left (d .turns) a' b' t (omega (arith, d .enough)) y) in
-        part-behind (d .cells) (sweep row a' t) old new part at (cellsBetween a' t) (d .written) (d .size) (omega (arith, room)) w
+        let n : at + 2 * cells_between a' t ≡ 2 * track_count a b t = omega (arith, d.size, d.counts, last.counts) in
+        let all = d.whole ∙ ap (λ (l : List Cell). d.cells ++ l) (one_left d.turns a' b' t (omega (arith, d.enough)) y) in
+        part_behind d.cells (sweep row a' t) old new part at (cells_between a' t) d.written d.size (omega (arith, room)) w
         ∙ (λ i. bytes (sym all i) ++ drop (n i) old)
 
 -- a drawing keeps the buffer's length
-pub forth-long : {a b t : Cell} {old new : List ℕ} → Ready a b t old → new ≡ written (cornerCells a b t) (trackCount a b t) old → length new ≡ length old
-forth-long {a} {b} {t} {old} r = written-long (cornerCells a b t) old (length-corner a b t (r .inside)) (r .room)
+pub forth_long : {a b t : Cell} {old new : List ℕ} → Ready a b t old → new ≡ written (corner_cells a b t) (track_count a b t) old → length new ≡ length old
+forth_long {a} {b} {t} {old} r = written_long (corner_cells a b t) old (length_corner a b t r.inside) r.room

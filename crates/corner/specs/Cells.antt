@@ -1,39 +1,36 @@
 -- Which cells a corner track has, in their order: it is taken apart (peeled) into its first lines, which sweep a rectangle from the corner a, and the
 -- corner track of the rectangle that remains.
-use Prim.Native.Nat.{ℕ, zero, suc, _+_, _-_, _*_}
-use mathlib.Core.Bool.{Bool, true, false, cond, not, _||_}
-use mathlib.Core.List.{List, [], _++_}
-use lib.Dec.{leb, ltb, eqb}
-use Rattle·grid.specs.declared.Cell.{Cell}
-use Rattle·grid.specs.Panel.{cell, dist, sameCell}
-use Rattle·line.specs.Rectangle.{ahead, turning}
-use Rattle·line.specs.Sweep.{sweep}
-use Rattle·corner·specs.specs.declared.Lines.{Lines}
-use Rattle·corner·specs.specs.declared.Peeled.{Peeled}
+use Rattle.std.specs.Prelude.{ℕ, zero, suc, ◌+◌, ◌-◌, ◌*◌, Bool, true, false, cond, not, ◌||◌, List, [], ◌++◌, leb, ltb, eqb}
+use Rattle.grid.specs.declared.Cell.{Cell}
+use Rattle.grid.specs.Panel.{cell, dist, same_cell}
+use Rattle.line.specs.Rectangle.{ahead, turning}
+use Rattle.line.specs.Sweep.{sweep}
+use Rattle.corner.specs.declared.Lines.{Lines}
+use Rattle.corner.specs.declared.Peeled.{Peeled}
 
 -- the track is one line: the rectangle has one column or one row, or the target is the corner
-abbrev pub oneLine : Cell → Cell → Cell → Bool
-oneLine a b t = eqb (a .x) (b .x) || (eqb (a .y) (b .y) || sameCell a t)
+abbrev pub one_line : Cell → Cell → Cell → Bool
+one_line a b t = eqb a.x b.x || (eqb a.y b.y || same_cell a t)
 
 -- k rows go first, or k columns
-abbrev pub rowsFirst : ℕ → Lines
-rowsFirst k = record { row = true; count = k }
+abbrev pub rows_first : ℕ → Lines
+rows_first k = record { row = true; count = k }
 
-abbrev pub columnsFirst : ℕ → Lines
-columnsFirst k = record { row = false; count = k }
+abbrev pub columns_first : ℕ → Lines
+columns_first k = record { row = false; count = k }
 
 -- the lines that go first of w columns and h rows, the target being dx columns and dy rows away: all rows up to the one before the target's, or, in two
 -- rows, all columns up to the one before the target's; else one line
 unfoldable pub chosen : ℕ → ℕ → ℕ → ℕ → Lines
 chosen w h dx dy =
-    cond (ltb 1 dy) (rowsFirst (dy - 1))
-    (cond (eqb dy 0) (columnsFirst 1)
-    (cond (eqb h 2) (cond (ltb 1 dx) (columnsFirst (dx - 1)) (rowsFirst 1))
-    (cond (eqb dx (w - 1)) (columnsFirst 1) (rowsFirst 1))))
+    cond (ltb 1 dy) (rows_first (dy - 1))
+    (cond (eqb dy 0) (columns_first 1)
+    (cond (eqb h 2) (cond (ltb 1 dx) (columns_first (dx - 1)) (rows_first 1))
+    (cond (eqb dx (w - 1)) (columns_first 1) (rows_first 1))))
 
 -- the first k of the lines q to q', each from p to p', and the rectangle that remains; E p q is the p-th cell of the q-th line
-abbrev pub linesBy : Bool → (ℕ → ℕ → Cell) → ℕ → ℕ → ℕ → ℕ → ℕ → Peeled
-linesBy row E p q p' q' k = record {
+abbrev pub lines_by : Bool → (ℕ → ℕ → Cell) → ℕ → ℕ → ℕ → ℕ → ℕ → Peeled
+lines_by row E p q p' q' k = record {
   row = row;
   far = E p' (ahead q q' (k - 1));
   end = E (turning k p p') (ahead q q' (k - 1));
@@ -48,31 +45,31 @@ abbrev pub place : Bool → ℕ → ℕ → Cell
 place true p q = cell p q
 place false p q = cell q p
 
-abbrev pub linesOff : Bool → ℕ → ℕ → ℕ → ℕ → ℕ → Peeled
-linesOff row p q p' q' k = linesBy row (place row) p q p' q' k
+abbrev pub lines_off : Bool → ℕ → ℕ → ℕ → ℕ → ℕ → Peeled
+lines_off row p q p' q' k = lines_by row (place row) p q p' q' k
 
 -- the first k rows, or else columns, of the rectangle of a and b from the corner a
-abbrev pub firstLines : Bool → Cell → Cell → ℕ → Peeled
-firstLines true a b k = linesOff true (a .x) (a .y) (b .x) (b .y) k
-firstLines false a b k = linesOff false (a .y) (a .x) (b .y) (b .x) k
+abbrev pub first_lines : Bool → Cell → Cell → ℕ → Peeled
+first_lines true a b k = lines_off true a.x a.y b.x b.y k
+first_lines false a b k = lines_off false a.y a.x b.y b.x k
 
 -- the lines that go first of the rectangle of a and b, chosen along its longer side
 unfoldable pub peeled : Cell → Cell → Cell → Peeled
 peeled a b t =
-    let w = dist (a .x) (b .x) + 1 in
-    let h = dist (a .y) (b .y) + 1 in
-    let wide = chosen w h (dist (a .x) (t .x)) (dist (a .y) (t .y)) in
-    let tall = chosen h w (dist (a .y) (t .y)) (dist (a .x) (t .x)) in
-    cond (leb h w) (firstLines (wide .row) a b (wide .count)) (firstLines (not (tall .row)) a b (tall .count))
+    let w = dist a.x b.x + 1 in
+    let h = dist a.y b.y + 1 in
+    let wide = chosen w h (dist a.x t.x) (dist a.y t.y) in
+    let tall = chosen h w (dist a.y t.y) (dist a.x t.x) in
+    cond (leb h w) (first_lines wide.row a b wide.count) (first_lines (not tall.row) a b tall.count)
 
 -- the cells of the corner track from a to t in the rectangle of a and b: those of one line, or of the lines that go first and then of what remains. Lines
 -- can be taken off at most k times.
-abbrev pub cornerFrom : ℕ → Cell → Cell → Cell → List Cell
-cornerFrom zero a b t = []
-cornerFrom (suc k) a b t =
+abbrev pub corner_from : ℕ → Cell → Cell → Cell → List Cell
+corner_from zero a b t = []
+corner_from (suc k) a b t =
     let r = peeled a b t in
-    cond (oneLine a b t) (sweep (eqb (a .y) (t .y)) a t) (sweep (r .row) a (r .far) ++ cornerFrom k (r .corner) (r .opposite) t)
+    cond (one_line a b t) (sweep (eqb a.y t.y) a t) (sweep r.row a r.far ++ corner_from k r.corner r.opposite t)
 
 -- each time a side gets shorter
-unfoldable pub cornerCells : Cell → Cell → Cell → List Cell
-cornerCells a b t = cornerFrom (suc (dist (a .x) (b .x) + dist (a .y) (b .y))) a b t
+unfoldable pub corner_cells : Cell → Cell → Cell → List Cell
+corner_cells a b t = corner_from (suc (dist a.x b.x + dist a.y b.y)) a b t

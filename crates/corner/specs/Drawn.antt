@@ -1,14 +1,12 @@
 -- What drawing a corner track asks for. What it leaves in the buffer is `written`.
-use Prim.Native.Nat.{ℕ, _*_, _≤_}
-use mathlib.Core.List.{List}
-use lib.ListN.{length}
-use Rattle·grid.specs.declared.Cell.{Cell}
-use Rattle·corner·specs.specs.Corner.{Inside, trackCount}
-pub use Rattle·line.specs.Drawn.{InBytes, written}
+use Rattle.std.specs.Prelude.{ℕ, ◌*◌, ◌≤◌, List, length}
+use Rattle.grid.specs.declared.Cell.{Cell}
+use Rattle.corner.specs.Corner.{Inside, track_count}
+pub use Rattle.line.specs.Drawn.{InBytes, written}
 
 -- a rectangle of cells in bytes, a target in it, and room for the corner track
 pub record Ready (a b t : Cell) (buf : List ℕ) : Type 0 where
   pub corner : InBytes a
   pub opposite : InBytes b
   pub inside : Inside a b t
-  pub room : 2 * trackCount a b t ≤ length buf
+  pub room : 2 * track_count a b t ≤ length buf

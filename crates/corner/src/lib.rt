@@ -1,39 +1,36 @@
 // Corner tracks: from a corner of a rectangle to any cell of it, forwards and backwards, written
 // line by line into a lent buffer. Lines that go the same way are drawn in one loop.
-use grid::Cell;
-use grid::Cells;
-use grid::distance;
-use grid::same_cell;
+#![tactic(auto)]
+
+ghost use Rattle.std.specs.Prelude.{◌≡◌, false, ◌≤◌, reverse};
+ghost use Rattle.grid.specs.Panel.{dist};
+ghost use Rattle.line.specs.Rectangle.{ahead, turning};
+ghost use Rattle.corner.specs.Corner.{Inside, track_count};
+ghost use Rattle.corner.specs.Cells.{one_line, chosen, place, lines_off, first_lines, peeled, corner_cells};
+ghost use Rattle.corner.specs.Peel.{Measured, Open, Sides, FirstSides};
+ghost use Rattle.corner.specs.Drawn.{InBytes, Ready, written};
+
+use grid::{Cell, Cells, distance, same_cell};
 use line::draw_sweep;
-ghost use mathlib.Core.Path.{_≡_};
-ghost use mathlib.Core.Bool.{false};
-ghost use Prim.Native.Nat.{_≤_};
-ghost use Rattle·grid.specs.Panel.{dist};
-ghost use Rattle·line.specs.Rectangle.{ahead, turning};
-ghost use mathlib.Core.List.{reverse};
-ghost use Rattle·corner·specs.specs.Corner.{Inside, trackCount};
-ghost use Rattle·corner·specs.specs.Cells.{oneLine, chosen, place, linesOff, firstLines, peeled, cornerCells};
-ghost use Rattle·corner·specs.specs.Peel.{Measured, Open, Sides, FirstSides};
-ghost use Rattle·corner·specs.specs.Drawn.{InBytes, Ready, written};
 
 // k steps from p towards q.
 fn move_ahead(p: u32, q: u32, k: u32) -> u32
-    requires { ⌜ (p ≤ 255) × (k ≤ dist p q) ⌝ }
-    ensures { λ r. ⌜ r ≡ ahead p q k ⌝ }
+    requires { (p ≤ 255) × (k ≤ dist p q) }
+    ensures { result ≡ ahead p q k }
 {
     if p <= q { p + k } else { p - k }
 }
 
 // Where k lines there and back between p and q end that begin at p.
 fn turn(k: u32, p: u32, q: u32) -> u32
-    ensures { λ r. ⌜ r ≡ turning k p q ⌝ }
+    ensures { result ≡ turning k p q }
 {
     if k % 2 == 0 { p } else { q }
 }
 
 // Whether the track from a to t in the rectangle of a and b is one line.
 fn one_line(a: Cell, b: Cell, t: Cell) -> bool
-    ensures { λ r. ⌜ r ≡ oneLine a b t ⌝ }
+    ensures { result ≡ one_line a b t }
 {
     if a.x == b.x {
         return true;
@@ -45,6 +42,7 @@ fn one_line(a: Cell, b: Cell, t: Cell) -> bool
 }
 
 // A rectangle of w columns and h rows, and a target dx columns and dy rows from its corner.
+#[derive(Clone, Copy)]
 struct Sizes {
     w: u32,
     h: u32,
@@ -53,8 +51,9 @@ struct Sizes {
 }
 
 fn measure(a: Cell, b: Cell, t: Cell) -> Sizes
-    requires { ⌜ InBytes a ⌝ ∗ ⌜ InBytes b ⌝ }
-    ensures { λ r. ⌜ Measured a b t r ⌝ }
+    requires fact_1 { InBytes a }
+    requires fact_2 { InBytes b }
+    ensures { Measured a b t result }
 {
     Sizes {
         w: distance(a.x, b.x) + 1,
@@ -66,8 +65,10 @@ fn measure(a: Cell, b: Cell, t: Cell) -> Sizes
 
 // The number of cells of the track from a to t in the rectangle of a and b.
 pub fn corner_count(a: Cell, b: Cell, t: Cell) -> Cells
-    requires { ⌜ InBytes a ⌝ ∗ ⌜ InBytes b ⌝ ∗ ⌜ Inside a b t ⌝ }
-    ensures { λ r. ⌜ r .0 ≡ trackCount a b t ⌝ }
+    requires fact_1 { InBytes a }
+    requires fact_2 { InBytes b }
+    requires fact_3 { Inside a b t }
+    ensures { result.0 ≡ track_count a b t }
 {
     let s = measure(a, b, t);
     if s.dx + s.dy == 0 {
@@ -85,6 +86,7 @@ pub fn corner_count(a: Cell, b: Cell, t: Cell) -> Cells
 
 // A track's first lines taken off: rows or columns of the rectangle of the corner and `far`, `cells` cells,
 // which end in `end`; backwards those of the rectangle of `end` and `home`; and the rectangle that remains.
+#[derive(Clone, Copy)]
 struct Peeled {
     row: bool,
     far: Cell,
@@ -97,7 +99,7 @@ struct Peeled {
 
 // The p-th cell of the q-th row, or else of the q-th column.
 fn place(row: bool, p: u32, q: u32) -> Cell
-    ensures { λ r. ⌜ r ≡ place row p q ⌝ }
+    ensures { result ≡ place row p q }
 {
     if row {
         Cell { x: p, y: q }
@@ -108,8 +110,8 @@ fn place(row: bool, p: u32, q: u32) -> Cell
 
 // The first k of the lines q to q2, each from p to p2.
 fn lines_off(row: bool, p: u32, q: u32, p2: u32, q2: u32, k: u32) -> Peeled
-    requires { ⌜ Sides p q p2 q2 k ⌝ }
-    ensures { λ r. ⌜ r ≡ linesOff row p q p2 q2 k ⌝ }
+    requires { Sides p q p2 q2 k }
+    ensures { result ≡ lines_off row p q p2 q2 k }
 {
     let end = turn(k, p, p2);
     let other = turn(k, p2, p);
@@ -128,8 +130,8 @@ fn lines_off(row: bool, p: u32, q: u32, p2: u32, q2: u32, k: u32) -> Peeled
 
 // The first k rows, or else columns, of the rectangle of a and b from the corner a.
 fn first_lines(row: bool, a: Cell, b: Cell, k: u32) -> Peeled
-    requires { ⌜ FirstSides row a b k ⌝ }
-    ensures { λ r. ⌜ r ≡ firstLines row a b k ⌝ }
+    requires { FirstSides row a b k }
+    ensures { result ≡ first_lines row a b k }
 {
     if row {
         lines_off(true, a.x, a.y, b.x, b.y, k)
@@ -139,6 +141,7 @@ fn first_lines(row: bool, a: Cell, b: Cell, k: u32) -> Peeled
 }
 
 // The lines that go first, of w columns and h rows: rows, or else columns, and how many.
+#[derive(Clone, Copy)]
 struct Lines {
     row: bool,
     count: u32,
@@ -157,8 +160,8 @@ const ONE_COLUMN: Lines = Lines {
 // All rows up to the one before the target's, or, in two rows, all columns up to the one before the
 // target's; else one line.
 fn choose(w: u32, h: u32, dx: u32, dy: u32) -> Lines
-    requires { ⌜ Open w h dx dy ⌝ }
-    ensures { λ r. ⌜ r ≡ chosen w h dx dy ⌝ }
+    requires { Open w h dx dy }
+    ensures { result ≡ chosen w h dx dy }
 {
     if 1 < dy {
         return Lines {
@@ -186,8 +189,11 @@ fn choose(w: u32, h: u32, dx: u32, dy: u32) -> Lines
 
 // The choice is made along the longer side, since few long lines are faster than many short ones.
 fn peel(a: Cell, b: Cell, t: Cell) -> Peeled
-    requires { ⌜ InBytes a ⌝ ∗ ⌜ InBytes b ⌝ ∗ ⌜ Inside a b t ⌝ ∗ ⌜ oneLine a b t ≡ false ⌝ }
-    ensures { λ r. ⌜ r ≡ peeled a b t ⌝ }
+    requires fact_1 { InBytes a }
+    requires fact_2 { InBytes b }
+    requires fact_3 { Inside a b t }
+    requires fact_4 { one_line a b t ≡ false }
+    ensures { result ≡ peeled a b t }
 {
     let s = measure(a, b, t);
     if s.h <= s.w {
@@ -201,8 +207,8 @@ fn peel(a: Cell, b: Cell, t: Cell) -> Peeled
 // Writes the track from the corner a to t in the rectangle of a and b at the front of the buffer: the
 // next lines go into the part of the buffer behind the lines before them.
 pub fn corner_track(a: Cell, b: Cell, t: Cell, buf: &mut [u8]) -> Cells
-    requires { ⌜ Ready a b t (now buf) ⌝ }
-    ensures { λ r. ⌜ (r .0 ≡ trackCount a b t) × (now (buf .exit) ≡ written (cornerCells a b t) (trackCount a b t) (now (buf .entry))) ⌝ }
+    requires { Ready a b t buf.old }
+    ensures { (result.0 ≡ track_count a b t) × (buf.new ≡ written (corner_cells a b t) (track_count a b t) buf.old) }
 {
     let count = corner_count(a, b, t);
     let mut corner = a;
@@ -222,8 +228,8 @@ pub fn corner_track(a: Cell, b: Cell, t: Cell, buf: &mut [u8]) -> Cells
 // The same track from t to a, written in that order: its size is known first, and the next lines go
 // before the lines drawn so far.
 pub fn corner_track_back(a: Cell, b: Cell, t: Cell, buf: &mut [u8]) -> Cells
-    requires { ⌜ Ready a b t (now buf) ⌝ }
-    ensures { λ r. ⌜ (r .0 ≡ trackCount a b t) × (now (buf .exit) ≡ written (reverse (cornerCells a b t)) (trackCount a b t) (now (buf .entry))) ⌝ }
+    requires { Ready a b t buf.old }
+    ensures { (result.0 ≡ track_count a b t) × (buf.new ≡ written (reverse (corner_cells a b t)) (track_count a b t) buf.old) }
 {
     let count = corner_count(a, b, t);
     let mut corner = a;

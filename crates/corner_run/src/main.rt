@@ -1,18 +1,19 @@
 // Draws the corner track of every rectangle up to 7 by 7, from every corner to every cell, forwards and
 // backwards, looks at the cells by a check that knows nothing of how they were drawn, and prints how many
 // tracks and cells there were and how many tracks were wrong. The rectangles begin at column 2 and row 3.
-use grid::Cell;
-use grid::panel_of;
-use trial::PITCH;
-use trial::cells::Order;
-use trial::cells::filled;
-use trial::cells::is_track;
-use trial::print::named;
-use trial::print::text;
-ghost use Prim.Native.Nat.{_≤_};
-ghost use Rattle·corner.specs.Corner.{Inside};
-ghost use Rattle·corner.specs.Drawn.{InBytes};
+#![tactic(auto)]
 
+ghost use Rattle.std.specs.Prelude.{◌≤◌};
+ghost use Rattle.corner.specs.Corner.{Inside};
+ghost use Rattle.corner.specs.Drawn.{InBytes};
+
+use grid::{Cell, panel_of};
+use std::io;
+use trial::PITCH;
+use trial::cells::{Order, filled, is_track};
+use trial::print::{named, text};
+
+#[derive(Clone, Copy)]
 struct Tally {
     tracks: u32,
     cells: u32,
@@ -43,7 +44,7 @@ fn counted(sum: Tally, k: u32, fine: bool) -> Tally {
 
 // One corner a, opposite corner b and target t: the track there and back.
 fn both_ways(a: Cell, b: Cell, t: Cell, right: u32, bottom: u32, sum: Tally) -> Tally
-    requires { ⌜ InBytes a ⌝ ∗ ⌜ InBytes b ⌝ ∗ ⌜ Inside a b t ⌝ }
+    requires { (InBytes a) × ((InBytes b) × (Inside a b t)) }
 {
     let k = corner::corner_count(a, b, t).0;
     if 64 < k {
@@ -59,7 +60,7 @@ fn both_ways(a: Cell, b: Cell, t: Cell, right: u32, bottom: u32, sum: Tally) -> 
 
 // Every corner of the rectangle up to column `right` and row `bottom`, to the cell (x, y) of it.
 fn corners(x: u32, y: u32, right: u32, bottom: u32, sum: Tally) -> Tally
-    requires { ⌜ (2 ≤ x) × ((x ≤ right) × ((right ≤ 8) × ((3 ≤ y) × ((y ≤ bottom) × (bottom ≤ 9))))) ⌝ }
+    requires { (2 ≤ x) × ((x ≤ right) × ((right ≤ 8) × ((3 ≤ y) × ((y ≤ bottom) × (bottom ≤ 9))))) }
 {
     let t = Cell { x, y };
     let nw = Cell { x: 2, y: 3 };
@@ -77,7 +78,7 @@ fn corners(x: u32, y: u32, right: u32, bottom: u32, sum: Tally) -> Tally
 
 // Every cell of a row of the rectangle.
 fn along(y: u32, right: u32, bottom: u32, first: Tally) -> Tally
-    requires { ⌜ (right ≤ 8) × ((3 ≤ y) × ((y ≤ bottom) × (bottom ≤ 9))) ⌝ }
+    requires { (right ≤ 8) × ((3 ≤ y) × ((y ≤ bottom) × (bottom ≤ 9))) }
 {
     let mut sum = first;
     let mut x = 2;
@@ -90,7 +91,7 @@ fn along(y: u32, right: u32, bottom: u32, first: Tally) -> Tally
 
 // Every row of it.
 fn rectangle(right: u32, bottom: u32, first: Tally) -> Tally
-    requires { ⌜ (right ≤ 8) × (bottom ≤ 9) ⌝ }
+    requires { (right ≤ 8) × (bottom ≤ 9) }
 {
     let mut sum = first;
     let mut y = 3;
@@ -103,7 +104,7 @@ fn rectangle(right: u32, bottom: u32, first: Tally) -> Tally
 
 // Every rectangle with a given last row.
 fn widths(bottom: u32, first: Tally) -> Tally
-    requires { ⌜ bottom ≤ 9 ⌝ }
+    requires { bottom ≤ 9 }
 {
     let mut sum = first;
     let mut right = 2;
@@ -129,10 +130,10 @@ fn every() -> Tally {
     sum
 }
 
-fn main() {
+fn main(rt: HostRuntime) -> io::Result<()> {
     let sum = every();
-    named(b"tracks ", sum.tracks);
-    named(b"\ncells ", sum.cells);
-    named(b"\nwrong ", sum.wrong);
-    text(b"\n");
+    named(&rt, b"tracks ", sum.tracks)?;
+    named(&rt, b"\ncells ", sum.cells)?;
+    named(&rt, b"\nwrong ", sum.wrong)?;
+    text(&rt, b"\n")
 }

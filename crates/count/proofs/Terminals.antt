@@ -1,90 +1,90 @@
 -- Any two terminals, equal or not: what the laws of class and count say of different cells, and what one cell is, put together. The laws of
 -- different cells are cited as they stand.
-use Prim.Native.Nat.{_≤_}
+use Prim.Native.Nat.{◌≤◌}
 use native.Mathlib.Omega.{arith}
-use mathlib.Core.Path.{_≡_, refl, sym, ap, subst, _∙_}
-use mathlib.Core.Logic.{_≢_, _↔_}
+use mathlib.Core.Path.{◌≡◌, refl, sym, ap, subst, ◌∙◌}
+use mathlib.Core.Logic.{◌≢◌, ◌↔◌}
 use lib.ListN.{length}
-use Rattle·grid.specs.declared.Panel.{Panel}
-use Rattle·grid.specs.declared.Cell.{Cell}
-use Rattle·grid.specs.Panel.{OnPanel, sameCell, turned, turnedCell}
-use Rattle·grid.specs.Track.{Track}
-use Rattle·grid.proofs.Facts.{same-eq, eq-same, same-ne, ne-same}
-use Rattle·grid.proofs.Tests.{both-branches, cond-yes, cond-no}
-use Rattle·grid.proofs.Track.{one-cell}
-use Rattle·count·specs.specs.declared.ClassCount.{ClassCount}
-use Rattle·count·specs.specs.Count.{area, found, classCount, count}
-use Rattle·count·specs.specs.Order.{orderClassCount, orderClass, orderCount}
-use Rattle·count·specs.specs.Longest.{NoLonger}
-use Rattle·count·proofs.proofs.Laws.{area-of-cell, bounds, class-small, either-order, turned-class, turned-count}
-use Rattle·count·proofs.proofs.AtMost.{no-longer}
+use Rattle.grid.specs.declared.Panel.{Panel}
+use Rattle.grid.specs.declared.Cell.{Cell}
+use Rattle.grid.specs.Panel.{OnPanel, same_cell, turned, turned_cell}
+use Rattle.grid.specs.Track.{Track}
+use Rattle.grid.proofs.Facts.{same_eq, eq_same, same_ne, ne_same}
+use Rattle.grid.proofs.Tests.{both_branches, cond_yes, cond_no}
+use Rattle.grid.proofs.Track.{one_cell}
+use Rattle.count.specs.declared.ClassCount.{ClassCount}
+use Rattle.count.specs.Count.{area, found, class_count, count}
+use Rattle.count.specs.Order.{order_class_count, order_class, order_count}
+use Rattle.count.specs.Longest.{NoLonger}
+use Rattle.count.proofs.Laws.{area_of_cell, bounds, class_small, either_order, turned_class, turned_count}
+use Rattle.count.proofs.AtMost.{no_longer}
 
 -- equal terminals are class 6
-pub spot : (p : Panel) {s t : Cell} → s ≡ t → orderClassCount p s t ≡ found 6 1
-unfolding orderClassCount
-spot p e = sym (cond-yes _ _ (eq-same e) refl)
+pub spot : (p : Panel) {s t : Cell} → s ≡ t → order_class_count p s t ≡ found 6 1
+unfolding order_class_count
+spot p e = sym (cond_yes _ _ (eq_same e) refl)
 
 -- different ones have their class and count
-pub differing : (p : Panel) {s t : Cell} → s ≢ t → orderClassCount p s t ≡ classCount p s t
-unfolding orderClassCount
-differing p {s} {t} d = sym (cond-no _ _ (ne-same s t d) refl)
+pub differing : (p : Panel) {s t : Cell} → s ≢ t → order_class_count p s t ≡ class_count p s t
+unfolding order_class_count
+differing p {s} {t} d = sym (cond_no _ _ (ne_same s t d) refl)
 
 -- and so their counts
-pub spot-count : (p : Panel) {s t : Cell} → s ≡ t → orderCount p s t ≡ 1
-spot-count p e = ap (λ (f : ClassCount). f .count .0) (spot p e)
+pub spot_count : (p : Panel) {s t : Cell} → s ≡ t → order_count p s t ≡ 1
+spot_count p e = ap (λ (f : ClassCount). f.count.0) (spot p e)
 
-pub differing-count : (p : Panel) {s t : Cell} → s ≢ t → orderCount p s t ≡ count p s t
-differing-count p d = ap (λ (f : ClassCount). f .count .0) (differing p d)
+pub differing_count : (p : Panel) {s t : Cell} → s ≢ t → order_count p s t ≡ count p s t
+differing_count p d = ap (λ (f : ClassCount). f.count.0) (differing p d)
 
 -- what holds of class 6 for equal terminals, and of class and count for different ones, holds of every order
-pub by-terminals : (P : ClassCount → Type 0) (p : Panel) (s t : Cell)
-    → (s ≡ t → P (found 6 1)) → (s ≢ t → P (classCount p s t)) → P (orderClassCount p s t)
-unfolding orderClassCount
-by-terminals P p s t f g = both-branches P (sameCell s t) _ _ (λ e. f (same-eq s t e)) (λ e. g (same-ne s t e))
+pub by_terminals : (P : ClassCount → Type 0) (p : Panel) (s t : Cell)
+    → (s ≡ t → P (found 6 1)) → (s ≢ t → P (class_count p s t)) → P (order_class_count p s t)
+unfolding order_class_count
+by_terminals P p s t f g = both_branches P (same_cell s t) _ _ (λ e. f (same_eq s t e)) (λ e. g (same_ne s t e))
 
 -- the classes are 1 to 6
-pub order-class-small : (p : Panel) (s t : Cell) → orderClass p s t ≤ 6
-order-class-small p s t =
-    by-terminals (λ (f : ClassCount). f .class ≤ 6) p s t (λ _. omega arith) (λ _. omega (arith, class-small p s t))
+pub order_class_small : (p : Panel) (s t : Cell) → order_class p s t ≤ 6
+order_class_small p s t =
+    by_terminals (λ (f : ClassCount). f.class ≤ 6) p s t (λ _. omega arith) (λ _. omega (arith, class_small p s t))
 
 -- class 6 is that of equal terminals, and of no others
-pub spot-class : (p : Panel) (s t : Cell) → (orderClass p s t ≡ 6) ↔ (s ≡ t)
-spot-class p s t = (
-  by-terminals (λ (f : ClassCount). f .class ≡ 6 → s ≡ t) p s t (λ e _. e) (λ _ h. absurd (omega (arith, class-small p s t))),
-  λ e. ap (λ (f : ClassCount). f .class) (spot p e),
+pub spot_class : (p : Panel) (s t : Cell) → (order_class p s t ≡ 6) ↔ (s ≡ t)
+spot_class p s t = (
+  by_terminals (λ (f : ClassCount). f.class ≡ 6 → s ≡ t) p s t (λ e _. e) (λ _ h. absurd (omega (arith, class_small p s t))),
+  λ e. ap (λ (f : ClassCount). f.class) (spot p e),
 )
 
 -- 1 ≤ count ≤ mn
-pub order-bounds : (p : Panel) (s t : Cell) → OnPanel p s → OnPanel p t → (1 ≤ orderCount p s t) × (orderCount p s t ≤ area p)
-order-bounds p s t a b =
-    by-terminals (λ (f : ClassCount). (1 ≤ f .count .0) × (f .count .0 ≤ area p)) p s t
-    (λ _. omega (arith, area-of-cell p s a))
+pub order_bounds : (p : Panel) (s t : Cell) → OnPanel p s → OnPanel p t → (1 ≤ order_count p s t) × (order_count p s t ≤ area p)
+order_bounds p s t a b =
+    by_terminals (λ (f : ClassCount). (1 ≤ f.count.0) × (f.count.0 ≤ area p)) p s t
+    (λ _. omega (arith, area_of_cell p s a))
     (λ d. omega (arith, bounds p s t a b d))
 
 -- the same class and count for the terminals in either order
-pub order-either : (p : Panel) (s t : Cell) → orderClassCount p s t ≡ orderClassCount p t s
-order-either p s t =
-    by-terminals (λ (f : ClassCount). f ≡ orderClassCount p t s) p s t
+pub order_either : (p : Panel) (s t : Cell) → order_class_count p s t ≡ order_class_count p t s
+order_either p s t =
+    by_terminals (λ (f : ClassCount). f ≡ order_class_count p t s) p s t
     (λ e. sym (spot p (sym e)))
-    (λ d. either-order p s t ∙ sym (differing p (λ e. d (sym e))))
+    (λ d. either_order p s t ∙ sym (differing p (λ e. d (sym e))))
 
 -- the same count for the panel turned, and the same class on every panel but 2 by 2
-pub order-turned-count : (p : Panel) (s t : Cell) → OnPanel p s → OnPanel p t → orderCount (turned p) (turnedCell s) (turnedCell t) ≡ orderCount p s t
-order-turned-count p s t a b =
-    by-terminals (λ (f : ClassCount). orderCount (turned p) (turnedCell s) (turnedCell t) ≡ f .count .0) p s t
-    (λ e. spot-count (turned p) (ap turnedCell e))
-    (λ d. differing-count (turned p) (λ e. d (ap turnedCell e)) ∙ turned-count p s t a b d)
+pub order_turned_count : (p : Panel) (s t : Cell) → OnPanel p s → OnPanel p t → order_count (turned p) (turned_cell s) (turned_cell t) ≡ order_count p s t
+order_turned_count p s t a b =
+    by_terminals (λ (f : ClassCount). order_count (turned p) (turned_cell s) (turned_cell t) ≡ f.count.0) p s t
+    (λ e. spot_count (turned p) (ap turned_cell e))
+    (λ d. differing_count (turned p) (λ e. d (ap turned_cell e)) ∙ turned_count p s t a b d)
 
-pub order-turned-class : (p : Panel) (s t : Cell) → OnPanel p s → OnPanel p t → (p .width ≡ 2 → p .height ≢ 2)
-    → orderClassCount (turned p) (turnedCell s) (turnedCell t) ≡ orderClassCount p s t
-order-turned-class p s t a b two =
-    by-terminals (λ (f : ClassCount). orderClassCount (turned p) (turnedCell s) (turnedCell t) ≡ f) p s t
-    (λ e. spot (turned p) (ap turnedCell e))
-    (λ d. differing (turned p) (λ e. d (ap turnedCell e)) ∙ turned-class p s t a b d two)
+pub order_turned_class : (p : Panel) (s t : Cell) → OnPanel p s → OnPanel p t → (p.width ≡ 2 → p.height ≢ 2)
+    → order_class_count (turned p) (turned_cell s) (turned_cell t) ≡ order_class_count p s t
+order_turned_class p s t a b two =
+    by_terminals (λ (f : ClassCount). order_class_count (turned p) (turned_cell s) (turned_cell t) ≡ f) p s t
+    (λ e. spot (turned p) (ap turned_cell e))
+    (λ d. differing (turned p) (λ e. d (ap turned_cell e)) ∙ turned_class p s t a b d two)
 
 -- no track between two cells, equal or not, has more cells than the count
-pub none-longer : (p : Panel) (s t : Cell) → NoLonger p s t (orderCount p s t)
-none-longer p s t =
-    by-terminals (λ (f : ClassCount). NoLonger p s t (f .count .0)) p s t
-    (λ e l r. omega (arith, ap length (one-cell (subst (λ (c : Cell). Track p s c l) (sym e) r))))
-    (λ d. no-longer p s t d)
+pub none_longer : (p : Panel) (s t : Cell) → NoLonger p s t (order_count p s t)
+none_longer p s t =
+    by_terminals (λ (f : ClassCount). NoLonger p s t f.count.0) p s t
+    (λ e l r. omega (arith, ap length (one_cell (subst (λ (c : Cell). Track p s c l) (sym e) r))))
+    (λ d. no_longer p s t d)

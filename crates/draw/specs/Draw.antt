@@ -1,29 +1,25 @@
 -- Document 01, "Operations", and document 02, R-10: Draw writes a longest track at the front of a lent buffer and gives its cell count, or refuses;
 -- the cells that the track leaves uncovered are known by class and colour.
-use Prim.Native.Nat.{ℕ, _*_}
-use mathlib.Core.Path.{_≡_}
-use mathlib.Core.List.{List}
-use lib.Dec.{leb}
-use lib.ListN.{length, drop}
-use Rattle·grid.specs.declared.Panel.{Panel}
-use Rattle·grid.specs.declared.Cell.{Cell}
-use Rattle·grid.specs.declared.Check.{Check}
-use Rattle·grid.specs.declared.Check.the-variants.{Good}
-use Rattle·grid.specs.declared.Refusal.the-variants.{ShortBuffer}
-use Rattle·grid.specs.declared.CellsAnswer.{CellsAnswer}
-use Rattle·grid.specs.declared.CellsAnswer.the-variants.{Refused, Given}
-use Rattle·grid.specs.Bytes.{front}
-use Rattle·grid.specs.Check.{checkOrder, after, expect, answer}
-use Rattle·grid.specs.Answer.{GivesCells}
-use Rattle·count.specs.Order.{orderCount}
-use Rattle·count.specs.Longest.{Longest}
-use Rattle·list.specs.List.{withCells}
-use Rattle·cold.specs.Cold.{StaysCold}
-use Rattle·draw·specs.specs.Track.{drawnTrack}
+use Rattle.std.specs.Prelude.{ℕ, ◌*◌, ◌≡◌, List, leb, length, drop}
+use Rattle.grid.specs.declared.Panel.{Panel}
+use Rattle.grid.specs.declared.Cell.{Cell}
+use Rattle.grid.specs.declared.Check.{Check}
+use Rattle.grid.specs.declared.Check.TheVariants.{Good}
+use Rattle.grid.specs.declared.Refusal.TheVariants.{ShortBuffer}
+use Rattle.grid.specs.declared.CellsAnswer.{CellsAnswer}
+use Rattle.grid.specs.declared.CellsAnswer.TheVariants.{Refused, Given}
+use Rattle.grid.specs.Bytes.{front}
+use Rattle.grid.specs.Check.{check_order, after, expect, answer}
+use Rattle.grid.specs.Answer.{GivesCells}
+use Rattle.count.specs.Order.{order_count}
+use Rattle.count.specs.Longest.{Longest}
+use Rattle.list.specs.List.{with_cells}
+use Rattle.cold.specs.Cold.{StaysCold}
+use Rattle.draw.specs.Track.{drawn_track}
 
 -- refused as Bound, then 5: the buffer is shorter than 2 bytes for each cell of the count
-abbrev pub drawCheck : Panel → Cell → Cell → ℕ → Check
-drawCheck p s t size = after (checkOrder p s t) (expect (leb (2 * orderCount p s t) size) ShortBuffer Good)
+abbrev pub draw_check : Panel → Cell → Cell → ℕ → Check
+draw_check p s t size = after (check_order p s t) (expect (leb (2 * order_count p s t) size) ShortBuffer Good)
 
 -- the k cells read from the front of the buffer after the call are a track from s to t, every list of cells that is such a track has at most k, the
 -- cells that the track leaves uncovered are as document 02, R-10, says, and the bytes behind the k cells are the old ones
@@ -35,15 +31,15 @@ pub record LongestAtFront (p : Panel) (s t : Cell) (k : ℕ) (old new : List ℕ
 -- a refusal changes no byte
 abbrev pub Leaves : Panel → Cell → Cell → List ℕ → List ℕ → CellsAnswer → Type 0
 Leaves p s t old new (Refused r) = new ≡ old
-Leaves p s t old new (Given k) = LongestAtFront p s t (k .0) old new
+Leaves p s t old new (Given k) = LongestAtFront p s t k.0 old new
 
 -- Draw's promise: the count, or what the check refuses; and the buffer begins with a longest track, which leaves what R-10 says, and is otherwise as
 -- it was
 pub record Draws (p : Panel) (s t : Cell) (old new : List ℕ) (r : CellsAnswer) : Type 0 where
-  pub gives : GivesCells (drawCheck p s t (length old)) (orderCount p s t) r
+  pub gives : GivesCells (draw_check p s t (length old)) (order_count p s t) r
   pub leaves : Leaves p s t old new r
 
 -- which longest track it is: the buffer after the call, as it was where the check refuses, else with that track at its front.
 -- A pitch in its range changes nothing of it (proofs/Sides.antt)
-abbrev pub drawBuffer : Panel → Cell → Cell → List ℕ → List ℕ
-drawBuffer p s t old = answer (drawCheck p s t (length old)) (λ r. old) (withCells (drawnTrack (p .width) (p .height) s t) old)
+abbrev pub draw_buffer : Panel → Cell → Cell → List ℕ → List ℕ
+draw_buffer p s t old = answer (draw_check p s t (length old)) (λ r. old) (with_cells (drawn_track p.width p.height s t) old)

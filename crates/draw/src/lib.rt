@@ -1,29 +1,25 @@
 // Draw: a longest track between two cells, which is the cell itself where they are equal, else from the
 // table of the 3 by 3 panel or as a plan of corner tracks.
-use grid::Cell;
-use grid::Cells;
-use grid::CellsAnswer;
-use grid::Check;
-use grid::Panel;
-use grid::Refusal;
-use legs::draw_leg;
-use legs::draw_legs;
+#![tactic(auto)]
+
+ghost use Rattle.std.specs.Prelude.{◌≡◌, ℕ};
+ghost use Rattle.grid.specs.Panel.{panel};
+ghost use Rattle.list.specs.List.{with_cells};
+ghost use Rattle.plan.specs.Leg.{legs};
+ghost use Rattle.plan.specs.Drawing.{Room, Written};
+ghost use Rattle.table.specs.Order.{ReadyOrder};
+ghost use Rattle.draw.specs.Track.{is_three, track_between};
+ghost use Rattle.draw.specs.Draw.{Draws, draw_buffer};
+
+use grid::{Cell, Cells, CellsAnswer, Check, Panel, Refusal};
+use legs::{draw_leg, draw_legs};
 use list::put_cell;
 use plan::Plan;
-ghost use mathlib.Core.Path.{_≡_};
-ghost use Prim.Native.Nat.{ℕ};
-ghost use Rattle·grid.specs.Panel.{panel};
-ghost use Rattle·list.specs.List.{withCells};
-ghost use Rattle·plan.specs.Leg.{legs};
-ghost use Rattle·plan.specs.Drawing.{Room, Written};
-ghost use Rattle·table.specs.Order.{ReadyOrder};
-ghost use Rattle·draw·specs.specs.Track.{isThree, trackBetween};
-ghost use Rattle·draw·specs.specs.Draw.{Draws, drawBuffer};
 
 // Gives the number of cells written.
 fn draw_plan(p: Plan, buf: &mut [u8]) -> Cells
-    requires { ⌜ Room (legs p) (now buf) ⌝ }
-    ensures { λ r. ⌜ Written (legs p) r (now (buf .entry)) (now (buf .exit)) ⌝ }
+    requires { Room (legs p) buf.old }
+    ensures { Written (legs p) result buf.old buf.new }
 {
     match p {
         Plan::One(g) => draw_leg(g, buf),
@@ -35,7 +31,7 @@ fn draw_plan(p: Plan, buf: &mut [u8]) -> Cells
 
 // Whether the panel is 3 by 3, whose tracks stand in the table.
 fn is_three(width: u32, height: u32) -> bool
-    ensures { λ r. ⌜ r ≡ isThree width height ⌝ }
+    ensures { result ≡ is_three width height }
 {
     if width == 3 { height == 3 } else { false }
 }
@@ -43,8 +39,8 @@ fn is_three(width: u32, height: u32) -> bool
 // Draws a longest track between two different cells, where there is room for it. Like all that
 // chooses and draws, it is given the sides and no pitch: one track serves every panel of these sides.
 fn draw_longest(width: u32, height: u32, s: Cell, t: Cell, buf: &mut [u8])
-    requires { ⌜ ((pitch : ℕ) → ReadyOrder (panel width height pitch) s t (now buf)) ⌝ }
-    ensures { λ _. ⌜ now (buf .exit) ≡ withCells (trackBetween width height s t) (now (buf .entry)) ⌝ }
+    requires { (pitch : ℕ) → ReadyOrder (panel width height pitch) s t buf.old }
+    ensures { buf.new ≡ with_cells (track_between width height s t) buf.old }
 {
     if is_three(width, height) {
         table::draw_small(s, t, buf);
@@ -56,8 +52,8 @@ fn draw_longest(width: u32, height: u32, s: Cell, t: Cell, buf: &mut [u8])
 
 // The call.
 pub fn draw(p: Panel, entry: Cell, exit: Cell, buf: &mut [u8]) -> CellsAnswer
-    ensures { λ r. ⌜ Draws p entry exit (now (buf .entry)) (now (buf .exit)) r ⌝ }
-    ensures cells { λ _. ⌜ now (buf .exit) ≡ drawBuffer p entry exit (now (buf .entry)) ⌝ }
+    ensures draws { Draws p entry exit buf.old buf.new result }
+    ensures cells { buf.new ≡ draw_buffer p entry exit buf.old }
 {
     let c = grid::check_order(p, entry, exit);
     if let Check::Refused(r) = c {

@@ -5,17 +5,14 @@
 // of these gives the order (sides, entry, exit and pitch) and the buffer's size and, behind the colon,
 // the refusal's number (0: none), the count and what all bytes of the buffer say: `a track`, the cells
 // are one and the bytes behind are as before; `untouched`, all bytes are as before; else `FAULT`.
+#![tactic(auto)]
+
 use bound::bound_values;
-use grid::Cell;
-use grid::cells_values;
-use grid::panel_of;
+use grid::{Cell, cells_values, panel_of};
+use std::io;
 use trial::PITCH;
-use trial::cells::Order;
-use trial::cells::filled;
-use trial::cells::is_track;
-use trial::print::named;
-use trial::print::row;
-use trial::print::text;
+use trial::cells::{Order, filled, is_track};
+use trial::print::{named, row, text};
 
 // What the buffers are filled with.
 const FILL: u8 = 170;
@@ -23,6 +20,7 @@ const FILL: u8 = 170;
 // The largest number of 32 bits.
 const MAX: u32 = 4294967295;
 
+#[derive(Clone, Copy)]
 struct Totals {
     orders: u32,
     drawn: u32,
@@ -101,68 +99,77 @@ fn every_order() -> Totals {
     t
 }
 
-fn small_panels() {
+fn small_panels(rt: &impl Print) -> io::Result<()> {
     let t = every_order();
-    named(b"orders ", t.orders);
-    named(b", drawn ", t.drawn);
-    named(b", cells ", t.cells);
-    named(b", wrong ", t.wrong);
-    text(b"\n");
+    named(rt, b"orders ", t.orders)?;
+    named(rt, b", drawn ", t.drawn)?;
+    named(rt, b", cells ", t.cells)?;
+    named(rt, b", wrong ", t.wrong)?;
+    text(rt, b"\n")
 }
 
 // What the buffer holds after a call that gave k cells.
-fn found(buf: &[u8], o: Order, k: u32) {
+fn found(rt: &impl Print, buf: &[u8], o: Order, k: u32) -> io::Result<()> {
     if !filled(buf, 2 * (k as usize), FILL) {
-        text(b"FAULT\n");
-        return;
+        return text(rt, b"FAULT\n");
     }
     if k == 0 {
-        text(b"untouched\n");
-        return;
+        return text(rt, b"untouched\n");
     }
     if is_track(buf, o, first(), k) {
-        text(b"a track\n");
-        return;
+        return text(rt, b"a track\n");
     }
-    text(b"FAULT\n");
+    text(rt, b"FAULT\n")
 }
 
 // One order into the buffer, which is filled: its line.
-fn show(o: Order, buf: &mut [u8]) {
+fn show(rt: &impl Print, o: Order, buf: &mut [u8]) -> io::Result<()> {
     let p = o.panel;
     let s = o.entry;
     let t = o.exit;
     let size = (buf.len() % 65536) as u32;
     let a = cells_values(draw::draw(p, s, t, buf));
-    row(&[p.width, p.height, s.x, s.y, t.x, t.y, p.pitch], b" in ");
-    row(&[size], b" bytes: ");
-    row(&[a.refusal, a.cells.0], b" ");
-    found(buf, o, a.cells.0);
+    row(
+        rt,
+        &[p.width, p.height, s.x, s.y, t.x, t.y, p.pitch],
+        b" in ",
+    )?;
+    row(rt, &[size], b" bytes: ")?;
+    row(rt, &[a.refusal, a.cells.0], b" ")?;
+    found(rt, buf, o, a.cells.0)
 }
 
 // The largest panel, along its left edge.
-fn large(buf: &mut [u8]) {
+fn large(rt: &impl Print, buf: &mut [u8]) -> io::Result<()> {
     let o = Order {
         panel: panel_of(128, 128, PITCH),
         entry: first(),
         exit: Cell { x: 1, y: 128 },
     };
-    show(o, buf);
+    show(rt, o, buf)
 }
 
 // A panel of 6 columns, in a buffer for 12 cells and one more.
-fn six_wide(height: u32, sx: u32, sy: u32, tx: u32, ty: u32, pitch: u32) {
+fn six_wide(
+    rt: &impl Print,
+    height: u32,
+    sx: u32,
+    sy: u32,
+    tx: u32,
+    ty: u32,
+    pitch: u32,
+) -> io::Result<()> {
     let o = Order {
         panel: panel_of(6, height, pitch),
         entry: Cell { x: sx, y: sy },
         exit: Cell { x: tx, y: ty },
     };
     let mut buf = [FILL; 26];
-    show(o, &mut buf);
+    show(rt, o, &mut buf)
 }
 
 // Both leads on one cell, in a buffer just long enough, one byte too short and empty.
-fn spot(m: u32, n: u32, x: u32, y: u32) {
+fn spot(rt: &impl Print, m: u32, n: u32, x: u32, y: u32) -> io::Result<()> {
     let c = Cell { x, y };
     let o = Order {
         panel: panel_of(m, n, PITCH),
@@ -170,61 +177,61 @@ fn spot(m: u32, n: u32, x: u32, y: u32) {
         exit: c,
     };
     let mut buf = [FILL; 2];
-    show(o, &mut buf);
+    show(rt, o, &mut buf)?;
     let mut short = [FILL; 1];
-    show(o, &mut short);
+    show(rt, o, &mut short)?;
     let mut none = [FILL; 0];
-    show(o, &mut none);
+    show(rt, o, &mut none)
 }
 
-fn spots() {
-    spot(1, 1, 1, 1);
-    spot(6, 1, 3, 1);
-    spot(3, 3, 2, 2);
-    spot(128, 128, 128, 1);
-    six_wide(2, 3, 1, 3, 1, PITCH);
+fn spots(rt: &impl Print) -> io::Result<()> {
+    spot(rt, 1, 1, 1, 1)?;
+    spot(rt, 6, 1, 3, 1)?;
+    spot(rt, 3, 3, 2, 2)?;
+    spot(rt, 128, 128, 128, 1)?;
+    six_wide(rt, 2, 3, 1, 3, 1, PITCH)
 }
 
 // An order of 12 cells in a buffer that is one byte too short for them.
-fn too_short(pitch: u32) {
+fn too_short(rt: &impl Print, pitch: u32) -> io::Result<()> {
     let o = Order {
         panel: panel_of(6, 2, pitch),
         entry: Cell { x: 3, y: 1 },
         exit: Cell { x: 4, y: 1 },
     };
     let mut buf = [FILL; 23];
-    show(o, &mut buf);
+    show(rt, o, &mut buf)
 }
 
 // Pitches at the ends of their range and outside it.
-fn pitches() {
-    six_wide(2, 3, 1, 4, 1, 999);
-    six_wide(2, 3, 1, 4, 1, 1000);
-    six_wide(2, 3, 1, 4, 1, 10000);
-    six_wide(2, 3, 1, 4, 1, 10001);
-    six_wide(2, 3, 1, 4, 1, 0);
-    six_wide(2, 3, 1, 4, 1, MAX);
+fn pitches(rt: &impl Print) -> io::Result<()> {
+    six_wide(rt, 2, 3, 1, 4, 1, 999)?;
+    six_wide(rt, 2, 3, 1, 4, 1, 1000)?;
+    six_wide(rt, 2, 3, 1, 4, 1, 10000)?;
+    six_wide(rt, 2, 3, 1, 4, 1, 10001)?;
+    six_wide(rt, 2, 3, 1, 4, 1, 0)?;
+    six_wide(rt, 2, 3, 1, 4, 1, MAX)
 }
 
 // A bad pitch behind a bad side, then before each fault that is tested after it and with equal terminals; then
 // the last of these with a good pitch.
-fn pitch_and_more() {
-    six_wide(129, 3, 1, 4, 1, 999);
-    six_wide(0, 3, 1, 4, 1, MAX);
-    six_wide(2, 0, 1, 4, 1, 999);
-    six_wide(2, 3, 1, 4, 3, 10001);
-    six_wide(2, 3, 1, 3, 1, 0);
-    too_short(10001);
-    too_short(10000);
+fn pitch_and_more(rt: &impl Print) -> io::Result<()> {
+    six_wide(rt, 129, 3, 1, 4, 1, 999)?;
+    six_wide(rt, 0, 3, 1, 4, 1, MAX)?;
+    six_wide(rt, 2, 0, 1, 4, 1, 999)?;
+    six_wide(rt, 2, 3, 1, 4, 3, 10001)?;
+    six_wide(rt, 2, 3, 1, 3, 1, 0)?;
+    too_short(rt, 10001)?;
+    too_short(rt, 10000)
 }
 
-fn main() {
-    small_panels();
+fn main(rt: HostRuntime) -> io::Result<()> {
+    small_panels(&rt)?;
     let mut short = [FILL; 32767];
-    large(&mut short);
+    large(&rt, &mut short)?;
     let mut whole = [FILL; 32768];
-    large(&mut whole);
-    spots();
-    pitches();
-    pitch_and_more();
+    large(&rt, &mut whole)?;
+    spots(&rt)?;
+    pitches(&rt)?;
+    pitch_and_more(&rt)
 }

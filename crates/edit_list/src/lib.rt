@@ -1,38 +1,32 @@
 // Edits of a drawing: a step of a track becomes a detour over the two cells beside it, or such a detour a step
 // again. The tests of an edit, and the edit itself in the buffer that holds the track.
+#![tactic(auto)]
+
+ghost use Rattle.std.specs.Prelude.{◌≡◌, true, [], ◌∷◌, ◌++◌, ◌+◌, ◌-◌, ◌*◌, ◌≤◌, length, take, drop, replicate};
+ghost use Rattle.std.proofs.Math.Seq.{paste};
+ghost use Rattle.grid.specs.Panel.{max_side};
+ghost use Rattle.grid.specs.Bytes.{InBytes, bytes, cells_in, front};
+ghost use Rattle.list.specs.List.{among};
+ghost use Rattle.detour.specs.Detour.{left_of, cell_beside, cell_no, is_free, can_bulge, is_detour, can_edit};
+ghost use Rattle.detour.specs.Detour.{opposite, bulge_at, press_at, bulged, pressed, edited, with_zeros};
+ghost use Rattle.edit_list.specs.Possible.{Possible};
+
 use detour::Edit;
-use grid::Cell;
-use grid::Panel;
-use grid::on_panel;
-use grid::same_cell;
-use list::adjacent;
-use list::cell_at;
-use list::put_cell;
+use grid::{Cell, Panel, on_panel, same_cell};
+use list::{adjacent, cell_at, put_cell};
 use scratch::clear_front;
-ghost use mathlib.Core.Path.{_≡_};
-ghost use mathlib.Core.Bool.{true};
-ghost use mathlib.Core.List.{[], _∷_, _++_};
-ghost use Prim.Native.Nat.{_+_, _-_, _*_, _≤_};
-ghost use lib.ListN.{length, take, drop, replicate};
-ghost use lib.Seq.{paste};
-ghost use Rattle·grid.specs.Panel.{maxSide};
-ghost use Rattle·grid.specs.Bytes.{InBytes, bytes, cellsIn, front};
-ghost use Rattle·list.specs.List.{among};
-ghost use Rattle·detour.specs.Detour.{leftOf, cellBeside, cellNo, isFree, canBulge, isDetour, canEdit};
-ghost use Rattle·detour.specs.Detour.{opposite, bulgeAt, pressAt, bulged, pressed, edited, withZeros};
-ghost use Rattle·edit_list·specs.specs.Possible.{Possible};
 
 // a less b, and 0 where b is more: a cell over the left or the upper edge has a 0.
 fn minus(a: u32, b: u32) -> u32
-    ensures { λ r. ⌜ r ≡ a - b ⌝ }
+    ensures { result ≡ a - b }
 {
     if a <= b { 0 } else { a - b }
 }
 
 // The cell beside c, left of the way from a to b.
 fn left_of(a: Cell, b: Cell, c: Cell) -> Cell
-    requires { ⌜ InBytes a × InBytes b × InBytes c ⌝ }
-    ensures { λ r. ⌜ r ≡ leftOf a b c ⌝ }
+    requires { InBytes a × InBytes b × InBytes c }
+    ensures { result ≡ left_of a b c }
 {
     Cell {
         x: minus(c.x + b.y, a.y),
@@ -42,8 +36,8 @@ fn left_of(a: Cell, b: Cell, c: Cell) -> Cell
 
 // The cell beside c, left or right of the way from a to b.
 fn beside(left: bool, a: Cell, b: Cell, c: Cell) -> Cell
-    requires { ⌜ InBytes a × InBytes b × InBytes c ⌝ }
-    ensures { λ r. ⌜ r ≡ cellBeside left a b c ⌝ }
+    requires { InBytes a × InBytes b × InBytes c }
+    ensures { result ≡ cell_beside left a b c }
 {
     if left {
         return left_of(a, b, c);
@@ -53,15 +47,15 @@ fn beside(left: bool, a: Cell, b: Cell, c: Cell) -> Cell
 
 // The cell at a place of the list.
 fn cell_no(list: &[u8], place: usize) -> Cell
-    requires { ⌜ (1 ≤ place) × (place ≤ length (cellsIn (now list))) ⌝ }
-    ensures { λ r. ⌜ (r ≡ cellNo (cellsIn (now (list .entry))) place) × InBytes r ⌝ }
+    requires { (1 ≤ place) × (place ≤ length (cells_in list.now)) }
+    ensures { (result ≡ cell_no (cells_in list.now) place) × InBytes result }
 {
     cell_at(list, 2 * (place - 1))
 }
 
 // Whether the cell stands in the list.
 fn stands_in(list: &[u8], c: Cell) -> bool
-    ensures { λ r. ⌜ r ≡ among c (cellsIn (now (list .entry))) ⌝ }
+    ensures { result ≡ among c (cells_in list.now) }
 {
     let mut i = 0;
     while i + 1 < list.len() {
@@ -75,7 +69,7 @@ fn stands_in(list: &[u8], c: Cell) -> bool
 
 // Whether a detour may take the cell.
 fn is_free(p: Panel, list: &[u8], c: Cell) -> bool
-    ensures { λ r. ⌜ r ≡ isFree p (cellsIn (now (list .entry))) c ⌝ }
+    ensures { result ≡ is_free p (cells_in list.now) c }
 {
     if !on_panel(p, c) {
         return false;
@@ -84,8 +78,9 @@ fn is_free(p: Panel, list: &[u8], c: Cell) -> bool
 }
 
 // Whether the step at the place is there, with a free detour on that side.
+#[tactic(auto, using(list::proofs::Cells::length_cells))]
 fn can_bulge(p: Panel, list: &[u8], place: u32, left: bool) -> bool
-    ensures { λ r. ⌜ r ≡ canBulge p left place (cellsIn (now (list .entry))) ⌝ }
+    ensures { result ≡ can_bulge p left place (cells_in list.now) }
 {
     let k = place as usize;
     if k == 0 {
@@ -103,8 +98,9 @@ fn can_bulge(p: Panel, list: &[u8], place: u32, left: bool) -> bool
 }
 
 // Whether the two cells behind the place are the detour of a step, on that side.
+#[tactic(auto, using(list::proofs::Cells::length_cells))]
 fn is_detour(list: &[u8], place: u32, left: bool) -> bool
-    ensures { λ r. ⌜ r ≡ isDetour left place (cellsIn (now (list .entry))) ⌝ }
+    ensures { result ≡ is_detour left place (cells_in list.now) }
 {
     let k = place as usize;
     if k == 0 {
@@ -126,7 +122,7 @@ fn is_detour(list: &[u8], place: u32, left: bool) -> bool
 
 // The press at a place, with the side that its detour is on.
 pub fn press_at(list: &[u8], place: u32) -> Edit
-    ensures { λ r. ⌜ r ≡ pressAt place (cellsIn (now (list .entry))) ⌝ }
+    ensures { result ≡ press_at place (cells_in list.now) }
 {
     Edit {
         place,
@@ -137,7 +133,7 @@ pub fn press_at(list: &[u8], place: u32) -> Edit
 
 // Whether the edit can be made.
 pub fn can_edit(p: Panel, list: &[u8], e: Edit) -> bool
-    ensures { λ r. ⌜ r ≡ canEdit p e (cellsIn (now (list .entry))) ⌝ }
+    ensures { result ≡ can_edit p e (cells_in list.now) }
 {
     if e.bulge {
         return can_bulge(p, list, e.place, e.left);
@@ -146,7 +142,7 @@ pub fn can_edit(p: Panel, list: &[u8], e: Edit) -> bool
 }
 
 pub fn opposite(e: Edit) -> Edit
-    ensures { λ r. ⌜ r ≡ opposite e ⌝ }
+    ensures { result ≡ opposite e }
 {
     Edit {
         place: e.place,
@@ -157,8 +153,8 @@ pub fn opposite(e: Edit) -> Edit
 
 // Moves so many bytes from `start` on up by two cells, the last one first.
 fn slide_up(list: &mut [u8], start: usize, count: usize)
-    requires { ⌜ start + count + 4 ≤ length (now list) ⌝ }
-    ensures { λ _. ⌜ now (list .exit) ≡ paste (now (list .entry)) (start + 4) (drop start (now (list .entry))) count ⌝ }
+    requires { start + count + 4 ≤ length list.old }
+    ensures { list.new ≡ paste list.old (start + 4) (drop start list.old) count }
 {
     let mut rest = count;
     while 0 < rest {
@@ -169,8 +165,8 @@ fn slide_up(list: &mut [u8], start: usize, count: usize)
 
 // Moves so many bytes from two cells behind `start` on down to it, the first one first.
 fn slide_down(list: &mut [u8], start: usize, count: usize)
-    requires { ⌜ start + count + 4 ≤ length (now list) ⌝ }
-    ensures { λ _. ⌜ now (list .exit) ≡ paste (now (list .entry)) start (drop (start + 4) (now (list .entry))) count ⌝ }
+    requires { start + count + 4 ≤ length list.old }
+    ensures { list.new ≡ paste list.old start (drop (start + 4) list.old) count }
 {
     let mut i = 0;
     while i < count {
@@ -181,8 +177,8 @@ fn slide_down(list: &mut [u8], start: usize, count: usize)
 
 // Zeros from `start` on.
 fn clear_behind(list: &mut [u8], start: usize)
-    requires { ⌜ start ≤ length (now list) ⌝ }
-    ensures { λ _. ⌜ now (list .exit) ≡ take start (now (list .entry)) ++ replicate (length (now (list .entry)) - start) 0 ⌝ }
+    requires { start ≤ length list.old }
+    ensures { list.new ≡ take start list.old ++ replicate (length list.old - start) 0 }
 {
     let places = list.len() - start;
     clear_front(places, &mut list[start..]);
@@ -190,8 +186,8 @@ fn clear_behind(list: &mut [u8], start: usize)
 
 // The two cells of a detour, from a byte on.
 fn put_detour(list: &mut [u8], at: usize, c: Cell, d: Cell)
-    requires { ⌜ (c .x ≤ maxSide) × (c .y ≤ maxSide) × (d .x ≤ maxSide) × (d .y ≤ maxSide) × (at + 4 ≤ length (now list)) ⌝ }
-    ensures { λ _. ⌜ now (list .exit) ≡ paste (now (list .entry)) at (bytes (c ∷ d ∷ [])) 4 ⌝ }
+    requires { (c.x ≤ max_side) × (c.y ≤ max_side) × (d.x ≤ max_side) × (d.y ≤ max_side) × (at + 4 ≤ length list.old) }
+    ensures { list.new ≡ paste list.old at (bytes (c ∷ d ∷ [])) 4 }
 {
     put_cell(list, at, c);
     put_cell(list, at + 2, d);
@@ -199,9 +195,9 @@ fn put_detour(list: &mut [u8], at: usize, c: Cell, d: Cell)
 
 // The bulge of a list of so many cells in front of the buffer, and zeros behind it.
 fn bulge(list: &mut [u8], cells: usize, place: u32, left: bool)
-    requires held { ⌜ 2 * (cells + 2) ≤ length (now list) ⌝ }
-    requires can { ⌜ Possible (bulgeAt place left) (front cells (now list)) ⌝ }
-    ensures { λ _. ⌜ now (list .exit) ≡ withZeros (bulged left place (front cells (now (list .entry)))) (length (now (list .entry))) ⌝ }
+    requires held { 2 * (cells + 2) ≤ length list.old }
+    requires can { Possible (bulge_at place left) (front cells list.old) }
+    ensures { list.new ≡ with_zeros (bulged left place (front cells list.old)) (length list.old) }
 {
     let k = place as usize;
     let a = cell_no(&list[..2 * cells], k);
@@ -213,9 +209,9 @@ fn bulge(list: &mut [u8], cells: usize, place: u32, left: bool)
 
 // The press of such a list.
 fn press(list: &mut [u8], cells: usize, place: u32, left: bool)
-    requires held { ⌜ 2 * cells ≤ length (now list) ⌝ }
-    requires can { ⌜ isDetour left place (front cells (now list)) ≡ true ⌝ }
-    ensures { λ _. ⌜ now (list .exit) ≡ withZeros (pressed place (front cells (now (list .entry)))) (length (now (list .entry))) ⌝ }
+    requires held { 2 * cells ≤ length list.old }
+    requires can { is_detour left place (front cells list.old) ≡ true }
+    ensures { list.new ≡ with_zeros (pressed place (front cells list.old)) (length list.old) }
 {
     let k = place as usize;
     slide_down(list, 2 * k, 2 * (cells - k - 2));
@@ -224,10 +220,10 @@ fn press(list: &mut [u8], cells: usize, place: u32, left: bool)
 
 // Makes the edit of such a list.
 pub fn make(list: &mut [u8], cells: usize, e: Edit)
-    requires held { ⌜ 2 * cells ≤ length (now list) ⌝ }
-    requires room { ⌜ 2 * length (edited e (front cells (now list))) ≤ length (now list) ⌝ }
-    requires can { ⌜ Possible e (front cells (now list)) ⌝ }
-    ensures { λ _. ⌜ now (list .exit) ≡ withZeros (edited e (front cells (now (list .entry)))) (length (now (list .entry))) ⌝ }
+    requires held { 2 * cells ≤ length list.old }
+    requires room { 2 * length (edited e (front cells list.old)) ≤ length list.old }
+    requires can { Possible e (front cells list.old) }
+    ensures { list.new ≡ with_zeros (edited e (front cells list.old)) (length list.old) }
 {
     if e.bulge {
         bulge(list, cells, e.place, e.left);

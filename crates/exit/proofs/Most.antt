@@ -1,35 +1,35 @@
 -- How many cells a track can have, by the colour that it begins with; and that nothing fits where more are wanted.
-use Prim.Native.Nat.{_≤_, _<_}
-use mathlib.Core.Path.{_≡_, ap, _∙_}
+use Prim.Native.Nat.{◌≤◌, ◌<◌}
+use mathlib.Core.Path.{◌≡◌, ap, ◌∙◌}
 use mathlib.Core.Bool.{true}
-use mathlib.Core.Logic.{_≢_}
+use mathlib.Core.Logic.{◌≢◌}
 use mathlib.Core.List.{List}
 use native.Mathlib.Omega.{arith}
 use lib.ListN.{length}
-use Rattle·grid.specs.declared.Panel.{Panel}
-use Rattle·grid.specs.declared.Cell.{Cell}
-use Rattle·grid.specs.declared.Cells.{Cells}
-use Rattle·grid.specs.Panel.{OnPanel, black}
-use Rattle·grid.specs.Track.{Track}
-use Rattle·grid.proofs.Facts.{test-fails}
-use Rattle·grid.proofs.Tests.{both-branches}
-use Rattle·count.proofs.Pigeon.{at-most-area}
-use Rattle·count.proofs.Colour.{bit, black-bit, walk-black, at-most-black}
-use Rattle·exit·specs.specs.declared.Search.the-variants.{Nothing}
-use Rattle·exit·specs.specs.Exit.{fits, firstFit}
-use Rattle·exit·specs.specs.Most.{most}
-use Rattle·exit·proofs.proofs.Reading.{none-first}
-use Rattle·exit·proofs.proofs.Fitting.{fit-exit}
+use Rattle.grid.specs.declared.Panel.{Panel}
+use Rattle.grid.specs.declared.Cell.{Cell}
+use Rattle.grid.specs.declared.Cells.{Cells}
+use Rattle.grid.specs.Panel.{OnPanel, black}
+use Rattle.grid.specs.Track.{Track}
+use Rattle.grid.proofs.Facts.{test_fails}
+use Rattle.grid.proofs.Tests.{both_branches}
+use Rattle.count.proofs.Pigeon.{at_most_area}
+use Rattle.count.proofs.Colour.{bit, black_bit, walk_black, at_most_black}
+use Rattle.exit.specs.declared.Search.TheVariants.{Nothing}
+use Rattle.exit.specs.Exit.{fits, first_fit}
+use Rattle.exit.specs.Most.{most}
+use Rattle.exit.proofs.Reading.{none_first}
+use Rattle.exit.proofs.Fitting.{fit_exit}
 
 -- no track from s is longer, wherever it ends
-pub at-most : (p : Panel) {s t : Cell} {l : List Cell} → Track p s t l → length l ≤ most p s
-at-most p {s} {t} {l} r =
-    both-branches (λ k. length l ≤ k) (black s) _ _
-    (λ b. omega (arith, black-bit s ∙ ap bit b, walk-black (r .walk), at-most-black p (r .once) (r .within)))
-    (λ w. omega (arith, at-most-area p (r .once) (r .within)))
+pub at_most : (p : Panel) {s t : Cell} {l : List Cell} → Track p s t l → length l ≤ most p s
+at_most p {s} {t} {l} r =
+    both_branches (λ k. length l ≤ k) (black s) _ _
+    (λ b. omega (arith, black_bit s ∙ ap bit b, walk_black r.walk, at_most_black p r.once r.within))
+    (λ w. omega (arith, at_most_area p r.once r.within))
 
-pub none-above : (p : Panel) (s : Cell) (w : Cells) → OnPanel p s → most p s < w .0 → Nothing ≡ firstFit p s w
-none-above p s w os h = none-first (fits p s w) p (λ d o. test-fails (fits p s w d) (too-long d o))
+pub none_above : (p : Panel) (s : Cell) (w : Cells) → OnPanel p s → most p s < w.0 → Nothing ≡ first_fit p s w
+none_above p s w os h = none_first (fits p s w) p (λ d o. test_fails (fits p s w d) (too_long d o))
   where
-    too-long : (d : Cell) → OnPanel p d → fits p s w d ≢ true
-    too-long d o e = let x = fit-exit p s w d os o e in omega (arith, h, x .enough, at-most p (x .track))
+    too_long : (d : Cell) → OnPanel p d → fits p s w d ≢ true
+    too_long d o e = let x = fit_exit p s w d os o e in omega (arith, h, x.enough, at_most p x.track)

@@ -1,26 +1,25 @@
 // Exit: the first cell, rows from the top and each from the left, to which some track from the entry has
 // at least a wanted number of cells.
+#![tactic(auto)]
+
+ghost use Rattle.std.specs.Prelude.{◌≡◌, ◌≤◌};
+ghost use Rattle.grid.specs.Panel.{OnPanel, GoodSides};
+ghost use Rattle.grid.specs.Reading.{row, reading};
+ghost use Rattle.exit.specs.Exit.{fits, first, first_fit, Exits};
+ghost use Rattle.exit.specs.Most.{most};
+
 use cases::is_black;
-use grid::Cell;
-use grid::Cells;
-use grid::Check;
-use grid::Panel;
-use grid::Refusal;
-use grid::area_of;
-ghost use mathlib.Core.Path.{_≡_};
-ghost use Prim.Native.Nat.{_≤_};
-ghost use Rattle·grid.specs.Panel.{OnPanel, GoodSides};
-ghost use Rattle·grid.specs.Reading.{row, reading};
-ghost use Rattle·exit·specs.specs.Exit.{fits, first, firstFit, Exits};
-ghost use Rattle·exit·specs.specs.Most.{most};
+use grid::{Cell, Cells, Check, Panel, Refusal, area_of};
 
 // What Exit answers.
+#[derive(Clone, Copy)]
 pub enum ExitAnswer {
     Refused(Refusal),
     Given(Cell),
 }
 
 // What a search finds.
+#[derive(Clone, Copy)]
 pub enum Search {
     At(Cell),
     Nothing,
@@ -28,10 +27,10 @@ pub enum Search {
 
 // Whether the cell is not the entry and a track to it has at least the wanted number of cells.
 fn is_fit(p: Panel, entry: Cell, wanted: Cells, c: Cell) -> bool
-    requires { ⌜ GoodSides p ⌝ }
-    requires { ⌜ OnPanel p entry ⌝ }
-    requires { ⌜ OnPanel p c ⌝ }
-    ensures { λ r. ⌜ r ≡ fits p entry wanted c ⌝ }
+    requires good_sides { GoodSides p }
+    requires on_panel { OnPanel p entry }
+    requires on_panel_2 { OnPanel p c }
+    ensures { result ≡ fits p entry wanted c }
 {
     if grid::same_cell(entry, c) {
         return false;
@@ -42,10 +41,10 @@ fn is_fit(p: Panel, entry: Cell, wanted: Cells, c: Cell) -> bool
 
 // The first fit in row y.
 fn in_row(p: Panel, entry: Cell, wanted: Cells, y: u32) -> Search
-    requires { ⌜ GoodSides p ⌝ }
-    requires { ⌜ OnPanel p entry ⌝ }
-    requires { ⌜ (1 ≤ y) × (y ≤ p .height) ⌝ }
-    ensures { λ r. ⌜ r ≡ first (fits p entry wanted) (row p y) ⌝ }
+    requires good_sides { GoodSides p }
+    requires on_panel { OnPanel p entry }
+    requires le_y { (1 ≤ y) × (y ≤ p.height) }
+    ensures { result ≡ first (fits p entry wanted) (row p y) }
 {
     let width = p.width;
     let mut x: u32 = 1;
@@ -61,9 +60,9 @@ fn in_row(p: Panel, entry: Cell, wanted: Cells, y: u32) -> Search
 
 // The first fit, rows from the top, each from the left.
 fn in_panel(p: Panel, entry: Cell, wanted: Cells) -> Search
-    requires { ⌜ GoodSides p ⌝ }
-    requires { ⌜ OnPanel p entry ⌝ }
-    ensures { λ r. ⌜ r ≡ first (fits p entry wanted) (reading p) ⌝ }
+    requires good_sides { GoodSides p }
+    requires on_panel { OnPanel p entry }
+    ensures { result ≡ first (fits p entry wanted) (reading p) }
 {
     let height = p.height;
     let mut y: u32 = 1;
@@ -79,8 +78,8 @@ fn in_panel(p: Panel, entry: Cell, wanted: Cells) -> Search
 
 // The most cells that a track from the entry can have, by the colours alone.
 fn most_from(p: Panel, entry: Cell) -> u32
-    requires { ⌜ GoodSides p ⌝ }
-    ensures { λ r. ⌜ r ≡ most p entry ⌝ }
+    requires { GoodSides p }
+    ensures { result ≡ most p entry }
 {
     let area = area_of(p) as u32;
     if is_black(entry) {
@@ -91,10 +90,11 @@ fn most_from(p: Panel, entry: Cell) -> u32
 }
 
 // The first fit. Where the colours say that there is none, no cell is looked at.
+#[tactic(auto, using(crate::proofs::Most::none_above))]
 fn first_fit(p: Panel, entry: Cell, wanted: Cells) -> Search
-    requires { ⌜ GoodSides p ⌝ }
-    requires { ⌜ OnPanel p entry ⌝ }
-    ensures { λ r. ⌜ r ≡ firstFit p entry wanted ⌝ }
+    requires good_sides { GoodSides p }
+    requires on_panel { OnPanel p entry }
+    ensures { result ≡ first_fit p entry wanted }
 {
     if most_from(p, entry) < wanted.0 {
         return Search::Nothing;
@@ -104,7 +104,7 @@ fn first_fit(p: Panel, entry: Cell, wanted: Cells) -> Search
 
 // The call.
 pub fn find_exit(p: Panel, entry: Cell, wanted: Cells) -> ExitAnswer
-    ensures { λ r. ⌜ Exits p entry wanted r ⌝ }
+    ensures { Exits p entry wanted result }
 {
     let checked = grid::check_entry(p, entry);
     if let Check::Refused(r) = checked {

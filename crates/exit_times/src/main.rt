@@ -3,36 +3,27 @@
 // (0 white, 1 black) and, behind the colon, for how many of the entries the scan found a cell, for how
 // many none, and how many of Exit's answers were others. Standard error has, in the same order, the processor's time of a call of
 // Exit and of a scan, in tenths of a nanosecond, the shortest of some turns, each with the turn's sum.
+#![tactic(auto)]
+
 use bound::bound_values;
 use exit::ExitAnswer;
-use grid::Cell;
-use grid::Cells;
-use grid::Panel;
-use grid::area_of;
-use grid::panel_of;
+use grid::{Cell, Cells, Panel, area_of, panel_of};
+use std::io;
 use std::num::wrapping_add_u32;
+use std::time::CpuClock;
 use trial::PITCH;
-use trial::cells::Tally;
-use trial::cells::same;
-use trial::cells::tallied;
+use trial::cells::{Tally, same, tallied};
 use trial::numbers::below;
-use trial::print::row;
-use trial::print::tally;
-use trial::times::DOUBLED;
-use trial::times::TURNS;
-use trial::times::Turn;
-use trial::times::each;
-use trial::times::long_enough;
-use trial::times::micros;
-use trial::times::say;
-use trial::times::say_time;
-use trial::times::shorter;
-use trial::times::turn_from;
+use trial::print::{row, tally};
+use trial::times::{
+    DOUBLED, TURNS, Turn, each, long_enough, micros, say, say_time, shorter, turn_from,
+};
 
 // How many entries a case has.
 const ENTRIES: u32 = 64;
 
 // What is asked of every entry of a colour.
+#[derive(Clone, Copy)]
 struct Case {
     panel: Panel,
     wanted: Cells,
@@ -107,21 +98,21 @@ fn answer(c: Case, i: u32, scanned: bool) -> Cell {
 }
 
 // So many calls, of every entry in turn.
-fn timed(c: Case, calls: u32, scanned: bool) -> Turn {
-    let start = micros();
+fn timed(rt: &impl CpuClock, c: Case, calls: u32, scanned: bool) -> Turn {
+    let start = micros(rt);
     let mut sum = 0;
     for i in 0..calls {
         let t = answer(c, i, scanned);
         sum = wrapping_add_u32(sum, wrapping_add_u32(t.x, t.y));
     }
-    turn_from(start, sum)
+    turn_from(rt, start, sum)
 }
 
 // The calls of a turn that is long enough.
-fn calls_of(c: Case, scanned: bool) -> u32 {
+fn calls_of(rt: &impl CpuClock, c: Case, scanned: bool) -> u32 {
     let mut calls = ENTRIES;
     for _k in 0..DOUBLED {
-        if long_enough(timed(c, calls, scanned)) {
+        if long_enough(timed(rt, c, calls, scanned)) {
             return calls;
         }
         calls = wrapping_add_u32(calls, calls);
@@ -130,20 +121,20 @@ fn calls_of(c: Case, scanned: bool) -> u32 {
 }
 
 // The shortest turn.
-fn shortest(c: Case, calls: u32, scanned: bool) -> Turn {
-    let mut best = timed(c, calls, scanned);
+fn shortest(rt: &impl CpuClock, c: Case, calls: u32, scanned: bool) -> Turn {
+    let mut best = timed(rt, c, calls, scanned);
     for _k in 1..TURNS {
-        best = shorter(best, timed(c, calls, scanned));
+        best = shorter(best, timed(rt, c, calls, scanned));
     }
     best
 }
 
 // In tenths of a nanosecond.
-fn say_case(c: Case, scanned: bool) {
-    let calls = calls_of(c, scanned);
-    let t = shortest(c, calls, scanned);
-    say_time(each(t, calls), t.sum);
-    say(b" ");
+fn say_case(rt: &(impl CpuClock + Eprint), c: Case, scanned: bool) -> io::Result<()> {
+    let calls = calls_of(rt, c, scanned);
+    let t = shortest(rt, c, calls, scanned);
+    say_time(rt, each(t, calls), t.sum)?;
+    say(rt, b" ")
 }
 
 // ---- cases
@@ -160,30 +151,36 @@ fn compared(c: Case) -> Tally {
     n
 }
 
-fn try_case(m: u32, n: u32, wanted: u32, colour: u32) {
+fn try_case(
+    rt: &(impl CpuClock + Eprint + Print),
+    m: u32,
+    n: u32,
+    wanted: u32,
+    colour: u32,
+) -> io::Result<()> {
     let c = Case {
         panel: panel_of(m, n, PITCH),
         wanted: Cells(wanted),
         colour,
     };
-    row(&[m, n, wanted, colour], b": ");
-    tally(compared(c));
-    say_case(c, false);
-    say_case(c, true);
-    say(b"\n");
+    row(rt, &[m, n, wanted, colour], b": ")?;
+    tally(rt, compared(c))?;
+    say_case(rt, c, false)?;
+    say_case(rt, c, true)?;
+    say(rt, b"\n")
 }
 
 // A count that no cell fits, all cells, and one fewer; then panels of three columns and of three rows,
 // where the first fit may be far from the top.
-fn main() {
-    try_case(128, 128, 16385, 0);
-    try_case(128, 128, 16384, 0);
-    try_case(128, 128, 16383, 0);
-    try_case(127, 127, 16130, 0);
-    try_case(127, 127, 16129, 1);
-    try_case(127, 127, 16129, 0);
-    try_case(127, 127, 16128, 1);
-    try_case(127, 127, 16128, 0);
-    try_case(3, 128, 384, 0);
-    try_case(128, 3, 384, 0);
+fn main(rt: HostRuntime) -> io::Result<()> {
+    try_case(&rt, 128, 128, 16385, 0)?;
+    try_case(&rt, 128, 128, 16384, 0)?;
+    try_case(&rt, 128, 128, 16383, 0)?;
+    try_case(&rt, 127, 127, 16130, 0)?;
+    try_case(&rt, 127, 127, 16129, 1)?;
+    try_case(&rt, 127, 127, 16129, 0)?;
+    try_case(&rt, 127, 127, 16128, 1)?;
+    try_case(&rt, 127, 127, 16128, 0)?;
+    try_case(&rt, 3, 128, 384, 0)?;
+    try_case(&rt, 128, 3, 384, 0)
 }

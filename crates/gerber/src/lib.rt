@@ -1,12 +1,13 @@
 // What the writer and the reader of a Gerber layer share: its head, the place of a cell's centre, and
 // whether three cells lie in one direction.
-use grid::Cell;
-use grid::Panel;
+#![tactic(auto)]
+
+ghost use Rattle.std.specs.Prelude.{◌≡◌, ◌*◌, ◌≤◌};
+ghost use Rattle.grid.specs.Panel.{GoodPanel, OnPanel};
+ghost use Rattle.gerber.specs.Layer.{plot_x, plot_y, head_of, straight};
+
+use grid::{Cell, Panel};
 use text::digit_of;
-ghost use mathlib.Core.Path.{_≡_};
-ghost use Prim.Native.Nat.{_*_, _≤_};
-ghost use Rattle·grid.specs.Panel.{GoodPanel, OnPanel};
-ghost use Rattle·gerber·specs.specs.Layer.{plotX, plotY, headOf, straight};
 
 // The bytes of a head.
 pub const HEAD: usize = 49;
@@ -16,8 +17,8 @@ const HEAD_TEXT: [u8; HEAD] = *b"%FSLAX46Y46*%\n%MOMM*%\n%ADD10C,0.0000*%\nD10*\
 
 // The digits of half the pitch in ten-thousandths of a millimetre go where the text has zeros.
 pub fn head_of(p: Panel) -> [u8; HEAD]
-    requires { ⌜ GoodPanel p ⌝ }
-    ensures { λ r. ⌜ r ≡ headOf p ⌝ }
+    requires { GoodPanel p }
+    ensures { result ≡ head_of p }
 {
     let half = 5 * p.pitch;
     let mut head = HEAD_TEXT;
@@ -31,29 +32,32 @@ pub fn head_of(p: Panel) -> [u8; HEAD]
 
 // So many halves of the pitch, in nanometres.
 fn half_pitches(p: Panel, k: u32) -> u32
-    requires { ⌜ (GoodPanel p) × (k ≤ 255) ⌝ }
-    ensures { λ r. ⌜ r ≡ k * p .pitch * 500 ⌝ }
+    requires { (GoodPanel p) × (k ≤ 255) }
+    ensures { result ≡ k * p.pitch * 500 }
 {
     k * p.pitch * 500
 }
 
+#[tactic(auto, unfolding(crate::specs::Layer::plot_x))]
 pub fn plot_x(p: Panel, c: Cell) -> u32
-    requires { ⌜ (GoodPanel p) × (OnPanel p c) ⌝ }
-    ensures { λ r. ⌜ r ≡ plotX p c ⌝ }
+    requires { (GoodPanel p) × (OnPanel p c) }
+    ensures { result ≡ plot_x p c }
 {
     half_pitches(p, 2 * c.x - 1)
 }
 
+#[tactic(auto, unfolding(crate::specs::Layer::plot_y))]
 pub fn plot_y(p: Panel, c: Cell) -> u32
-    requires { ⌜ (GoodPanel p) × (OnPanel p c) ⌝ }
-    ensures { λ r. ⌜ r ≡ plotY p c ⌝ }
+    requires { (GoodPanel p) × (OnPanel p c) }
+    ensures { result ≡ plot_y p c }
 {
     half_pitches(p, 2 * (p.height - c.y) + 1)
 }
 
 // Whether b is the middle of a and c. Sums of any 32-bit numbers fit.
+#[tactic(auto, unfolding(crate::specs::Layer::straight))]
 pub fn is_straight(a: Cell, b: Cell, c: Cell) -> bool
-    ensures { λ r. ⌜ r ≡ straight a b c ⌝ }
+    ensures { result ≡ straight a b c }
 {
     if (a.x as u64) + (c.x as u64) == 2 * (b.x as u64) {
         return (a.y as u64) + (c.y as u64) == 2 * (b.y as u64);

@@ -1,34 +1,23 @@
 // Reads a Gerber layer back as its list of cells.
-use gerber_trace::Advance;
-use gerber_trace::Target;
-use gerber_trace::Trace;
-use gerber_trace::first_at;
-use gerber_trace::is_end;
-use gerber_trace::step_on;
-use grid::Cell;
-use grid::Cells;
-use grid::CellsAnswer;
-use grid::Check;
-use grid::Panel;
-use grid::Refusal;
-use grid::area_of;
-use grid::check_panel;
+#![tactic(auto)]
+
+ghost use Rattle.std.specs.Prelude.{◌≡◌, ◌*◌, ◌≤◌, length, drop};
+ghost use Rattle.grid.specs.Panel.{GoodPanel, OnPanel};
+ghost use Rattle.grid.specs.Bytes.{bytes};
+ghost use Rattle.list.specs.List.{with_cells};
+ghost use Rattle.text.specs.Put.{put};
+ghost use Rattle.gerber.specs.Layer.{flash};
+ghost use Rattle.gerber_trace.specs.Trace.{cells_from, first_at};
+ghost use Rattle.gerber_trace.specs.Trace.Aim.{nothing, cell_and};
+ghost use Rattle.gerber_read.specs.Read.{start_at, found_list, found_size, cells_ahead, Writable, ReadsLayer};
+
+use gerber_trace::{Advance, Target, Trace, first_at, is_end, step_on};
+use grid::{Cell, Cells, CellsAnswer, Check, Panel, Refusal, area_of, check_panel};
 use list::put_cell;
-ghost use mathlib.Core.Path.{_≡_};
-ghost use Prim.Native.Nat.{_*_, _≤_};
-ghost use lib.ListN.{length, drop};
-ghost use Rattle·grid.specs.Panel.{GoodPanel, OnPanel};
-ghost use Rattle·grid.specs.Bytes.{bytes};
-ghost use Rattle·list.specs.List.{withCells};
-ghost use Rattle·text.specs.Put.{put};
-ghost use Rattle·gerber.specs.Layer.{flash};
-ghost use Rattle·gerber_trace.specs.Trace.{cellsFrom, firstAt};
-ghost use Rattle·gerber_trace.specs.Trace.Aim.{nothing, cellAnd};
-ghost use Rattle·gerber_read·specs.specs.Read.{startAt, foundList, foundSize, cellsAhead, Writable, ReadsLayer};
 
 // The way through a layer begins at its first cell, which is its own goal: every direction is another.
 fn start_at(s: Cell, next: usize) -> Trace
-    ensures { λ r. ⌜ r ≡ startAt s next ⌝ }
+    ensures { result ≡ start_at s next }
 {
     Trace {
         before: s,
@@ -40,8 +29,8 @@ fn start_at(s: Cell, next: usize) -> Trace
 
 // How many cells a layer has whose first cell is s and whose draws begin at `next`; 0 if it is none.
 fn count_cells(p: Panel, s: Cell, file: &[u8], next: usize) -> usize
-    requires { ⌜ (GoodPanel p) × (OnPanel p s) ⌝ }
-    ensures { λ r. ⌜ r ≡ foundSize (cellsFrom p (cellAnd s (drop next (now (file .entry))))) ⌝ }
+    requires { (GoodPanel p) × (OnPanel p s) }
+    ensures { result ≡ found_size (cells_from p (cell_and s (drop next file.now))) }
 {
     let most = area_of(p);
     let mut t = start_at(s, next);
@@ -66,8 +55,8 @@ fn count_cells(p: Panel, s: Cell, file: &[u8], next: usize) -> usize
 
 // The cells ahead of a trace, from a byte of the buffer on, up to `end`.
 fn write_ahead(p: Panel, file: &[u8], begin: Trace, list: &mut [u8], from: usize, end: usize)
-    requires { ⌜ Writable p (now file) begin (now list) from end ⌝ }
-    ensures { λ _. ⌜ now (list .exit) ≡ put (now (list .entry)) from (bytes (foundList (cellsAhead p (now (file .entry)) begin))) ⌝ }
+    requires { Writable p file.now begin list.old from end }
+    ensures { list.new ≡ put list.old from (bytes (found_list (cells_ahead p file.now begin))) }
 {
     let mut t = begin;
     let mut j = from;
@@ -91,10 +80,10 @@ fn write_ahead(p: Panel, file: &[u8], begin: Trace, list: &mut [u8], from: usize
 
 // The cells of a layer, of which there are so many, at the front of the buffer.
 fn write_cells(p: Panel, s: Cell, file: &[u8], next: usize, count: usize, list: &mut [u8])
-    requires { ⌜ (GoodPanel p) × (OnPanel p s) ⌝ }
-    requires { ⌜ count ≡ foundSize (cellsFrom p (cellAnd s (drop next (now file)))) ⌝ }
-    requires { ⌜ (1 ≤ count) × (2 * count ≤ length (now list)) ⌝ }
-    ensures { λ _. ⌜ now (list .exit) ≡ withCells (foundList (cellsFrom p (cellAnd s (drop next (now (file .entry)))))) (now (list .entry)) ⌝ }
+    requires good_panel { (GoodPanel p) × (OnPanel p s) }
+    requires count_value { count ≡ found_size (cells_from p (cell_and s (drop next file.now))) }
+    requires le_count { (1 ≤ count) × (2 * count ≤ length list.old) }
+    ensures { list.new ≡ with_cells (found_list (cells_from p (cell_and s (drop next file.now)))) list.old }
 {
     put_cell(list, 0, s);
     write_ahead(p, file, start_at(s, next), list, 2, 2 * count);
@@ -102,8 +91,8 @@ fn write_cells(p: Panel, s: Cell, file: &[u8], next: usize, count: usize, list: 
 
 // The list of one cell, whose flash ends at `next`.
 fn read_spot(p: Panel, s: Cell, file: &[u8], next: usize, list: &mut [u8]) -> CellsAnswer
-    requires { ⌜ (GoodPanel p) × (firstAt p flash (now file) ≡ cellAnd s (drop next (now file))) ⌝ }
-    ensures { λ r. ⌜ ReadsLayer p (now (file .entry)) (now (list .entry)) (now (list .exit)) r ⌝ }
+    requires { (GoodPanel p) × (first_at p flash file.now ≡ cell_and s (drop next file.now)) }
+    ensures { ReadsLayer p file.now list.old list.new result }
 {
     if !is_end(file, next) {
         return CellsAnswer::Refused(Refusal::UnknownByte);
@@ -117,8 +106,8 @@ fn read_spot(p: Panel, s: Cell, file: &[u8], next: usize, list: &mut [u8]) -> Ce
 
 // The list of two cells or more, where there is no flash.
 fn read_walk(p: Panel, file: &[u8], list: &mut [u8]) -> CellsAnswer
-    requires { ⌜ (GoodPanel p) × (firstAt p flash (now file) ≡ nothing) ⌝ }
-    ensures { λ r. ⌜ ReadsLayer p (now (file .entry)) (now (list .entry)) (now (list .exit)) r ⌝ }
+    requires { (GoodPanel p) × (first_at p flash file.now ≡ nothing) }
+    ensures { ReadsLayer p file.now list.old list.new result }
 {
     let first = first_at(p, b"02*\n", file);
     let Target::At(s, next) = first else {
@@ -138,7 +127,7 @@ fn read_walk(p: Panel, file: &[u8], list: &mut [u8]) -> CellsAnswer
 }
 
 pub fn read_layer(p: Panel, file: &[u8], list: &mut [u8]) -> CellsAnswer
-    ensures { λ r. ⌜ ReadsLayer p (now (file .entry)) (now (list .entry)) (now (list .exit)) r ⌝ }
+    ensures { ReadsLayer p file.now list.old list.new result }
 {
     let c = check_panel(p);
     if let Check::Refused(r) = c {

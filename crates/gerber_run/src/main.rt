@@ -10,25 +10,19 @@
 // the cells, a checksum of what was put, and `kept` if every other byte that was lent is as promised, else
 // `FAULT`. Of each kind of change two numbers: the files that are layers, and make the same layer again, and
 // those that are taken for anything but a layer or none.
-use bytes::scan::find;
-use check::same;
+#![tactic(auto)]
+
+ghost use Rattle.std.specs.Prelude.{◌<◌, ◌≤◌, length, IfOk};
+
 use gerber_read::read_layer;
 use gerber_write::write_layer;
-use grid::BytesAnswer;
-use grid::Panel;
-use grid::cells_values;
-use grid::number_of;
-use grid::panel_of;
-use libc::STDIN_FILENO;
+use grid::{BytesAnswer, Panel, cells_values, number_of, panel_of};
+use line_input::read_full;
+use std::io;
 use std::num::wrapping_add_u32;
-use trial::cells::fill;
-use trial::cells::filled;
-use trial::cells::snake;
+use trial::cells::{fill, filled, snake};
 use trial::numbers::one_less;
-use trial::print::row;
-use trial::print::text;
-ghost use Prim.Native.Nat.{_≤_, _<_};
-ghost use lib.ListN.{length};
+use trial::print::{row, text};
 
 // What buffers and scratch are filled with before a call.
 const FILL: u8 = 170;
@@ -61,18 +55,19 @@ const NOT_MADE: u32 = 999;
 const OTHER: u32 = 1000000;
 
 // The number of the refusal and the bytes or the cells.
+#[derive(Clone, Copy)]
 struct Answer {
     refusal: u32,
     count: u32,
 }
 
-fn show(a: Answer, sum: u32, kept: bool) {
-    text(b" | ");
-    row(&[a.refusal, a.count, sum], b" ");
+fn show(rt: &impl Print, a: Answer, sum: u32, kept: bool) -> io::Result<()> {
+    text(rt, b" | ")?;
+    row(rt, &[a.refusal, a.count, sum], b" ")?;
     if kept {
-        text(b"kept");
+        text(rt, b"kept")
     } else {
-        text(b"FAULT");
+        text(rt, b"FAULT")
     }
 }
 
@@ -154,117 +149,157 @@ fn stays(scratch: &[u8], out: &[u8], k: usize) -> bool {
     if k == 0 {
         return filled(scratch, 0, FILL);
     }
-    same(scratch, &CLEARED)
+    scratch == CLEARED.as_slice()
 }
 
 // Writes so, with all bytes filled before, and prints what came of it. The bytes written.
-fn write_in(p: Panel, list: &[u8], digits: usize, out: &mut [u8], room: usize) -> usize {
+fn write_in(
+    rt: &impl Print,
+    p: Panel,
+    list: &[u8],
+    digits: usize,
+    out: &mut [u8],
+    room: usize,
+) -> io::Result<usize> {
     fill(out, FILL);
     let mut scratch = [FILL; SCRATCH];
     let a = write_into(p, list, &mut scratch, digits, out, room);
     let k = a.count as usize;
-    show(a, sum_front(out, k), stays(&scratch, out, k));
-    k
+    show(rt, a, sum_front(out, k), stays(&scratch, out, k))?;
+    Ok(k)
 }
 
 // The same of reading. The bytes of the list.
-fn read_in(p: Panel, file: &[u8], k: usize, list: &mut [u8], room: usize) -> usize {
+fn read_in(
+    rt: &impl Print,
+    p: Panel,
+    file: &[u8],
+    k: usize,
+    list: &mut [u8],
+    room: usize,
+) -> io::Result<usize> {
     fill(list, FILL);
     let a = read_into(p, file, k, list, room);
     let end = 2 * (a.count as usize);
-    show(a, sum_front(list, end), filled(list, end, FILL));
-    end
+    show(rt, a, sum_front(list, end), filled(list, end, FILL))?;
+    Ok(end)
 }
 
 // Writes a layer of k bytes in a byte too few, with a byte too few of scratch, and in just enough of both.
-fn write_closely(p: Panel, list: &[u8], out: &mut [u8], k: usize) {
-    write_in(p, list, SCRATCH, out, one_less(k));
-    write_in(p, list, 9, out, k);
-    write_in(p, list, 10, out, k);
-    text(b"\n");
+fn write_closely(
+    rt: &impl Print,
+    p: Panel,
+    list: &[u8],
+    out: &mut [u8],
+    k: usize,
+) -> io::Result<()> {
+    write_in(rt, p, list, SCRATCH, out, one_less(k))?;
+    write_in(rt, p, list, 9, out, k)?;
+    write_in(rt, p, list, 10, out, k)?;
+    text(rt, b"\n")
 }
 
 // The same after room to spare. The bytes of the layer, which is left in the buffer.
-fn write_four(p: Panel, list: &[u8], out: &mut [u8]) -> usize {
-    text(b"write");
+fn write_four(rt: &impl Print, p: Panel, list: &[u8], out: &mut [u8]) -> io::Result<usize> {
+    text(rt, b"write")?;
     let room = out.len();
-    let k = write_in(p, list, SCRATCH, out, room);
-    write_closely(p, list, out, k);
-    k
+    let k = write_in(rt, p, list, SCRATCH, out, room)?;
+    write_closely(rt, p, list, out, k)?;
+    Ok(k)
 }
 
 // Reads the list of a layer of k bytes into nothing, into a byte too few, and into just enough.
-fn read_closely(p: Panel, file: &[u8], k: usize, list: &mut [u8], end: usize) {
-    read_in(p, file, k, list, 0);
-    read_in(p, file, k, list, one_less(end));
-    read_in(p, file, k, list, end);
-    text(b"\n");
+fn read_closely(
+    rt: &impl Print,
+    p: Panel,
+    file: &[u8],
+    k: usize,
+    list: &mut [u8],
+    end: usize,
+) -> io::Result<()> {
+    read_in(rt, p, file, k, list, 0)?;
+    read_in(rt, p, file, k, list, one_less(end))?;
+    read_in(rt, p, file, k, list, end)?;
+    text(rt, b"\n")
 }
 
 // The same after room to spare.
-fn read_four(p: Panel, file: &[u8], k: usize, list: &mut [u8]) {
-    text(b"read");
+fn read_four(rt: &impl Print, p: Panel, file: &[u8], k: usize, list: &mut [u8]) -> io::Result<()> {
+    text(rt, b"read")?;
     let room = list.len();
-    let end = read_in(p, file, k, list, room);
-    read_closely(p, file, k, list, end);
+    let end = read_in(rt, p, file, k, list, room)?;
+    read_closely(rt, p, file, k, list, end)
 }
 
 // A list there and back. The bytes of its layer.
-fn both_ways(p: Panel, list: &[u8], out: &mut [u8], back: &mut [u8]) -> usize {
-    let k = write_four(p, list, out);
-    read_four(p, out, k, back);
-    k
+fn both_ways(
+    rt: &impl Print,
+    p: Panel,
+    list: &[u8],
+    out: &mut [u8],
+    back: &mut [u8],
+) -> io::Result<usize> {
+    let k = write_four(rt, p, list, out)?;
+    read_four(rt, p, out, k, back)?;
+    Ok(k)
 }
 
-fn print_front(s: &[u8], k: usize) {
+fn print_front(rt: &impl Print, s: &[u8], k: usize) -> io::Result<()> {
     if k <= s.len() {
-        text(&s[0..k]);
+        text(rt, &s[0..k])?;
     }
+    Ok(())
 }
 
-fn layer_case(p: Panel, list: &[u8]) {
-    text(b"\n");
+fn layer_case(rt: &impl Print, p: Panel, list: &[u8]) -> io::Result<()> {
+    text(rt, b"\n")?;
     let mut out = [FILL; ROOM];
     let mut back = [FILL; LIST];
-    let k = both_ways(p, list, &mut out, &mut back);
-    print_front(&out, k);
+    let k = both_ways(rt, p, list, &mut out, &mut back)?;
+    print_front(rt, &out, k)
 }
 
-fn write_case(p: Panel, list: &[u8], digits: usize, room: usize) {
+fn write_case(
+    rt: &impl Print,
+    p: Panel,
+    list: &[u8],
+    digits: usize,
+    room: usize,
+) -> io::Result<()> {
     let mut out = [FILL; ROOM];
-    write_in(p, list, digits, &mut out, room);
-    text(b"\n");
+    write_in(rt, p, list, digits, &mut out, room)?;
+    text(rt, b"\n")
 }
 
 // Reads the first k bytes of a file into a buffer, and into none.
-fn read_case(p: Panel, file: &[u8], k: usize) {
+fn read_case(rt: &impl Print, p: Panel, file: &[u8], k: usize) -> io::Result<()> {
     let mut list = [FILL; LIST];
-    read_in(p, file, k, &mut list, LIST);
-    read_in(p, file, k, &mut list, 0);
-    text(b"\n");
+    read_in(rt, p, file, k, &mut list, LIST)?;
+    read_in(rt, p, file, k, &mut list, 0)?;
+    text(rt, b"\n")
 }
 
 // Puts a text at a place of a file, if it fits.
 fn put(text: &[u8], file: &mut [u8], at: usize) {
     if at <= file.len() {
         if text.len() <= file.len() - at {
-            bytes::copy(text, &mut file[at..]);
+            file[at..at + text.len()].copy_from_slice(text);
         }
     }
 }
 
 // The same of a file that goes on so behind a good head.
-fn body_case(p: Panel, body: &[u8]) {
+fn body_case(rt: &impl Print, p: Panel, body: &[u8]) -> io::Result<()> {
     let mut file = [FILL; ROOM];
     put(&HEAD, &mut file, 0);
     put(body, &mut file, HEAD_BYTES);
-    read_case(p, &file, HEAD_BYTES + body.len());
+    read_case(rt, p, &file, HEAD_BYTES + body.len())
 }
 
 // Whether the first k bytes are a file.
 fn front_is(s: &[u8], k: usize, file: &[u8]) -> bool {
     if k <= s.len() {
-        same(&s[0..k], file)
+        &s[0..k] == file
     } else {
         false
     }
@@ -302,7 +337,7 @@ fn verdict(p: Panel, file: &[u8]) -> u32 {
 
 // The verdicts on a file with every value at one place.
 fn every_value(p: Panel, other: &mut [u8], i: usize) -> u32
-    requires { ⌜ i < length (now other) ⌝ }
+    requires { i < length other.old }
 {
     let mut n: u32 = 0;
     let mut v: u32 = 0;
@@ -316,7 +351,7 @@ fn every_value(p: Panel, other: &mut [u8], i: usize) -> u32
 
 // Byte i of a file, if it has one, at place i of another.
 fn put_byte(file: &[u8], other: &mut [u8], i: usize)
-    requires { ⌜ i < length (now other) ⌝ }
+    requires { i < length other.old }
 {
     if i < file.len() {
         other[i] = file[i];
@@ -336,33 +371,48 @@ fn every_place(p: Panel, file: &[u8], other: &mut [u8]) -> u32 {
 }
 
 // The same of a part of a buffer, with the two numbers that are printed.
-fn verdicts(p: Panel, file: &[u8], other: &mut [u8], from: usize, end: usize) {
+fn verdicts(
+    rt: &impl Print,
+    p: Panel,
+    file: &[u8],
+    other: &mut [u8],
+    from: usize,
+    end: usize,
+) -> io::Result<()> {
     if from <= end {
         if end <= other.len() {
             let n = every_place(p, file, &mut other[from..end]);
-            row(&[n % OTHER, n / OTHER], b"\n");
+            row(rt, &[n % OTHER, n / OTHER], b"\n")?;
         }
     }
+    Ok(())
 }
 
 // Of a file of k bytes, which stands in a buffer from 1 on: every value put in at every place, with which each
 // byte is doubled too; in place of every byte; in place of every two, with which each byte is removed too. Each
 // leaves the file where the next one takes it.
-fn three_verdicts(p: Panel, file: &[u8], k: usize, other: &mut [u8]) {
+fn three_verdicts(
+    rt: &impl Print,
+    p: Panel,
+    file: &[u8],
+    k: usize,
+    other: &mut [u8],
+) -> io::Result<()> {
     if k < other.len() {
-        verdicts(p, file, other, 0, k + 1);
-        verdicts(p, file, other, 0, k);
-        verdicts(p, file, other, 1, k);
+        verdicts(rt, p, file, other, 0, k + 1)?;
+        verdicts(rt, p, file, other, 0, k)?;
+        verdicts(rt, p, file, other, 1, k)?;
     }
+    Ok(())
 }
 
-fn every_case(p: Panel, list: &[u8]) {
-    text(b"\n");
+fn every_case(rt: &impl Print, p: Panel, list: &[u8]) -> io::Result<()> {
+    text(rt, b"\n")?;
     let mut file = [FILL; ROOM];
     let a = write_roomy(p, list, &mut file);
     let mut other = [FILL; ROOM + 1];
     put(&file, &mut other, 1);
-    three_verdicts(p, &file, a.count as usize, &mut other);
+    three_verdicts(rt, p, &file, a.count as usize, &mut other)
 }
 
 // A decimal digit more. The low half of its byte is its value.
@@ -412,51 +462,68 @@ fn panel_in(words: &[u32]) -> Panel {
 }
 
 // A case with a list, the bytes up to `end`.
-fn list_case(kind: u8, words: &[u32], list: &[u8], end: usize) {
+fn list_case(rt: &impl Print, kind: u8, words: &[u32], list: &[u8], end: usize) -> io::Result<()> {
     let p = panel_in(words);
     if end <= list.len() {
         if 7 <= end {
             match kind {
-                b'l' => layer_case(p, &list[5..end]),
-                b'e' => every_case(p, &list[5..end]),
+                b'l' => layer_case(rt, p, &list[5..end])?,
+                b'e' => every_case(rt, p, &list[5..end])?,
                 _ => write_case(
+                    rt,
                     p,
                     &list[7..end],
                     word_at(words, 6) as usize,
                     word_at(words, 5) as usize,
-                ),
+                )?,
             }
         }
     }
+    Ok(())
 }
 
-fn file_case(kind: u8, words: &[u32], file: &[u8]) {
+fn file_case(rt: &impl Print, kind: u8, words: &[u32], file: &[u8]) -> io::Result<()> {
     let p = panel_in(words);
     if kind == b'b' {
-        body_case(p, file);
+        body_case(rt, p, file)
     } else {
-        read_case(p, file, file.len());
+        read_case(rt, p, file, file.len())
     }
 }
 
+// The first place from `from` on that has this byte, or `end` if none before it has.
+fn find(s: &[u8], from: usize, end: usize, b: u8) -> usize
+    requires order { from ≤ end }
+    requires room { end ≤ length s.now }
+    ensures low { from ≤ result }
+    ensures high { result ≤ end }
+{
+    for i in from..end {
+        if s[i] == b {
+            return i;
+        }
+    }
+    end
+}
+
 // The case of a line; its file, if it has one, goes up to the next #. Where the next line begins.
-fn one_case(kind: u8, line: &[u8], input: &[u8], at: usize) -> usize
-    requires { ⌜ at ≤ length (now input) ⌝ }
-    ensures { λ r. ⌜ at ≤ r ⌝ }
+fn one_case(rt: &impl Print, kind: u8, line: &[u8], input: &[u8], at: usize) -> io::Result<usize>
+    requires { at ≤ length input.now }
+    ensures { IfOk result (λ next. at ≤ next) }
 {
     let mut words = [0u32; WORDS];
     let end = words_in(line, &mut words);
     match kind {
         b'b' | b'r' => {
             let stop = find(input, at, input.len(), b'#');
-            file_case(kind, &words, &input[at..stop]);
-            stop + 2
+            file_case(rt, kind, &words, &input[at..stop])?;
+            Ok(stop + 2)
         }
         _ => {
             let mut list = [0u8; WORDS];
             bytes_in(&words, &mut list);
-            list_case(kind, &words, &list, end);
-            at
+            list_case(rt, kind, &words, &list, end)?;
+            Ok(at)
         }
     }
 }
@@ -467,30 +534,31 @@ fn kind_in(line: &[u8]) -> u8 {
 }
 
 // The line from `at` on: where the next one begins.
-fn one_line(input: &[u8], at: usize) -> usize
-    requires { ⌜ at < length (now input) ⌝ }
-    ensures { λ r. ⌜ at < r ⌝ }
+fn one_line(rt: &impl Print, input: &[u8], at: usize) -> io::Result<usize>
+    requires { at < length input.now }
+    ensures { IfOk result (λ next. at < next) }
 {
     let end = find(input, at, input.len(), b'\n');
     if end == input.len() {
-        return end;
+        return Ok(end);
     }
-    text(&input[at..end]);
+    text(rt, &input[at..end])?;
     let next = end + 1;
     let colon = find(input, at, end, b':');
     let kind = kind_in(&input[colon..end]);
     if kind == 0 {
-        text(b"\n");
-        return next;
+        text(rt, b"\n")?;
+        return Ok(next);
     }
-    one_case(kind, &input[colon..next], input, next)
+    one_case(rt, kind, &input[colon..next], input, next)
 }
 
-fn all_lines(input: &[u8]) {
+fn all_lines(rt: &impl Print, input: &[u8]) -> io::Result<()> {
     let mut at = 0;
     while at < input.len() {
-        at = one_line(input, at);
+        at = one_line(rt, input, at)?;
     }
+    Ok(())
 }
 
 // Round and round the four cells in the corner whose numbers have ten digits.
@@ -503,30 +571,31 @@ fn round(list: &mut [u8]) {
     }
 }
 
-fn large_case(list: &[u8]) {
+fn large_case(rt: &impl Print, list: &[u8]) -> io::Result<()> {
     let mut out = [FILL; 442500];
     let mut back = [FILL; 32800];
-    both_ways(panel_of(128, 128, 10000), list, &mut out, &mut back);
+    both_ways(rt, panel_of(128, 128, 10000), list, &mut out, &mut back)?;
+    Ok(())
 }
 
 // The longest lists, with the fewest lines and with the most, and one that is a cell longer.
-fn largest() {
+fn largest(rt: &impl Print) -> io::Result<()> {
     let mut list = [0u8; 32768];
-    text(b"128 by 128, row by row\n");
+    text(rt, b"128 by 128, row by row\n")?;
     snake(&mut list);
-    large_case(&list);
-    text(b"128 by 128, a turn at every cell\n");
+    large_case(rt, &list)?;
+    text(rt, b"128 by 128, a turn at every cell\n")?;
     round(&mut list);
-    large_case(&list);
+    large_case(rt, &list)?;
     let mut longer = [0u8; 32770];
-    text(b"128 by 128, a cell too many\n");
+    text(rt, b"128 by 128, a cell too many\n")?;
     round(&mut longer);
-    large_case(&longer);
+    large_case(rt, &longer)
 }
 
-fn main() {
+fn main(rt: HostRuntime) -> io::Result<()> {
     let mut input = [0u8; 32768];
-    let n = io::read_full(STDIN_FILENO, &mut input);
-    all_lines(&input[0..n]);
-    largest();
+    let n = read_full(&mut rt.stdin(), &mut input)?;
+    all_lines(&rt, &input[..n])?;
+    largest(&rt)
 }

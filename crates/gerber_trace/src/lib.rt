@@ -1,25 +1,17 @@
 // A Gerber layer read back, cell by cell.
-use gerber::HEAD;
-use gerber::head_of;
-use gerber::is_straight;
-use gerber::plot_x;
-use gerber::plot_y;
-use grid::Cell;
-use grid::Panel;
-use grid::on_panel;
-use grid::same_cell;
-use text::Number;
-use text::bytes_from;
-use text::read_field;
-use text::text_at;
-ghost use mathlib.Core.Path.{_≡_};
-ghost use Prim.Native.Nat.{_*_, _-_, _≤_};
-ghost use lib.ListN.{drop};
-ghost use Rattle·grid.specs.Panel.{GoodPanel, OnPanel, maxSide};
-ghost use Rattle·gerber.specs.Layer.{draw};
-ghost use Rattle·gerber_trace·specs.specs.Trace.{plotted, isCentre, centred, lineAt, aimOf, isEnd, towards, onTo, aimed, nextOf, stepOf, firstAt};
+#![tactic(auto)]
+
+ghost use Rattle.std.specs.Prelude.{◌≡◌, ◌*◌, ◌-◌, ◌≤◌, drop};
+ghost use Rattle.grid.specs.Panel.{GoodPanel, OnPanel, max_side};
+ghost use Rattle.gerber.specs.Layer.{draw};
+ghost use Rattle.gerber_trace.specs.Trace.{plotted, is_centre, centred, line_at, aim_of, is_end, towards, on_to, aimed, next_of, step_of, first_at};
+
+use gerber::{HEAD, head_of, is_straight, plot_x, plot_y};
+use grid::{Cell, Panel, on_panel, same_cell};
+use text::{Number, bytes_from, read_field, text_at};
 
 // Where a line leads: to a cell, and the place behind the line; or another form.
+#[derive(Clone, Copy)]
 pub enum Target {
     Other,
     At(Cell, usize),
@@ -27,6 +19,7 @@ pub enum Target {
 
 // The way through a layer: the cell come from, the cell reached, the cell that the last line goes to,
 // and the place behind that line.
+#[derive(Clone, Copy)]
 pub struct Trace {
     pub before: Cell,
     pub at: Cell,
@@ -35,6 +28,7 @@ pub struct Trace {
 }
 
 // What is next: another form, the end of the layer, or one cell further.
+#[derive(Clone, Copy)]
 pub enum Advance {
     Other,
     End,
@@ -42,9 +36,10 @@ pub enum Advance {
 }
 
 // The cell that a and b would be the centre of.
+#[tactic(auto, unfolding(crate::specs::Trace::plotted))]
 fn plotted(p: Panel, a: u32, b: u32) -> Cell
-    requires { ⌜ GoodPanel p ⌝ }
-    ensures { λ r. ⌜ r ≡ plotted p a b ⌝ }
+    requires { GoodPanel p }
+    ensures { result ≡ plotted p a b }
 {
     let pitch = p.pitch * 1000;
     let up = b / pitch;
@@ -59,8 +54,8 @@ fn plotted(p: Panel, a: u32, b: u32) -> Cell
 }
 
 fn is_centre(p: Panel, a: u32, b: u32, c: Cell) -> bool
-    requires { ⌜ GoodPanel p ⌝ }
-    ensures { λ r. ⌜ r ≡ isCentre p a b c ⌝ }
+    requires { GoodPanel p }
+    ensures { result ≡ is_centre p a b c }
 {
     if !on_panel(p, c) {
         return false;
@@ -73,8 +68,8 @@ fn is_centre(p: Panel, a: u32, b: u32, c: Cell) -> bool
 
 // The cell whose centre is at a and b, if there is one; the line ends at `next`.
 fn centred(p: Panel, a: u32, b: u32, file: &[u8], next: usize) -> Target
-    requires { ⌜ GoodPanel p ⌝ }
-    ensures { λ r. ⌜ aimOf (now (file .entry)) r ≡ centred p a b (drop next (now (file .entry))) ⌝ }
+    requires { GoodPanel p }
+    ensures { aim_of file.now result ≡ centred p a b (drop next file.now) }
 {
     let c = plotted(p, a, b);
     if is_centre(p, a, b, c) {
@@ -85,8 +80,8 @@ fn centred(p: Panel, a: u32, b: u32, file: &[u8], next: usize) -> Target
 
 // A line to a cell's centre at a place of the file, with the operation behind its D.
 fn line_at(p: Panel, operation: &[u8], file: &[u8], at: usize) -> Target
-    requires { ⌜ GoodPanel p ⌝ }
-    ensures { λ r. ⌜ aimOf (now (file .entry)) r ≡ lineAt p (now (operation .entry)) (drop at (now (file .entry))) ⌝ }
+    requires { GoodPanel p }
+    ensures { aim_of file.now result ≡ line_at p operation.now (drop at file.now) }
 {
     if !text_at(b"X", file, at) {
         return Target::Other;
@@ -107,7 +102,7 @@ fn line_at(p: Panel, operation: &[u8], file: &[u8], at: usize) -> Target
 
 // Whether the last line, and nothing else, is left from a place on.
 pub fn is_end(file: &[u8], at: usize) -> bool
-    ensures { λ r. ⌜ r ≡ isEnd (drop at (now (file .entry))) ⌝ }
+    ensures { result ≡ is_end (drop at file.now) }
 {
     if text_at(b"M02*\n", file, at) {
         return bytes_from(file, at) == 5;
@@ -117,8 +112,8 @@ pub fn is_end(file: &[u8], at: usize) -> bool
 
 // The third of three numbers with equal distances, or 0 if it is below.
 fn third(a: u32, b: u32) -> u32
-    requires { ⌜ b ≤ maxSide ⌝ }
-    ensures { λ r. ⌜ r ≡ 2 * b - a ⌝ }
+    requires { b ≤ max_side }
+    ensures { result ≡ 2 * b - a }
 {
     if a <= 2 * b {
         return 2 * b - a;
@@ -127,9 +122,10 @@ fn third(a: u32, b: u32) -> u32
 }
 
 // The cell beside b towards g.
+#[tactic(auto, unfolding(crate::specs::Trace::towards))]
 fn towards(b: Cell, g: Cell) -> Cell
-    requires { ⌜ (b .x ≤ maxSide) × (b .y ≤ maxSide) × (1 ≤ b .y) ⌝ }
-    ensures { λ r. ⌜ r ≡ towards b g ⌝ }
+    requires { (b.x ≤ max_side) × (b.y ≤ max_side) × (1 ≤ b.y) }
+    ensures { result ≡ towards b g }
 {
     if b.x < g.x {
         return Cell { x: b.x + 1, y: b.y };
@@ -145,7 +141,7 @@ fn towards(b: Cell, g: Cell) -> Cell
 
 // On to c, if it is on the panel.
 fn on_to(p: Panel, t: Trace, c: Cell, goal: Cell, file: &[u8], next: usize) -> Advance
-    ensures { λ r. ⌜ stepOf (now (file .entry)) r ≡ onTo p (t .at) c goal (drop next (now (file .entry))) ⌝ }
+    ensures { step_of file.now result ≡ on_to p t.at c goal (drop next file.now) }
 {
     let b = t.at;
     if on_panel(p, c) {
@@ -161,8 +157,8 @@ fn on_to(p: Panel, t: Trace, c: Cell, goal: Cell, file: &[u8], next: usize) -> A
 
 // At the goal the next line leads on, in another direction.
 fn turn(p: Panel, file: &[u8], t: Trace) -> Advance
-    requires { ⌜ (GoodPanel p) × (OnPanel p (t .at)) ⌝ }
-    ensures { λ r. ⌜ stepOf (now (file .entry)) r ≡ aimed p (t .before) (t .at) (lineAt p draw (drop (t .next) (now (file .entry)))) ⌝ }
+    requires { (GoodPanel p) × (OnPanel p t.at) }
+    ensures { step_of file.now result ≡ aimed p t.before t.at (line_at p draw (drop t.next file.now)) }
 {
     let a = t.before;
     let b = t.at;
@@ -179,8 +175,8 @@ fn turn(p: Panel, file: &[u8], t: Trace) -> Advance
 
 // One cell further, or the end.
 pub fn step_on(p: Panel, file: &[u8], t: Trace) -> Advance
-    requires { ⌜ (GoodPanel p) × (OnPanel p (t .at)) ⌝ }
-    ensures { λ r. ⌜ stepOf (now (file .entry)) r ≡ nextOf p (t .before) (t .at) (t .goal) (drop (t .next) (now (file .entry))) ⌝ }
+    requires { (GoodPanel p) × (OnPanel p t.at) }
+    ensures { step_of file.now result ≡ next_of p t.before t.at t.goal (drop t.next file.now) }
 {
     let a = t.before;
     let b = t.at;
@@ -200,8 +196,8 @@ pub fn step_on(p: Panel, file: &[u8], t: Trace) -> Advance
 
 // The line behind the head, with an operation.
 pub fn first_at(p: Panel, operation: &[u8], file: &[u8]) -> Target
-    requires { ⌜ GoodPanel p ⌝ }
-    ensures { λ r. ⌜ aimOf (now (file .entry)) r ≡ firstAt p (now (operation .entry)) (now (file .entry)) ⌝ }
+    requires { GoodPanel p }
+    ensures { aim_of file.now result ≡ first_at p operation.now file.now }
 {
     let head = head_of(p);
     if !text_at(&head, file, 0) {

@@ -1,78 +1,73 @@
 -- Document 02, R-2 and R-6: the writer of a layer: its refusals in order, its answer and the final content of both lent buffers.
-use Prim.Native.Nat.{ℕ, _≤_}
-use mathlib.Core.Path.{_≡_}
-use mathlib.Core.Bool.{true, cond, _&&_}
-use mathlib.Core.List.{List, [], _++_}
-use lib.ListN.{length, take, drop}
-use lib.Dec.{leb}
-use Rattle·grid.specs.declared.Panel.{Panel}
-use Rattle·grid.specs.declared.Cell.{Cell}
-use Rattle·grid.specs.declared.Check.{Check}
-use Rattle·grid.specs.declared.Check.the-variants.{Good}
-use Rattle·grid.specs.declared.BytesAnswer.{BytesAnswer}
-use Rattle·grid.specs.declared.Refusal.the-variants.{ShortBuffer}
-use Rattle·grid.specs.Panel.{GoodPanel}
-use Rattle·grid.specs.Bytes.{cellsIn}
-use Rattle·grid.specs.Check.{expect, after, answer}
-use Rattle·grid.specs.Answer.{bytesAnswer, bytesValues, GivesBytes}
-use Rattle·list.specs.List.{allOn}
-use Rattle·list.specs.Check.{checkList}
-use Rattle·scratch.specs.Scratch.{zerosFor}
-use Rattle·text.specs.Put.{Put}
-use Rattle·gerber.specs.Layer.{draw, lineTo, straight, layerOf}
+use Rattle.std.specs.Prelude.{ℕ, ◌≤◌, ◌≡◌, true, cond, ◌&&◌, List, [], ◌++◌, length, take, drop, leb}
+use Rattle.grid.specs.declared.Panel.{Panel}
+use Rattle.grid.specs.declared.Cell.{Cell}
+use Rattle.grid.specs.declared.Check.{Check}
+use Rattle.grid.specs.declared.Check.TheVariants.{Good}
+use Rattle.grid.specs.declared.BytesAnswer.{BytesAnswer}
+use Rattle.grid.specs.declared.Refusal.TheVariants.{ShortBuffer}
+use Rattle.grid.specs.Panel.{GoodPanel}
+use Rattle.grid.specs.Bytes.{cells_in}
+use Rattle.grid.specs.Check.{expect, after, answer}
+use Rattle.grid.specs.Answer.{bytes_answer, bytes_values, GivesBytes}
+use Rattle.list.specs.List.{all_on}
+use Rattle.list.specs.Check.{check_list}
+use Rattle.scratch.specs.Scratch.{zeros_for}
+use Rattle.text.specs.Put.{Put}
+use Rattle.gerber.specs.Layer.{draw, line_to, straight, layer_of}
 
 -- the bytes of scratch that hold a number's digits
-abbrev pub digitRoom : ℕ
-digitRoom = 10
+abbrev pub digit_room : ℕ
+digit_room = 10
 
 -- the layer of the cells that a list holds
-abbrev pub layerBytes : Panel → List ℕ → List ℕ
-layerBytes p list = layerOf p (cellsIn list)
+abbrev pub layer_bytes : Panel → List ℕ → List ℕ
+layer_bytes p list = layer_of p (cells_in list)
 
 -- as Write: 1; 18; 6; 7; 8; 15; then 5, the buffer is shorter than the layer or scratch has less than 10 bytes
-abbrev pub checkLayer : Panel → List ℕ → List ℕ → List ℕ → Check
-checkLayer p list scratch out =
-    after (checkList p list)
-    (expect (leb digitRoom (length scratch) && leb (length (layerBytes p list)) (length out)) ShortBuffer Good)
+abbrev pub check_layer : Panel → List ℕ → List ℕ → List ℕ → Check
+check_layer p list scratch out =
+    after (check_list p list)
+    (expect (leb digit_room (length scratch) && leb (length (layer_bytes p list)) (length out)) ShortBuffer Good)
 
 -- the bytes written
-abbrev pub layerAnswer : Panel → List ℕ → List ℕ → List ℕ → BytesAnswer
-layerAnswer p list scratch out = bytesAnswer (checkLayer p list scratch out) (length (layerBytes p list))
+abbrev pub layer_answer : Panel → List ℕ → List ℕ → List ℕ → BytesAnswer
+layer_answer p list scratch out = bytes_answer (check_layer p list scratch out) (length (layer_bytes p list))
 
 -- the layer, and the bytes behind it as they were; a refusal changes nothing
-abbrev pub layerBuffer : Panel → List ℕ → List ℕ → List ℕ → List ℕ
-layerBuffer p list scratch out =
-    answer (checkLayer p list scratch out) (λ r. out) (layerBytes p list ++ drop (length (layerBytes p list)) out)
+abbrev pub layer_buffer : Panel → List ℕ → List ℕ → List ℕ → List ℕ
+layer_buffer p list scratch out =
+    answer (check_layer p list scratch out) (λ r. out) (layer_bytes p list ++ drop (length (layer_bytes p list)) out)
 
 -- the first 10 bytes 0, and the rest as it was; a refusal changes nothing
-abbrev pub layerScratch : Panel → List ℕ → List ℕ → List ℕ → List ℕ
-layerScratch p list scratch out =
-    answer (checkLayer p list scratch out) (λ r. scratch) (zerosFor digitRoom scratch)
+abbrev pub layer_scratch : Panel → List ℕ → List ℕ → List ℕ → List ℕ
+layer_scratch p list scratch out =
+    answer (check_layer p list scratch out) (λ r. scratch) (zeros_for digit_room scratch)
 
 -- what the writer promises of its answer r, of scratch, s before the call and t after it, and of the buffer, old and new
 pub record WritesLayer (p : Panel) (list s t old new : List ℕ) (r : BytesAnswer) : Type 0 where
-  pub gives : GivesBytes (checkLayer p list s old) (length (layerBytes p list)) r
-  pub buffer : new ≡ layerBuffer p list s old
-  pub scratch : t ≡ layerScratch p list s old
+  pub gives : GivesBytes (check_layer p list s old) (length (layer_bytes p list)) r
+  pub buffer : new ≡ layer_buffer p list s old
+  pub scratch : t ≡ layer_scratch p list s old
 
 -- what the writer makes: the bytes that it says it has written
-abbrev pub layerMade : Panel → List ℕ → List ℕ → List ℕ → List ℕ
-layerMade p list scratch out = take ((bytesValues (layerAnswer p list scratch out)) .bytes) (layerBuffer p list scratch out)
+abbrev pub layer_made : Panel → List ℕ → List ℕ → List ℕ → List ℕ
+layer_made p list scratch out = take (bytes_values (layer_answer p list scratch out)).bytes (layer_buffer p list scratch out)
 
 -- ---- for the parts of the writer
 
 -- a list that a layer is made of: one cell of the panel or more, and at most 16,384
 pub record Plottable (p : Panel) (list : List ℕ) : Type 0 where
   pub panel : GoodPanel p
-  pub on : allOn p (cellsIn list) ≡ true
+  pub on : all_on p (cells_in list) ≡ true
   pub some : 2 ≤ length list
   pub few : length list ≤ 32768
 
 -- a text was put at a place of a buffer by way of scratch, of which only the bytes for digits may have changed
 pub record PutThrough (s t out : List ℕ) (at : ℕ) (text after : List ℕ) (next : ℕ) : Type 0 where
   pub put : Put out at text after next
-  pub rest : drop digitRoom t ≡ drop digitRoom s
+  pub rest : drop digit_room t ≡ drop digit_room s
 
 -- the draw to b if the direction changes there, coming from a and going on to c; nothing if it stays
-abbrev pub turnLine : Panel → Cell → Cell → Cell → List ℕ
-turnLine p a b c = cond (straight a b c) [] (lineTo p draw b [])
+abbrev pub turn_line : Panel → Cell → Cell → Cell → List ℕ
+turn_line p a b c = cond (straight a b c) [] (line_to p draw b [])

@@ -1,40 +1,28 @@
 // Writes a list of cells as a Gerber layer.
-use gerber::HEAD;
-use gerber::head_of;
-use gerber::is_straight;
-use gerber::plot_x;
-use gerber::plot_y;
-use grid::BytesAnswer;
-use grid::Cell;
-use grid::Check;
-use grid::Panel;
-use grid::Refusal;
-use list::cell_at;
-use list::check_list;
+#![tactic(auto)]
+
+ghost use Rattle.std.specs.Prelude.{◌≡◌, [], ◌≤◌, ◌<◌, ◌+◌, length, drop};
+ghost use Rattle.grid.specs.Panel.{GoodPanel, OnPanel};
+ghost use Rattle.grid.specs.Bytes.{cells_in};
+ghost use Rattle.list.specs.List.{cell_at};
+ghost use Rattle.text.specs.Field.{field_of};
+ghost use Rattle.gerber.specs.Layer.{draw, line_to, end_line, straight, turns_from, draw_lines, lines_of};
+ghost use Rattle.gerber_write.specs.Write.{digit_room, layer_bytes, Plottable, PutThrough, turn_line, WritesLayer};
+
+use gerber::{HEAD, head_of, is_straight, plot_x, plot_y};
+use grid::{BytesAnswer, Cell, Check, Panel, Refusal};
+use list::{cell_at, check_list};
 use scratch::clear_front;
-use text::count_digits;
-use text::digits_of;
-use text::put_byte;
-use text::put_bytes;
-ghost use mathlib.Core.Path.{_≡_};
-ghost use mathlib.Core.List.{[]};
-ghost use Prim.Native.Nat.{_≤_, _<_, _+_};
-ghost use lib.ListN.{length, drop};
-ghost use Rattle·grid.specs.Panel.{GoodPanel, OnPanel};
-ghost use Rattle·grid.specs.Bytes.{cellsIn};
-ghost use Rattle·list.specs.List.{cellAt};
-ghost use Rattle·text.specs.Field.{fieldOf};
-ghost use Rattle·gerber.specs.Layer.{draw, lineTo, endLine, straight, turnsFrom, drawLines, linesOf};
-ghost use Rattle·gerber_write·specs.specs.Write.{digitRoom, layerBytes, Plottable, PutThrough, turnLine, WritesLayer};
+use text::{count_digits, digits_of, put_byte, put_bytes};
 
 // The bytes of scratch that hold a number's digits.
 pub const DIGIT_ROOM: usize = 10;
 
 // A number, whose digits are made in scratch, and the byte `end` behind it.
 fn put_number(n: u32, end: u8, scratch: &mut [u8], out: &mut [u8], at: usize) -> usize
-    requires { ⌜ digitRoom ≤ length (now scratch) ⌝ }
-    requires { ⌜ at + length (fieldOf n end []) ≤ length (now out) ⌝ }
-    ensures { λ r. ⌜ PutThrough (now (scratch .entry)) (now (scratch .exit)) (now (out .entry)) at (fieldOf n end []) (now (out .exit)) r ⌝ }
+    requires digit_room_in_bounds { digit_room ≤ length scratch.old }
+    requires end_in_bounds { at + length (field_of n end []) ≤ length out.old }
+    ensures { PutThrough scratch.old scratch.new out.old at (field_of n end []) out.new result }
 {
     let digits = digits_of(n, &mut scratch[..DIGIT_ROOM]);
     let next = put_bytes(digits, out, at);
@@ -50,11 +38,11 @@ fn put_line(
     out: &mut [u8],
     at: usize,
 ) -> usize
-    requires { ⌜ (GoodPanel p) × (OnPanel p c) ⌝ }
-    requires { ⌜ digitRoom ≤ length (now scratch) ⌝ }
-    requires { ⌜ at + length (lineTo p (now operation) c []) ≤ length (now out) ⌝ }
-    ensures { λ r. ⌜ PutThrough (now (scratch .entry)) (now (scratch .exit)) (now (out .entry)) at
-        (lineTo p (now (operation .entry)) c []) (now (out .exit)) r ⌝ }
+    requires good_panel { (GoodPanel p) × (OnPanel p c) }
+    requires digit_room_in_bounds { digit_room ≤ length scratch.old }
+    requires c_in_bounds { at + length (line_to p operation.now c []) ≤ length out.old }
+    ensures { PutThrough scratch.old scratch.new out.old at
+        (line_to p operation.now c []) out.new result }
 {
     let x = put_byte(b'X', out, at);
     let y = put_number(plot_x(p, c), b'Y', scratch, out, x);
@@ -71,11 +59,11 @@ fn put_last(
     out: &mut [u8],
     at: usize,
 ) -> usize
-    requires { ⌜ (GoodPanel p) × (OnPanel p c) ⌝ }
-    requires { ⌜ digitRoom ≤ length (now scratch) ⌝ }
-    requires { ⌜ at + length (lineTo p (now operation) c endLine) ≤ length (now out) ⌝ }
-    ensures { λ r. ⌜ PutThrough (now (scratch .entry)) (now (scratch .exit)) (now (out .entry)) at
-        (lineTo p (now (operation .entry)) c endLine) (now (out .exit)) r ⌝ }
+    requires good_panel { (GoodPanel p) × (OnPanel p c) }
+    requires digit_room_in_bounds { digit_room ≤ length scratch.old }
+    requires end_line_in_bounds { at + length (line_to p operation.now c end_line) ≤ length out.old }
+    ensures { PutThrough scratch.old scratch.new out.old at
+        (line_to p operation.now c end_line) out.new result }
 {
     let end = put_line(p, operation, c, scratch, out, at);
     put_bytes(b"M02*\n", out, end)
@@ -83,20 +71,20 @@ fn put_last(
 
 // Whether the direction stays at the second of the three cells from i on.
 fn straight_at(list: &[u8], i: usize) -> bool
-    requires { ⌜ i + 5 < length (now list) ⌝ }
-    ensures { λ r. ⌜ r ≡ straight (cellAt (now (list .entry)) i) (cellAt (now (list .entry)) (i + 2)) (cellAt (now (list .entry)) (i + 4)) ⌝ }
+    requires { i + 5 < length list.now }
+    ensures { result ≡ straight (cell_at list.now i) (cell_at list.now (i + 2)) (cell_at list.now (i + 4)) }
 {
     is_straight(cell_at(list, i), cell_at(list, i + 2), cell_at(list, i + 4))
 }
 
 // The draw to that cell, unless the direction stays there.
 fn put_turn(p: Panel, list: &[u8], i: usize, scratch: &mut [u8], out: &mut [u8], at: usize) -> usize
-    requires { ⌜ i + 5 < length (now list) ⌝ }
-    requires { ⌜ (GoodPanel p) × (OnPanel p (cellAt (now list) (i + 2))) ⌝ }
-    requires { ⌜ digitRoom ≤ length (now scratch) ⌝ }
-    requires { ⌜ at + length (turnLine p (cellAt (now list) i) (cellAt (now list) (i + 2)) (cellAt (now list) (i + 4))) ≤ length (now out) ⌝ }
-    ensures { λ r. ⌜ PutThrough (now (scratch .entry)) (now (scratch .exit)) (now (out .entry)) at
-        (turnLine p (cellAt (now (list .entry)) i) (cellAt (now (list .entry)) (i + 2)) (cellAt (now (list .entry)) (i + 4))) (now (out .exit)) r ⌝ }
+    requires i_in_bounds { i + 5 < length list.now }
+    requires good_panel { (GoodPanel p) × (OnPanel p (cell_at list.now (i + 2))) }
+    requires digit_room_in_bounds { digit_room ≤ length scratch.old }
+    requires i_in_bounds_2 { at + length (turn_line p (cell_at list.now i) (cell_at list.now (i + 2)) (cell_at list.now (i + 4))) ≤ length out.old }
+    ensures { PutThrough scratch.old scratch.new out.old at
+        (turn_line p (cell_at list.now i) (cell_at list.now (i + 2)) (cell_at list.now (i + 4))) out.new result }
 {
     if straight_at(list, i) {
         return at;
@@ -106,13 +94,13 @@ fn put_turn(p: Panel, list: &[u8], i: usize, scratch: &mut [u8], out: &mut [u8],
 
 // The draws behind the first cell of two or more, and the last line.
 fn put_draws(p: Panel, list: &[u8], scratch: &mut [u8], out: &mut [u8], at: usize) -> usize
-    requires { ⌜ (Plottable p (now list)) × (4 ≤ length (now list)) ⌝ }
-    requires { ⌜ digitRoom ≤ length (now scratch) ⌝ }
-    requires { ⌜ at + length (drawLines p (turnsFrom (cellAt (now list) 0) (cellAt (now list) 2) (cellsIn (drop 4 (now list)))))
-        ≤ length (now out) ⌝ }
-    ensures { λ r. ⌜ PutThrough (now (scratch .entry)) (now (scratch .exit)) (now (out .entry)) at
-        (drawLines p (turnsFrom (cellAt (now (list .entry)) 0) (cellAt (now (list .entry)) 2) (cellsIn (drop 4 (now (list .entry))))))
-        (now (out .exit)) r ⌝ }
+    requires plottable { (Plottable p list.now) × (4 ≤ length list.now) }
+    requires digit_room_in_bounds { digit_room ≤ length scratch.old }
+    requires list_in_bounds { at + length (draw_lines p (turns_from (cell_at list.now 0) (cell_at list.now 2) (cells_in (drop 4 list.now))))
+        ≤ length out.old }
+    ensures { PutThrough scratch.old scratch.new out.old at
+        (draw_lines p (turns_from (cell_at list.now 0) (cell_at list.now 2) (cells_in (drop 4 list.now))))
+        out.new result }
 {
     let mut i = 0;
     let mut next = at;
@@ -125,11 +113,11 @@ fn put_draws(p: Panel, list: &[u8], scratch: &mut [u8], out: &mut [u8], at: usiz
 
 // The lines behind the head: a flash at the only cell, or a move to the first one and the draws.
 fn put_lines(p: Panel, list: &[u8], scratch: &mut [u8], out: &mut [u8], at: usize) -> usize
-    requires { ⌜ Plottable p (now list) ⌝ }
-    requires { ⌜ digitRoom ≤ length (now scratch) ⌝ }
-    requires { ⌜ at + length (linesOf p (cellsIn (now list))) ≤ length (now out) ⌝ }
-    ensures { λ r. ⌜ PutThrough (now (scratch .entry)) (now (scratch .exit)) (now (out .entry)) at
-        (linesOf p (cellsIn (now (list .entry)))) (now (out .exit)) r ⌝ }
+    requires plottable { Plottable p list.now }
+    requires digit_room_in_bounds { digit_room ≤ length scratch.old }
+    requires list_in_bounds { at + length (lines_of p (cells_in list.now)) ≤ length out.old }
+    ensures { PutThrough scratch.old scratch.new out.old at
+        (lines_of p (cells_in list.now)) out.new result }
 {
     let first = cell_at(list, 0);
     if list.len() < 4 {
@@ -141,11 +129,11 @@ fn put_lines(p: Panel, list: &[u8], scratch: &mut [u8], out: &mut [u8], at: usiz
 
 // The layer of a good list, at the front of the buffer.
 pub fn put_layer(p: Panel, list: &[u8], scratch: &mut [u8], out: &mut [u8]) -> usize
-    requires { ⌜ Plottable p (now list) ⌝ }
-    requires { ⌜ digitRoom ≤ length (now scratch) ⌝ }
-    requires { ⌜ length (layerBytes p (now list)) ≤ length (now out) ⌝ }
-    ensures { λ r. ⌜ PutThrough (now (scratch .entry)) (now (scratch .exit)) (now (out .entry)) 0
-        (layerBytes p (now (list .entry))) (now (out .exit)) r ⌝ }
+    requires plottable { Plottable p list.now }
+    requires digit_room_in_bounds { digit_room ≤ length scratch.old }
+    requires list_in_bounds { length (layer_bytes p list.now) ≤ length out.old }
+    ensures { PutThrough scratch.old scratch.new out.old 0
+        (layer_bytes p list.now) out.new result }
 {
     let head = head_of(p);
     let lines = put_bytes(&head, out, 0);
@@ -154,18 +142,18 @@ pub fn put_layer(p: Panel, list: &[u8], scratch: &mut [u8], out: &mut [u8]) -> u
 
 // The bytes of a draw, and of a flash or a move too: seven, and the digits of its numbers.
 fn line_length(p: Panel, c: Cell) -> usize
-    requires { ⌜ (GoodPanel p) × (OnPanel p c) ⌝ }
-    ensures { λ r. ⌜ r ≡ length (lineTo p draw c []) ⌝ }
+    requires { (GoodPanel p) × (OnPanel p c) }
+    ensures { result ≡ length (line_to p draw c []) }
 {
     7 + count_digits(plot_x(p, c)) + count_digits(plot_y(p, c))
 }
 
 // The bytes that `put_turn` puts.
 fn turn_length(p: Panel, list: &[u8], i: usize) -> usize
-    requires { ⌜ i + 5 < length (now list) ⌝ }
-    requires { ⌜ (GoodPanel p) × (OnPanel p (cellAt (now list) (i + 2))) ⌝ }
-    ensures { λ r. ⌜ r
-        ≡ length (turnLine p (cellAt (now (list .entry)) i) (cellAt (now (list .entry)) (i + 2)) (cellAt (now (list .entry)) (i + 4))) ⌝ }
+    requires i_in_bounds { i + 5 < length list.now }
+    requires good_panel { (GoodPanel p) × (OnPanel p (cell_at list.now (i + 2))) }
+    ensures { result
+        ≡ length (turn_line p (cell_at list.now i) (cell_at list.now (i + 2)) (cell_at list.now (i + 4))) }
 {
     if straight_at(list, i) {
         return 0;
@@ -176,8 +164,8 @@ fn turn_length(p: Panel, list: &[u8], i: usize) -> usize
 // The bytes of the layer of a good list, counted without scratch. The head, the line to the first cell
 // and the last line are there for every list, and the last draw for two cells or more.
 pub fn layer_length(p: Panel, list: &[u8]) -> usize
-    requires { ⌜ Plottable p (now list) ⌝ }
-    ensures { λ r. ⌜ (r ≡ length (layerBytes p (now (list .entry)))) × (r ≤ 442422) ⌝ }
+    requires { Plottable p list.now }
+    ensures { (result ≡ length (layer_bytes p list.now)) × (result ≤ 442422) }
 {
     let mut bytes = HEAD + line_length(p, cell_at(list, 0));
     if list.len() < 4 {
@@ -192,7 +180,7 @@ pub fn layer_length(p: Panel, list: &[u8]) -> usize
 }
 
 pub fn write_layer(p: Panel, list: &[u8], scratch: &mut [u8], out: &mut [u8]) -> BytesAnswer
-    ensures { λ r. ⌜ WritesLayer p (now (list .entry)) (now (scratch .entry)) (now (scratch .exit)) (now (out .entry)) (now (out .exit)) r ⌝ }
+    ensures { WritesLayer p list.now scratch.old scratch.new out.old out.new result }
 {
     let c = check_list(p, list);
     if let Check::Refused(r) = c {

@@ -1,59 +1,59 @@
 -- What a check that refuses nothing says of each of its tests, taken apart from the front; and the tests that the calls share, as facts.
-use mathlib.Core.Path.{_≡_, refl, sym, subst}
+use mathlib.Core.Path.{◌≡◌, refl, sym, subst}
 use mathlib.Core.Bool.{Bool, true, false}
-use Rattle·grid·specs.specs.declared.Panel.{Panel}
-use Rattle·grid·specs.specs.declared.Cell.{Cell}
-use Rattle·grid·specs.specs.declared.Refusal.{Refusal}
-use Rattle·grid·specs.specs.declared.Refusal.the-variants.{Side, Pitch, EntryOff, ExitOff}
-use Rattle·grid·specs.specs.declared.Check.{Check}
-use Rattle·grid·specs.specs.declared.Check.the-variants.{Good, Refused}
-use Rattle·grid·specs.specs.Panel.{goodSides, goodPitch, goodPanel, onPanel, OnPanel, GoodPanel}
-use Rattle·grid·specs.specs.Check.{expect, after, checkPanel, checkEntry, checkOrder}
-use Rattle·grid·proofs.proofs.Tests.{expect-yes, after-good}
-use Rattle·grid·proofs.proofs.Facts.{and-parts, and-both, good, is-good, on, is-on}
+use Rattle.grid.specs.declared.Panel.{Panel}
+use Rattle.grid.specs.declared.Cell.{Cell}
+use Rattle.grid.specs.declared.Refusal.{Refusal}
+use Rattle.grid.specs.declared.Refusal.TheVariants.{Side, Pitch, EntryOff, ExitOff}
+use Rattle.grid.specs.declared.Check.{Check}
+use Rattle.grid.specs.declared.Check.TheVariants.{Good, Refused}
+use Rattle.grid.specs.Panel.{good_sides, good_pitch, good_panel, on_panel, OnPanel, GoodPanel}
+use Rattle.grid.specs.Check.{expect, after, check_panel, check_entry, check_order}
+use Rattle.grid.proofs.Tests.{expect_yes, after_good}
+use Rattle.grid.proofs.Facts.{and_parts, and_both, good, is_good, on, is_on}
 
 abbrev IsFine : Check → Type 0
 IsFine Good = Unit {0}
 IsFine (Refused r) = ⊥
 
 -- a refusal is not "good"
-pub not-good {ℓ} : {A : Type ℓ} {r : Refusal} → Refused r ≡ Good → A
-not-good e = absurd (subst IsFine (sym e) tt)
+pub not_good {ℓ} : {A : Type ℓ} {r : Refusal} → Refused r ≡ Good → A
+not_good e = absurd (subst IsFine (sym e) tt)
 
-pub expect-passed : (b : Bool) (r : Refusal) (k : Check) → expect b r k ≡ Good → b ≡ true
-expect-passed true r k e = refl
-expect-passed false r k e = not-good e
+pub expect_passed : (b : Bool) (r : Refusal) (k : Check) → expect b r k ≡ Good → b ≡ true
+expect_passed true r k e = refl
+expect_passed false r k e = not_good e
 
-pub expect-rest : (b : Bool) (r : Refusal) (k : Check) → expect b r k ≡ Good → k ≡ Good
-expect-rest true r k e = e
-expect-rest false r k e = not-good e
+pub expect_rest : (b : Bool) (r : Refusal) (k : Check) → expect b r k ≡ Good → k ≡ Good
+expect_rest true r k e = e
+expect_rest false r k e = not_good e
 
-pub after-passed : (c k : Check) → after c k ≡ Good → c ≡ Good
-after-passed Good k e = refl
-after-passed (Refused r) k e = not-good e
+pub after_passed : (c k : Check) → after c k ≡ Good → c ≡ Good
+after_passed Good k e = refl
+after_passed (Refused r) k e = not_good e
 
-pub after-rest : (c k : Check) → after c k ≡ Good → k ≡ Good
-after-rest Good k e = e
-after-rest (Refused r) k e = not-good e
+pub after_rest : (c k : Check) → after c k ≡ Good → k ≡ Good
+after_rest Good k e = e
+after_rest (Refused r) k e = not_good e
 
 -- both tests of a panel, as one
-pub panel-passed : (p : Panel) → checkPanel p ≡ Good → goodPanel p ≡ true
-panel-passed p e =
-    let pitch = expect (goodPitch p) Pitch Good in
-    and-both (expect-passed (goodSides p) Side pitch e) (expect-passed (goodPitch p) Pitch Good (expect-rest (goodSides p) Side pitch e))
+pub panel_passed : (p : Panel) → check_panel p ≡ Good → good_panel p ≡ true
+panel_passed p e =
+    let pitch = expect (good_pitch p) Pitch Good in
+    and_both (expect_passed (good_sides p) Side pitch e) (expect_passed (good_pitch p) Pitch Good (expect_rest (good_sides p) Side pitch e))
 
-pub panel-passes : (p : Panel) → goodPanel p ≡ true → checkPanel p ≡ Good
-panel-passes p e =
-    let (s, q) = and-parts (goodSides p) (goodPitch p) e in
-    sym (expect-yes _ _ s (expect-yes _ _ q refl))
+pub panel_passes : (p : Panel) → good_panel p ≡ true → check_panel p ≡ Good
+panel_passes p e =
+    let (s, q) = and_parts (good_sides p) (good_pitch p) e in
+    sym (expect_yes _ _ s (expect_yes _ _ q refl))
 
-pub good-panel : (p : Panel) → checkPanel p ≡ Good → GoodPanel p
-good-panel p e = good p (panel-passed p e)
+pub good_panel_lem : (p : Panel) → check_panel p ≡ Good → GoodPanel p
+good_panel_lem p e = good p (panel_passed p e)
 
-pub good-entry : (p : Panel) (s : Cell) → checkEntry p s ≡ Good → GoodPanel p × OnPanel p s
-good-entry p s e =
-    let here = expect (onPanel p s) EntryOff Good in
-    (good-panel p (after-passed (checkPanel p) here e), on p s (expect-passed (onPanel p s) EntryOff Good (after-rest (checkPanel p) here e)))
+pub good_entry : (p : Panel) (s : Cell) → check_entry p s ≡ Good → GoodPanel p × OnPanel p s
+good_entry p s e =
+    let here = expect (on_panel p s) EntryOff Good in
+    (good_panel_lem p (after_passed (check_panel p) here e), on p s (expect_passed (on_panel p s) EntryOff Good (after_rest (check_panel p) here e)))
 
 -- an order whose panel is good and whose terminals are cells of it, equal or not: tests 1, 18, 2, 3
 pub record GoodOrder (p : Panel) (s t : Cell) : Type 0 where
@@ -61,14 +61,14 @@ pub record GoodOrder (p : Panel) (s t : Cell) : Type 0 where
   pub entry : OnPanel p s
   pub exit : OnPanel p t
 
-pub good-order : (p : Panel) (s t : Cell) → checkOrder p s t ≡ Good → GoodOrder p s t
-good-order p s t e =
-    let here = expect (onPanel p t) ExitOff Good in
-    let front = good-entry p s (after-passed (checkEntry p s) here e) in
-    let back = after-rest (checkEntry p s) here e in
-    record { panel = front .0; entry = front .1; exit = on p t (expect-passed (onPanel p t) ExitOff Good back) }
+pub good_order : (p : Panel) (s t : Cell) → check_order p s t ≡ Good → GoodOrder p s t
+good_order p s t e =
+    let here = expect (on_panel p t) ExitOff Good in
+    let front = good_entry p s (after_passed (check_entry p s) here e) in
+    let back = after_rest (check_entry p s) here e in
+    record { panel = front.0; entry = front.1; exit = on p t (expect_passed (on_panel p t) ExitOff Good back) }
 
-pub is-order : {p : Panel} {s t : Cell} → GoodOrder p s t → Good ≡ checkOrder p s t
-is-order {p} {s} {t} o =
-    after-good _ (sym (after-good _ (panel-passes p (is-good (o .panel))) (expect-yes _ _ (is-on (o .entry)) refl)))
-    (expect-yes _ _ (is-on (o .exit)) refl)
+pub is_order : {p : Panel} {s t : Cell} → GoodOrder p s t → Good ≡ check_order p s t
+is_order {p} {s} {t} o =
+    after_good _ (sym (after_good _ (panel_passes p (is_good o.panel)) (expect_yes _ _ (is_on o.entry) refl)))
+    (expect_yes _ _ (is_on o.exit) refl)

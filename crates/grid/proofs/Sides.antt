@@ -1,38 +1,38 @@
 -- Panels of the same sides have the same cells, neighbours and tracks, whatever their pitches; and where both pitches are in their range, the checks
 -- of an order say the same. (`Neighbours` and the colour of a cell are given no panel at all.)
 use Prim.Native.Nat.{ℕ}
-use mathlib.Core.Path.{_≡_, sym, ap, _∙_}
+use mathlib.Core.Path.{◌≡◌, sym, ap, ◌∙◌}
 use mathlib.Core.Bool.{Bool, true}
 use mathlib.Core.List.{List}
-use Rattle·grid·specs.specs.declared.Cell.{Cell}
-use Rattle·grid·specs.specs.declared.Check.{Check}
-use Rattle·grid·specs.specs.declared.Check.the-variants.{Good}
-use Rattle·grid·specs.specs.declared.Refusal.the-variants.{Side, Pitch, EntryOff, ExitOff}
-use Rattle·grid·specs.specs.Panel.{panel, goodSides, GoodSides, goodPitch, onPanel, OnPanel, Neighbours}
-use Rattle·grid·specs.specs.Track.{Track}
-use Rattle·grid·specs.specs.Check.{expect, checkPanel, checkOrder, after}
-use Rattle·grid·proofs.proofs.Track.{widen}
+use Rattle.grid.specs.declared.Cell.{Cell}
+use Rattle.grid.specs.declared.Check.{Check}
+use Rattle.grid.specs.declared.Check.TheVariants.{Good}
+use Rattle.grid.specs.declared.Refusal.TheVariants.{Side, Pitch, EntryOff, ExitOff}
+use Rattle.grid.specs.Panel.{panel, good_sides, GoodSides, good_pitch, on_panel, OnPanel, Neighbours}
+use Rattle.grid.specs.Track.{Track}
+use Rattle.grid.specs.Check.{expect, check_panel, check_order, after}
+use Rattle.grid.proofs.Track.{widen}
 
 module _ {m n a b : ℕ} where
-  pub cell-same : (c : Cell) → OnPanel (panel m n a) c → OnPanel (panel m n b) c
-  cell-same c o = record { left = o .left; right = o .right; top = o .top; bottom = o .bottom }
+  pub cell_same : (c : Cell) → OnPanel (panel m n a) c → OnPanel (panel m n b) c
+  cell_same c o = record { left = o.left; right = o.right; top = o.top; bottom = o.bottom }
 
-  pub sides-same : GoodSides (panel m n a) → GoodSides (panel m n b)
-  sides-same g = record { wide = g .wide; widest = g .widest; high = g .high; highest = g .highest }
+  pub sides_same : GoodSides (panel m n a) → GoodSides (panel m n b)
+  sides_same g = record { wide = g.wide; widest = g.widest; high = g.high; highest = g.highest }
 
-  pub neighbour-same : (c d : Cell) → OnPanel (panel m n a) d × Neighbours c d → OnPanel (panel m n b) d × Neighbours c d
-  neighbour-same c d (o, h) = (cell-same d o, h)
+  pub neighbour_same : (c d : Cell) → OnPanel (panel m n a) d × Neighbours c d → OnPanel (panel m n b) d × Neighbours c d
+  neighbour_same c d (o, h) = (cell_same d o, h)
 
-  pub track-same : {s t : Cell} {l : List Cell} → Track (panel m n a) s t l → Track (panel m n b) s t l
-  track-same r = widen cell-same r
+  pub track_same : {s t : Cell} {l : List Cell} → Track (panel m n a) s t l → Track (panel m n b) s t l
+  track_same r = widen cell_same r
 
 -- what every call tests of a panel, and of an order
-module _ (m n a b : ℕ) (u : goodPitch (panel m n a) ≡ true) (v : goodPitch (panel m n b) ≡ true) where
-  panel-same : checkPanel (panel m n a) ≡ checkPanel (panel m n b)
-  panel-same = ap (λ (k : Bool). expect (goodSides (panel m n a)) Side (expect k Pitch Good)) (u ∙ sym v)
+module _ (m n a b : ℕ) (u : good_pitch (panel m n a) ≡ true) (v : good_pitch (panel m n b) ≡ true) where
+  panel_same : check_panel (panel m n a) ≡ check_panel (panel m n b)
+  panel_same = ap (λ (k : Bool). expect (good_sides (panel m n a)) Side (expect k Pitch Good)) (u ∙ sym v)
 
-  pub order-same : (s t : Cell) → checkOrder (panel m n a) s t ≡ checkOrder (panel m n b) s t
-  order-same s t =
+  pub order_same : (s t : Cell) → check_order (panel m n a) s t ≡ check_order (panel m n b) s t
+  order_same s t =
       let p = panel m n a in
-      let rest = expect (onPanel p t) ExitOff Good in
-      ap (λ (k : Check). after (after k (expect (onPanel p s) EntryOff Good)) rest) panel-same
+      let rest = expect (on_panel p t) ExitOff Good in
+      ap (λ (k : Check). after (after k (expect (on_panel p s) EntryOff Good)) rest) panel_same

@@ -1,12 +1,12 @@
 -- The tests that the calls share, in the documents' order: the first that fails gives the refusal.
-use mathlib.Core.Bool.{Bool, true, false}
-use Rattle·grid·specs.specs.declared.Panel.{Panel}
-use Rattle·grid·specs.specs.declared.Cell.{Cell}
-use Rattle·grid·specs.specs.declared.Refusal.{Refusal}
-use Rattle·grid·specs.specs.declared.Refusal.the-variants.{Side, Pitch, EntryOff, ExitOff}
-use Rattle·grid·specs.specs.declared.Check.{Check}
-use Rattle·grid·specs.specs.declared.Check.the-variants.{Good, Refused}
-use Rattle·grid·specs.specs.Panel.{goodSides, goodPitch, onPanel}
+use Rattle.std.specs.Prelude.{Bool, true, false}
+use Rattle.grid.specs.declared.Panel.{Panel}
+use Rattle.grid.specs.declared.Cell.{Cell}
+use Rattle.grid.specs.declared.Refusal.{Refusal}
+use Rattle.grid.specs.declared.Refusal.TheVariants.{Side, Pitch, EntryOff, ExitOff}
+use Rattle.grid.specs.declared.Check.{Check}
+use Rattle.grid.specs.declared.Check.TheVariants.{Good, Refused}
+use Rattle.grid.specs.Panel.{good_sides, good_pitch, on_panel}
 
 -- a test that passes goes on to the tests behind it, a test that fails refuses
 abbrev pub expect : Bool → Refusal → Check → Check
@@ -19,16 +19,16 @@ after Good k = k
 after (Refused r) k = Refused r
 
 -- 1, a side is 0 or above 128; 18, the pitch is below 1,000 or above 10,000
-abbrev pub checkPanel : Panel → Check
-checkPanel p = expect (goodSides p) Side (expect (goodPitch p) Pitch Good)
+abbrev pub check_panel : Panel → Check
+check_panel p = expect (good_sides p) Side (expect (good_pitch p) Pitch Good)
 
 -- 1; 18; 2, entry off the panel
-abbrev pub checkEntry : Panel → Cell → Check
-checkEntry p s = after (checkPanel p) (expect (onPanel p s) EntryOff Good)
+abbrev pub check_entry : Panel → Cell → Check
+check_entry p s = after (check_panel p) (expect (on_panel p s) EntryOff Good)
 
 -- 1; 18; 2; 3, exit off the panel
-abbrev pub checkOrder : Panel → Cell → Cell → Check
-checkOrder p s t = after (checkEntry p s) (expect (onPanel p t) ExitOff Good)
+abbrev pub check_order : Panel → Cell → Cell → Check
+check_order p s t = after (check_entry p s) (expect (on_panel p t) ExitOff Good)
 
 -- an answer: what a check that refuses gives, and what it gives where all is good
 abbrev pub answer {ℓ} : {A : Type ℓ} → Check → (Refusal → A) → A → A

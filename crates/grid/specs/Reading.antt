@@ -1,9 +1,8 @@
 -- The cells of a panel in reading order (row-major order): rows from the top, each from the left.
-use Prim.Native.Nat.{ℕ, zero, suc}
-use mathlib.Core.List.{List, [], _∷_, _++_}
-use Rattle·grid·specs.specs.declared.Panel.{Panel}
-use Rattle·grid·specs.specs.declared.Cell.{Cell}
-use Rattle·grid·specs.specs.Panel.{cell}
+use Rattle.std.specs.Prelude.{ℕ, zero, suc, List, [], ◌∷◌, ◌++◌}
+use Rattle.grid.specs.declared.Panel.{Panel}
+use Rattle.grid.specs.declared.Cell.{Cell}
+use Rattle.grid.specs.Panel.{cell}
 
 -- the lists g x, g (x + 1), .., k of them, one behind the other
 abbrev pub run : (ℕ → List Cell) → ℕ → ℕ → List Cell
@@ -12,8 +11,8 @@ run g x (suc k) = g x ++ run g (suc x) k
 
 -- the cells of row y, from the left
 abbrev pub row : Panel → ℕ → List Cell
-row p y = run (λ x. cell x y ∷ []) 1 (p .width)
+row p y = run (λ x. cell x y ∷ []) 1 p.width
 
 -- the cells of the panel, row by row
 abbrev pub reading : Panel → List Cell
-reading p = run (row p) 1 (p .height)
+reading p = run (row p) 1 p.height

@@ -1,8 +1,8 @@
 -- The numbers of the refusals: 1 to 17 are document 01's, 18 is R-1's, 19 R-7's, which only the bench's calls give, 20 R-8's, which only Probe
 -- gives, 21 R-11's, which only Compare gives, and 22 and 23 R-12's, which only the call that edits gives. R-6 withdrew 4, R-9 withdrew 10.
-use Prim.Native.Nat.{ℕ}
-use Rattle·grid·specs.specs.declared.Refusal.{Refusal}
-use Rattle·grid·specs.specs.declared.Refusal.the-variants as refusal
+use Rattle.std.specs.Prelude.{ℕ}
+use Rattle.grid.specs.declared.Refusal.{Refusal}
+use Rattle.grid.specs.declared.Refusal.TheVariants as refusal
 
 -- the number of a refusal
 abbrev pub number : Refusal → ℕ

@@ -1,9 +1,8 @@
 -- A track: a simple path of the grid graph, for any list of cells, however made.
-use mathlib.Core.List.{List, [], _∷_}
-use mathlib.Core.Logic.{_≢_}
-use Rattle·grid·specs.specs.declared.Panel.{Panel}
-use Rattle·grid·specs.specs.declared.Cell.{Cell}
-use Rattle·grid·specs.specs.Panel.{OnPanel, Neighbours}
+use Rattle.std.specs.Prelude.{List, [], ◌∷◌, ◌≢◌}
+use Rattle.grid.specs.declared.Panel.{Panel}
+use Rattle.grid.specs.declared.Cell.{Cell}
+use Rattle.grid.specs.Panel.{OnPanel, Neighbours}
 
 -- the first cell is s, the last is t, and each next cell is a neighbour of the one before
 pub data Walk : Cell → Cell → List Cell → Type 0 where

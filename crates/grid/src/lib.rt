@@ -1,11 +1,12 @@
 // Cells, panels, counts and refusals: what every call takes and answers with, and the tests that
 // the calls share.
-ghost use mathlib.Core.Path.{_≡_};
-ghost use Prim.Native.Nat.{_≤_, _+_};
-ghost use Rattle·grid·specs.specs.Panel.{between, panel, goodSides, goodPitch, area, onPanel, sameCell, dist, turned, turnedCell};
-ghost use Rattle·grid·specs.specs.Refusal.{number};
-ghost use Rattle·grid·specs.specs.Check.{expect, after, checkPanel, checkEntry, checkOrder};
-ghost use Rattle·grid·specs.specs.Answer.{cellsValues};
+#![tactic(auto)]
+
+ghost use Rattle.std.specs.Prelude.{◌≡◌, ◌≤◌, ◌+◌};
+ghost use Rattle.grid.specs.Panel.{between, panel, good_sides, good_pitch, area, on_panel, same_cell, dist, turned, turned_cell};
+ghost use Rattle.grid.specs.Refusal.{number};
+ghost use Rattle.grid.specs.Check.{expect, after, check_panel, check_entry, check_order};
+ghost use Rattle.grid.specs.Answer.{cells_values};
 
 // The largest side of a panel.
 pub const MAX_SIDE: u32 = 128;
@@ -17,6 +18,7 @@ const MAX_PITCH: u32 = 10000;
 
 // A panel of `width` columns (m) and `height` rows (n); the centres of neighbouring cells are `pitch`
 // micrometres apart.
+#[derive(Clone, Copy)]
 pub struct Panel {
     pub width: u32,
     pub height: u32,
@@ -24,18 +26,22 @@ pub struct Panel {
 }
 
 // A cell: column x from the left and row y from the top, both from 1.
+#[derive(Clone, Copy)]
 pub struct Cell {
     pub x: u32,
     pub y: u32,
 }
 
 // A number of cells, as document 000 measures a track.
+#[derive(Clone, Copy)]
 pub struct Cells(pub u32);
 
 // A number of steps, as document 001 measures a track: one fewer.
+#[derive(Clone, Copy)]
 pub struct Steps(pub u32);
 
 // Why a call refuses; `number` gives its number, which is document 01's or a request's.
+#[derive(Clone, Copy)]
 pub enum Refusal {
     Side,
     EntryOff,
@@ -61,31 +67,35 @@ pub enum Refusal {
 }
 
 // What a test of the input finds.
+#[derive(Clone, Copy)]
 pub enum Check {
     Good,
     Refused(Refusal),
 }
 
 // What a call answers that gives a number of cells: why it refuses, or how many.
+#[derive(Clone, Copy)]
 pub enum CellsAnswer {
     Refused(Refusal),
     Given(Cells),
 }
 
 // The number of the refusal, 0 where nothing is refused, and the cells, 0 where refused.
+#[derive(Clone, Copy)]
 pub struct CellsValues {
     pub refusal: u32,
     pub cells: Cells,
 }
 
 // What a call answers that gives a number of bytes: why it refuses, or how many.
+#[derive(Clone, Copy)]
 pub enum BytesAnswer {
     Refused(Refusal),
     Given(u32),
 }
 
 pub fn cells_values(a: CellsAnswer) -> CellsValues
-    ensures { λ r. ⌜ r ≡ cellsValues a ⌝ }
+    ensures { result ≡ cells_values a }
 {
     match a {
         CellsAnswer::Refused(r) => CellsValues {
@@ -101,14 +111,14 @@ pub fn cells_values(a: CellsAnswer) -> CellsValues
 
 // The one way from cells to steps.
 pub fn steps_of(cells: Cells) -> Steps
-    requires { ⌜ 1 ≤ cells .0 ⌝ }
-    ensures { λ r. ⌜ r .0 + 1 ≡ cells .0 ⌝ }
+    requires { 1 ≤ cells.0 }
+    ensures { result.0 + 1 ≡ cells.0 }
 {
     Steps(cells.0 - 1)
 }
 
 pub fn number_of(r: Refusal) -> u32
-    ensures { λ k. ⌜ k ≡ number r ⌝ }
+    ensures { result ≡ number r }
 {
     match r {
         Refusal::Side => 1,
@@ -137,14 +147,14 @@ pub fn number_of(r: Refusal) -> u32
 
 // Whether a is a number from low to high.
 fn between(low: u32, high: u32, a: u32) -> bool
-    ensures { λ r. ⌜ r ≡ between low high a ⌝ }
+    ensures { result ≡ between low high a }
 {
     if low <= a { a <= high } else { false }
 }
 
 // The one way that a panel is made.
 pub fn panel_of(width: u32, height: u32, pitch: u32) -> Panel
-    ensures { λ r. ⌜ r ≡ panel width height pitch ⌝ }
+    ensures { result ≡ panel width height pitch }
 {
     Panel {
         width,
@@ -154,26 +164,27 @@ pub fn panel_of(width: u32, height: u32, pitch: u32) -> Panel
 }
 
 pub fn turn_panel(p: Panel) -> Panel
-    ensures { λ r. ⌜ r ≡ turned p ⌝ }
+    ensures { result ≡ turned p }
 {
     panel_of(p.height, p.width, p.pitch)
 }
 
 pub fn turn_cell(c: Cell) -> Cell
-    ensures { λ r. ⌜ r ≡ turnedCell c ⌝ }
+    ensures { result ≡ turned_cell c }
 {
     Cell { x: c.y, y: c.x }
 }
 
 // How far two numbers are apart.
+#[tactic(auto, unfolding(crate::specs::Panel::dist))]
 pub fn distance(a: u32, b: u32) -> u32
-    ensures { λ r. ⌜ r ≡ dist a b ⌝ }
+    ensures { result ≡ dist a b }
 {
     if a <= b { b - a } else { a - b }
 }
 
 fn good_sides(p: Panel) -> bool
-    ensures { λ r. ⌜ r ≡ goodSides p ⌝ }
+    ensures { result ≡ good_sides p }
 {
     if between(1, MAX_SIDE, p.width) {
         between(1, MAX_SIDE, p.height)
@@ -183,20 +194,20 @@ fn good_sides(p: Panel) -> bool
 }
 
 fn good_pitch(p: Panel) -> bool
-    ensures { λ r. ⌜ r ≡ goodPitch p ⌝ }
+    ensures { result ≡ good_pitch p }
 {
     between(MIN_PITCH, MAX_PITCH, p.pitch)
 }
 
 // mn, the number of cells of the panel.
 pub fn area_of(p: Panel) -> usize
-    ensures { λ r. ⌜ r ≡ area p ⌝ }
+    ensures { result ≡ area p }
 {
     (p.width as usize) * (p.height as usize)
 }
 
 pub fn on_panel(p: Panel, c: Cell) -> bool
-    ensures { λ r. ⌜ r ≡ onPanel p c ⌝ }
+    ensures { result ≡ on_panel p c }
 {
     if between(1, p.width, c.x) {
         between(1, p.height, c.y)
@@ -206,21 +217,21 @@ pub fn on_panel(p: Panel, c: Cell) -> bool
 }
 
 pub fn same_cell(a: Cell, b: Cell) -> bool
-    ensures { λ r. ⌜ r ≡ sameCell a b ⌝ }
+    ensures { result ≡ same_cell a b }
 {
     if a.x == b.x { a.y == b.y } else { false }
 }
 
 // A test that passes goes on to the tests behind it, a test that fails refuses.
 pub fn expect(ok: bool, r: Refusal, rest: Check) -> Check
-    ensures { λ c. ⌜ c ≡ expect ok r rest ⌝ }
+    ensures { result ≡ expect ok r rest }
 {
     if ok { rest } else { Check::Refused(r) }
 }
 
 // One list of tests after another.
 pub fn after(first: Check, rest: Check) -> Check
-    ensures { λ c. ⌜ c ≡ after first rest ⌝ }
+    ensures { result ≡ after first rest }
 {
     match first {
         Check::Good => rest,
@@ -229,7 +240,7 @@ pub fn after(first: Check, rest: Check) -> Check
 }
 
 pub fn check_panel(p: Panel) -> Check
-    ensures { λ r. ⌜ r ≡ checkPanel p ⌝ }
+    ensures { result ≡ check_panel p }
 {
     let sides = good_sides(p);
     let pitch = good_pitch(p);
@@ -238,7 +249,7 @@ pub fn check_panel(p: Panel) -> Check
 }
 
 pub fn check_entry(p: Panel, s: Cell) -> Check
-    ensures { λ r. ⌜ r ≡ checkEntry p s ⌝ }
+    ensures { result ≡ check_entry p s }
 {
     after(
         check_panel(p),
@@ -247,7 +258,7 @@ pub fn check_entry(p: Panel, s: Cell) -> Check
 }
 
 pub fn check_order(p: Panel, s: Cell, t: Cell) -> Check
-    ensures { λ r. ⌜ r ≡ checkOrder p s t ⌝ }
+    ensures { result ≡ check_order p s t }
 {
     after(
         check_entry(p, s),

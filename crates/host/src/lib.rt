@@ -1,30 +1,24 @@
 // The calls of the order desk's C host: each takes numbers and byte slices, and gives refusal, class
 // and count packed in one number. host/foil.h declares them.
-use bound::BoundAnswer;
-use bound::bound_values;
-use grid::Cell;
-use grid::Cells;
-use grid::CellsAnswer;
-use grid::Check;
-use grid::Panel;
-use grid::Refusal;
-use grid::cells_values;
-use grid::number_of;
-use grid::panel_of;
-ghost use mathlib.Core.Path.{_≡_};
-ghost use Prim.Native.Nat.{_<_, _^_};
-ghost use Rattle·grid.specs.Panel.{panel, cell};
-ghost use Rattle·grid.specs.Answer.{cellsValues};
-ghost use Rattle·grid.specs.Refusal.{number};
-ghost use Rattle·bound.specs.Bound.{boundValues};
-ghost use Rattle·bench.specs.Bench.{checkBench};
-ghost use Rattle·host·specs.specs.Host.{packed, PacksBound, PacksDraw, PacksJudge, PacksBenchBound, PacksBenchDraw, PacksBenchJudge};
+#![tactic(auto)]
+
+ghost use Rattle.std.specs.Prelude.{◌≡◌, ◌<◌, ◌^◌};
+ghost use Rattle.grid.specs.Panel.{panel, cell};
+ghost use Rattle.grid.specs.Answer.{cells_values};
+ghost use Rattle.grid.specs.Refusal.{number};
+ghost use Rattle.bound.specs.Bound.{bound_values};
+ghost use Rattle.bench.specs.Bench.{check_bench};
+ghost use Rattle.host.specs.Host.{packed, PacksBound, PacksDraw, PacksJudge, PacksBenchBound, PacksBenchDraw, PacksBenchJudge};
+
+use bound::{BoundAnswer, bound_values};
+use grid::{Cell, Cells, CellsAnswer, Check, Panel, Refusal, cells_values, number_of, panel_of};
 
 const REFUSAL_UNIT: u64 = 4294967296;
 
 const CLASS_UNIT: u64 = 16777216;
 
 // An order's seven numbers.
+#[derive(Clone, Copy)]
 struct Order {
     panel: Panel,
     entry: Cell,
@@ -32,7 +26,7 @@ struct Order {
 }
 
 fn order_of(m: u32, n: u32, pitch: u32, sx: u32, sy: u32, tx: u32, ty: u32) -> Order
-    ensures { λ r. ⌜ r ≡ record { panel = panel m n pitch; entry = cell sx sy; exit = cell tx ty } ⌝ }
+    ensures { result ≡ record { panel = panel m n pitch; entry = cell sx sy; exit = cell tx ty } }
 {
     Order {
         panel: panel_of(m, n, pitch),
@@ -42,17 +36,17 @@ fn order_of(m: u32, n: u32, pitch: u32, sx: u32, sy: u32, tx: u32, ty: u32) -> O
 }
 
 fn pack(refusal: u32, class: u32, count: Cells) -> u64
-    requires { ⌜ class < 2 ^ 8 ⌝ }
-    requires { ⌜ count .0 < 2 ^ 24 ⌝ }
-    ensures { λ r. ⌜ r ≡ packed refusal class (count .0) ⌝ }
+    requires class_bound { class < 2 ^ 8 }
+    requires count_bound { count.0 < 2 ^ 24 }
+    ensures { result ≡ packed refusal class count.0 }
 {
     (refusal as u64) * REFUSAL_UNIT + (class as u64) * CLASS_UNIT + (count.0 as u64)
 }
 
 fn pack_bound(a: BoundAnswer) -> u64
-    requires { ⌜ (boundValues a) .class < 2 ^ 8 ⌝ }
-    requires { ⌜ (boundValues a) .count .0 < 2 ^ 24 ⌝ }
-    ensures { λ r. ⌜ r ≡ packed ((boundValues a) .refusal) ((boundValues a) .class) ((boundValues a) .count .0) ⌝ }
+    requires a_bound { (bound_values a).class < 2 ^ 8 }
+    requires a_bound_2 { (bound_values a).count.0 < 2 ^ 24 }
+    ensures { result ≡ packed (bound_values a).refusal (bound_values a).class (bound_values a).count.0 }
 {
     let v = bound_values(a);
     pack(v.refusal, v.class, v.count)
@@ -60,24 +54,24 @@ fn pack_bound(a: BoundAnswer) -> u64
 
 // An answer without a class.
 fn pack_cells(a: CellsAnswer) -> u64
-    requires { ⌜ (cellsValues a) .cells .0 < 2 ^ 24 ⌝ }
-    ensures { λ r. ⌜ r ≡ packed ((cellsValues a) .refusal) 0 ((cellsValues a) .cells .0) ⌝ }
+    requires { (cells_values a).cells.0 < 2 ^ 24 }
+    ensures { result ≡ packed (cells_values a).refusal 0 (cells_values a).cells.0 }
 {
     let v = cells_values(a);
     pack(v.refusal, 0, v.cells)
 }
 
 // Bound: refusal · 2^32 + class · 2^24 + count.
-#[no_mangle]
+#[unsafe(no_mangle)]
 pub extern "C" fn foil_bound(m: u32, n: u32, pitch: u32, sx: u32, sy: u32, tx: u32, ty: u32) -> u64
-    ensures { λ r. ⌜ PacksBound (panel m n pitch) (cell sx sy) (cell tx ty) r ⌝ }
+    ensures { PacksBound (panel m n pitch) (cell sx sy) (cell tx ty) result }
 {
     let o = order_of(m, n, pitch, sx, sy, tx, ty);
     pack_bound(bound::bound(o.panel, o.entry, o.exit))
 }
 
 // Draw: refusal · 2^32 + count.
-#[no_mangle]
+#[unsafe(no_mangle)]
 pub extern "C" fn foil_draw(
     m: u32,
     n: u32,
@@ -88,14 +82,14 @@ pub extern "C" fn foil_draw(
     ty: u32,
     buffer: &mut [u8],
 ) -> u64
-    ensures { λ r. ⌜ PacksDraw (panel m n pitch) (cell sx sy) (cell tx ty) (now (buffer .entry)) (now (buffer .exit)) r ⌝ }
+    ensures { PacksDraw (panel m n pitch) (cell sx sy) (cell tx ty) buffer.old buffer.new result }
 {
     let o = order_of(m, n, pitch, sx, sy, tx, ty);
     pack_cells(draw::draw(o.panel, o.entry, o.exit, buffer))
 }
 
 // Judge: refusal · 2^32 + count.
-#[no_mangle]
+#[unsafe(no_mangle)]
 pub extern "C" fn foil_judge(
     m: u32,
     n: u32,
@@ -107,7 +101,7 @@ pub extern "C" fn foil_judge(
     list: &[u8],
     scratch: &mut [u8],
 ) -> u64
-    ensures { λ r. ⌜ PacksJudge (panel m n pitch) (cell sx sy) (cell tx ty) (now (list .entry)) (now (scratch .entry)) (now (scratch .exit)) r ⌝ }
+    ensures { PacksJudge (panel m n pitch) (cell sx sy) (cell tx ty) list.now scratch.old scratch.new result }
 {
     let o = order_of(m, n, pitch, sx, sy, tx, ty);
     pack_cells(judge::judge(o.panel, o.entry, o.exit, list, scratch))
@@ -115,21 +109,21 @@ pub extern "C" fn foil_judge(
 
 // A refusal without class and count.
 fn pack_refusal(r: Refusal) -> u64
-    ensures { λ k. ⌜ k ≡ packed (number r) 0 0 ⌝ }
+    ensures { result ≡ packed (number r) 0 0 }
 {
     pack(number_of(r), 0, Cells(0))
 }
 
 // What the bench refuses of a panel: 1, 18, 19.
 fn check_sides(m: u32, n: u32, pitch: u32) -> Check
-    ensures { λ r. ⌜ r ≡ checkBench (panel m n pitch) ⌝ }
+    ensures { result ≡ check_bench (panel m n pitch) }
 {
     bench::check_bench(panel_of(m, n, pitch))
 }
 
 // The same three calls for the bench, with the same parameters: each is the C call for large panels behind
 // the bench's check. So Bound, Draw and Judge keep one caller each, and are compiled as one piece with it.
-#[no_mangle]
+#[unsafe(no_mangle)]
 pub extern "C" fn foil_bench_bound(
     m: u32,
     n: u32,
@@ -139,7 +133,7 @@ pub extern "C" fn foil_bench_bound(
     tx: u32,
     ty: u32,
 ) -> u64
-    ensures { λ r. ⌜ PacksBenchBound (panel m n pitch) (cell sx sy) (cell tx ty) r ⌝ }
+    ensures { PacksBenchBound (panel m n pitch) (cell sx sy) (cell tx ty) result }
 {
     let c = check_sides(m, n, pitch);
     if let Check::Refused(r) = c {
@@ -148,7 +142,7 @@ pub extern "C" fn foil_bench_bound(
     foil_bound(m, n, pitch, sx, sy, tx, ty)
 }
 
-#[no_mangle]
+#[unsafe(no_mangle)]
 pub extern "C" fn foil_bench_draw(
     m: u32,
     n: u32,
@@ -159,7 +153,7 @@ pub extern "C" fn foil_bench_draw(
     ty: u32,
     buffer: &mut [u8],
 ) -> u64
-    ensures { λ r. ⌜ PacksBenchDraw (panel m n pitch) (cell sx sy) (cell tx ty) (now (buffer .entry)) (now (buffer .exit)) r ⌝ }
+    ensures { PacksBenchDraw (panel m n pitch) (cell sx sy) (cell tx ty) buffer.old buffer.new result }
 {
     let c = check_sides(m, n, pitch);
     if let Check::Refused(r) = c {
@@ -168,7 +162,7 @@ pub extern "C" fn foil_bench_draw(
     foil_draw(m, n, pitch, sx, sy, tx, ty, buffer)
 }
 
-#[no_mangle]
+#[unsafe(no_mangle)]
 pub extern "C" fn foil_bench_judge(
     m: u32,
     n: u32,
@@ -180,7 +174,7 @@ pub extern "C" fn foil_bench_judge(
     list: &[u8],
     scratch: &mut [u8],
 ) -> u64
-    ensures { λ r. ⌜ PacksBenchJudge (panel m n pitch) (cell sx sy) (cell tx ty) (now (list .entry)) (now (scratch .entry)) (now (scratch .exit)) r ⌝ }
+    ensures { PacksBenchJudge (panel m n pitch) (cell sx sy) (cell tx ty) list.now scratch.old scratch.new result }
 {
     let c = check_sides(m, n, pitch);
     if let Check::Refused(r) = c {

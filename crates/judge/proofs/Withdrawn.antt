@@ -1,40 +1,40 @@
 -- Document 02, R-9: without 10 every list gets the answer that it got with it. The checks as they stood are written out here; which refusal they
 -- had for more than mn cells does not matter.
 use Prim.Native.Nat.{ℕ}
-use mathlib.Core.Path.{_≡_, refl, ap}
+use mathlib.Core.Path.{◌≡◌, refl, ap}
 use mathlib.Core.Bool.{Bool, true, false}
 use mathlib.Core.List.{List}
 use lib.Dec.{leb}
 use lib.ListN.{length}
 use borrow.Author.Tests.{le-leb}
-use Rattle·grid.specs.declared.Panel.{Panel}
-use Rattle·grid.specs.declared.Cell.{Cell}
-use Rattle·grid.specs.declared.Refusal.{Refusal}
-use Rattle·grid.specs.declared.Refusal.the-variants.{CellOff, NotNeighbours, Repeated, WrongEnds}
-use Rattle·grid.specs.declared.Check.{Check}
-use Rattle·grid.specs.declared.Check.the-variants.{Good}
-use Rattle·grid.specs.declared.CellsAnswer.{CellsAnswer}
-use Rattle·grid.specs.Panel.{area}
-use Rattle·grid.specs.Check.{expect, after}
-use Rattle·grid.specs.Answer.{cellsAnswer}
-use Rattle·grid.specs.Bytes.{cellsIn}
-use Rattle·list.specs.List.{allOn, allSteps, noneTwice, runs}
-use Rattle·list.specs.Check.{checkWalk}
-use Rattle·pigeonhole.proofs.Long.{tested-few}
-use Rattle·judge·specs.specs.Judge.{sizesCheck, cellsCheck, judgeOf}
+use Rattle.grid.specs.declared.Panel.{Panel}
+use Rattle.grid.specs.declared.Cell.{Cell}
+use Rattle.grid.specs.declared.Refusal.{Refusal}
+use Rattle.grid.specs.declared.Refusal.TheVariants.{CellOff, NotNeighbours, Repeated, WrongEnds}
+use Rattle.grid.specs.declared.Check.{Check}
+use Rattle.grid.specs.declared.Check.TheVariants.{Good}
+use Rattle.grid.specs.declared.CellsAnswer.{CellsAnswer}
+use Rattle.grid.specs.Panel.{area}
+use Rattle.grid.specs.Check.{expect, after}
+use Rattle.grid.specs.Answer.{cells_answer}
+use Rattle.grid.specs.Bytes.{cells_in}
+use Rattle.list.specs.List.{all_on, all_steps, none_twice, runs}
+use Rattle.list.specs.Check.{check_walk}
+use Rattle.pigeonhole.proofs.Long.{tested_few}
+use Rattle.judge.specs.Judge.{sizes_check, cells_check, judge_of}
 
 module _ (ten : Refusal) (p : Panel) (s t : Cell) where
   -- between 9 and 11 stood 10, more than mn cells
-  abbrev pub cellsCheckWithTen : List Cell → Check
-  cellsCheckWithTen l =
-      after (checkWalk p l)
-      (expect (noneTwice l) Repeated
+  abbrev pub cells_check_with_ten : List Cell → Check
+  cells_check_with_ten l =
+      after (check_walk p l)
+      (expect (none_twice l) Repeated
       (expect (leb (length l) (area p)) ten
       (expect (runs s t l) WrongEnds Good)))
 
-  abbrev pub judgeOfWithTen : List ℕ → ℕ → CellsAnswer
-  judgeOfWithTen list room =
-      cellsAnswer (after (sizesCheck p s t (length list) room) (cellsCheckWithTen (cellsIn list))) (length (cellsIn list))
+  abbrev pub judge_of_with_ten : List ℕ → ℕ → CellsAnswer
+  judge_of_with_ten list room =
+      cells_answer (after (sizes_check p s t (length list) room) (cells_check_with_ten (cells_in list))) (length (cells_in list))
 
   -- a test that cannot fail behind the others is no test
   spare : (on steps once short : Bool) (k : Check) → (on ≡ true → once ≡ true → short ≡ true)
@@ -45,10 +45,10 @@ module _ (ten : Refusal) (p : Panel) (s t : Cell) where
   spare true false once short k h = refl
   spare false steps once short k h = refl
 
-  pub check-without-ten : (l : List Cell) → cellsCheckWithTen l ≡ cellsCheck p s t l
-  check-without-ten l =
-      spare (allOn p l) (allSteps l) (noneTwice l) (leb (length l) (area p)) _ (λ on once. le-leb (length l) (area p) (tested-few p l on once))
+  pub check_without_ten : (l : List Cell) → cells_check_with_ten l ≡ cells_check p s t l
+  check_without_ten l =
+      spare (all_on p l) (all_steps l) (none_twice l) (leb (length l) (area p)) _ (λ on once. le-leb (length l) (area p) (tested_few p l on once))
 
-  pub answer-without-ten : (list : List ℕ) (room : ℕ) → judgeOfWithTen list room ≡ judgeOf p s t list room
-  answer-without-ten list room =
-      ap (λ (c : Check). cellsAnswer (after (sizesCheck p s t (length list) room) c) (length (cellsIn list))) (check-without-ten (cellsIn list))
+  pub answer_without_ten : (list : List ℕ) (room : ℕ) → judge_of_with_ten list room ≡ judge_of p s t list room
+  answer_without_ten list room =
+      ap (λ (c : Check). cells_answer (after (sizes_check p s t (length list) room) c) (length (cells_in list))) (check_without_ten (cells_in list))

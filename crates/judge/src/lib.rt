@@ -1,36 +1,25 @@
 // Judge: whether a list of cells is a track from entry to exit. It walks the list once: after each
 // cell the kept numbers and the marks in lent scratch decide the answer for the list up to there.
-use grid::Cell;
-use grid::Cells;
-use grid::CellsAnswer;
-use grid::Check;
-use grid::Panel;
-use grid::Refusal;
-use grid::after;
-use grid::area_of;
-use grid::check_order;
-use grid::expect;
-use grid::same_cell;
-use judge_walk::Kept;
-use judge_walk::start;
-use judge_walk::take_cell;
-use list::cell_at;
-use list::whole_cells;
+#![tactic(auto)]
+
+ghost use Rattle.std.specs.Prelude.{◌≡◌, true, ◌&&◌, ◌≤◌, length};
+ghost use Rattle.grid.specs.Panel.{cell, same_cell, good_sides, area};
+ghost use Rattle.grid.specs.Bytes.{cells_in};
+ghost use Rattle.list.specs.List.{whole_cells};
+ghost use Rattle.scratch.specs.Scratch.{cleared, Clean};
+ghost use Rattle.judge.specs.Judge.{sizes_check, cells_check, Judges};
+ghost use Rattle.judge.specs.Walk.{Decides, Walked};
+
+use grid::{
+    Cell, Cells, CellsAnswer, Check, Panel, Refusal, after, area_of, check_order, expect, same_cell,
+};
+use judge_walk::{Kept, start, take_cell};
+use list::{cell_at, whole_cells};
 use scratch::clear;
-ghost use mathlib.Core.Path.{_≡_};
-ghost use mathlib.Core.Bool.{true, _&&_};
-ghost use Prim.Native.Nat.{_≤_};
-ghost use lib.ListN.{length};
-ghost use Rattle·grid.specs.Panel.{cell, sameCell, goodSides, area};
-ghost use Rattle·grid.specs.Bytes.{cellsIn};
-ghost use Rattle·list.specs.List.{wholeCells};
-ghost use Rattle·scratch.specs.Scratch.{cleared, Clean};
-ghost use Rattle·judge·specs.specs.Judge.{sizesCheck, cellsCheck, Judges};
-ghost use Rattle·judge·specs.specs.Walk.{Decides, Walked};
 
 // The refusals that are tested before any cell is looked at.
 fn check_sizes(p: Panel, entry: Cell, exit: Cell, bytes: usize, room: usize) -> Check
-    ensures { λ r. ⌜ r ≡ sizesCheck p entry exit bytes room ⌝ }
+    ensures { result ≡ sizes_check p entry exit bytes room }
 {
     let enough = expect(area_of(p) <= room, Refusal::ShortBuffer, Check::Good);
     after(
@@ -41,7 +30,7 @@ fn check_sizes(p: Panel, entry: Cell, exit: Cell, bytes: usize, room: usize) -> 
 
 // Whether the first cell is the entry and the last the exit.
 fn ends_at(kept: Kept, exit: Cell) -> bool
-    ensures { λ r. ⌜ r ≡ (kept .begins && sameCell (cell (kept .x) (kept .y)) exit) ⌝ }
+    ensures { result ≡ (kept.begins && same_cell (cell kept.x kept.y) exit) }
 {
     let last = Cell {
         x: kept.x,
@@ -55,7 +44,7 @@ fn ends_at(kept: Kept, exit: Cell) -> bool
 
 // The answer for a list that the kept numbers stand for: the refusals of its cells, in order.
 fn verdict(exit: Cell, kept: Kept) -> Check
-    ensures { λ r. ⌜ Decides exit kept r ⌝ }
+    ensures { Decides exit kept result }
 {
     if kept.off != 0 {
         return Check::Refused(Refusal::CellOff);
@@ -72,10 +61,10 @@ fn verdict(exit: Cell, kept: Kept) -> Check
 // Walks the list in clean scratch. Only a cell off the panel ends the walk: 7 is tested before all
 // else, so that no later cell changes it, while a later 7 comes before an 8, and an 8 before a 9.
 fn walk(p: Panel, entry: Cell, list: &[u8], scratch: &mut [u8]) -> Kept
-    requires good { ⌜ goodSides p ≡ true ⌝ }
-    requires whole { ⌜ wholeCells (length (now list)) ≡ true ⌝ }
-    requires clean { ⌜ Clean p (now scratch) ⌝ }
-    ensures { λ r. ⌜ Walked p entry (cellsIn (now (list .entry))) (now (scratch .entry)) r (now (scratch .exit)) ⌝ }
+    requires good { good_sides p ≡ true }
+    requires whole { whole_cells (length list.now) ≡ true }
+    requires clean { Clean p scratch.old }
+    ensures { Walked p entry (cells_in list.now) scratch.old result scratch.new }
 {
     let mut k = start();
     let mut at = 0;
@@ -91,11 +80,11 @@ fn walk(p: Panel, entry: Cell, list: &[u8], scratch: &mut [u8]) -> Kept
 
 // The refusals of the cells. Scratch is lent dirty and left clean, whichever test fails.
 fn check_cells(p: Panel, entry: Cell, exit: Cell, list: &[u8], scratch: &mut [u8]) -> Check
-    requires good { ⌜ goodSides p ≡ true ⌝ }
-    requires whole { ⌜ wholeCells (length (now list)) ≡ true ⌝ }
-    requires room { ⌜ area p ≤ length (now scratch) ⌝ }
-    ensures told { λ r. ⌜ r ≡ cellsCheck p entry exit (cellsIn (now (list .entry))) ⌝ }
-    ensures left { λ _. ⌜ now (scratch .exit) ≡ cleared p (now (scratch .entry)) ⌝ }
+    requires good { good_sides p ≡ true }
+    requires whole { whole_cells (length list.now) ≡ true }
+    requires room { area p ≤ length scratch.old }
+    ensures told { result ≡ cells_check p entry exit (cells_in list.now) }
+    ensures left { scratch.new ≡ cleared p scratch.old }
 {
     clear(p, scratch); // whatever was lent
     // Told before clearing, so that the kept numbers need not outlast it (docs/PERFORMANCE.md).
@@ -106,7 +95,7 @@ fn check_cells(p: Panel, entry: Cell, exit: Cell, list: &[u8], scratch: &mut [u8
 
 // Whether the list is a track from entry to exit, and how many cells it has.
 pub fn judge(p: Panel, entry: Cell, exit: Cell, list: &[u8], scratch: &mut [u8]) -> CellsAnswer
-    ensures { λ r. ⌜ Judges p entry exit (now (list .entry)) (now (scratch .entry)) (now (scratch .exit)) r ⌝ }
+    ensures { Judges p entry exit list.now scratch.old scratch.new result }
 {
     let sizes = check_sizes(p, entry, exit, list.len(), scratch.len());
     if let Check::Refused(r) = sizes {

@@ -1,17 +1,17 @@
 // What Judge keeps of the cells that it has passed, and how it takes the next one. Nothing looks back
 // into the list: the kept numbers and the marks in scratch say all that Judge's answer goes by.
-use grid::Cell;
-use grid::Panel;
-use grid::same_cell;
+#![tactic(auto)]
+
+ghost use Rattle.std.specs.Prelude.{◌+◌, ◌<◌, ◌^◌, ◌≡◌, true};
+ghost use Rattle.grid.specs.Panel.{good_sides};
+ghost use Rattle.judge_walk.specs.Walk.{Noted, StandsForSome, Takes, Begins};
+
+use grid::{Cell, Panel, same_cell};
 use list::squared_distance;
 use scratch::place_of;
-ghost use Prim.Native.Nat.{_+_, _<_, _^_};
-ghost use mathlib.Core.Path.{_≡_};
-ghost use mathlib.Core.Bool.{true};
-ghost use Rattle·grid.specs.Panel.{goodSides};
-ghost use Rattle·judge_walk·specs.specs.Walk.{Noted, StandsForSome, Takes, Begins};
 
 // The kept numbers of a list of cells.
+#[derive(Clone, Copy)]
 pub struct Kept {
     // Not 0 where some cell is off the panel.
     pub off: u8,
@@ -30,7 +30,7 @@ pub struct Kept {
 
 // What is kept before the first cell.
 pub fn start() -> Kept
-    ensures { λ r. ⌜ Begins r ⌝ }
+    ensures { Begins result }
 {
     Kept {
         off: 0,
@@ -46,7 +46,7 @@ pub fn start() -> Kept
 // A cell of the panel, whose place held a mark, becomes the last. The mark is kept by its bits, without
 // a branch. After an 8 marks no longer matter, since 9 is tested behind it; to ask would cost more.
 fn noted(k: Kept, c: Cell, mark: u8) -> Kept
-    ensures { λ r. ⌜ Noted k c mark r ⌝ }
+    ensures { Noted k c mark result }
 {
     let mut next = k;
     next.twice = k.twice | mark;
@@ -57,10 +57,10 @@ fn noted(k: Kept, c: Cell, mark: u8) -> Kept
 
 // Takes the next cell.
 pub fn take_cell(p: Panel, entry: Cell, k: Kept, c: Cell, scratch: &mut [u8]) -> Kept
-    requires good { ⌜ goodSides p ≡ true ⌝ }
-    requires stands { ⌜ StandsForSome p entry k (now scratch) ⌝ }
-    requires fits { ⌜ k .bytes + 2 < 2 ^ 64 ⌝ }
-    ensures { λ r. ⌜ Takes p entry k c (now (scratch .entry)) r (now (scratch .exit)) ⌝ }
+    requires good { good_sides p ≡ true }
+    requires stands { StandsForSome p entry k scratch.old }
+    requires fits { k.bytes + 2 < 2 ^ 64 }
+    ensures { Takes p entry k c scratch.old result scratch.new }
 {
     let mut next = k;
     next.bytes = k.bytes + 2;

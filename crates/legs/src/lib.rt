@@ -1,18 +1,18 @@
 // Legs drawn at the front of a lent buffer, one after the other: each next drawing gets the part of
 // the same buffer from twice the cells so far onward.
-use corner::corner_track;
-use corner::corner_track_back;
+#![tactic(auto)]
+
+ghost use Rattle.std.specs.Prelude.{◌≤◌, take, [], ◌∷◌};
+ghost use Rattle.plan.specs.Drawing.{Room, Written};
+
+use corner::{corner_track, corner_track_back};
 use grid::Cells;
 use plan::Leg;
-ghost use Prim.Native.Nat.{_≤_};
-ghost use lib.ListN.{take};
-ghost use mathlib.Core.List.{[], _∷_};
-ghost use Rattle·plan.specs.Drawing.{Room, Written};
 
 // Gives the number of cells written.
 pub fn draw_leg(g: Leg, buf: &mut [u8]) -> Cells
-    requires { ⌜ Room (g ∷ []) (now buf) ⌝ }
-    ensures { λ r. ⌜ Written (g ∷ []) r (now (buf .entry)) (now (buf .exit)) ⌝ }
+    requires { Room (g ∷ []) buf.old }
+    ensures { Written (g ∷ []) result buf.old buf.new }
 {
     if g.back {
         return corner_track_back(g.a, g.b, g.t, buf);
@@ -22,9 +22,9 @@ pub fn draw_leg(g: Leg, buf: &mut [u8]) -> Cells
 
 // Draws the first `n` legs, each behind the ones before, and gives the number of cells written.
 pub fn draw_legs(legs: [Leg; 5], n: usize, buf: &mut [u8]) -> Cells
-    requires { ⌜ n ≤ 5 ⌝ }
-    requires { ⌜ Room (take n legs) (now buf) ⌝ }
-    ensures { λ r. ⌜ Written (take n legs) r (now (buf .entry)) (now (buf .exit)) ⌝ }
+    requires n_bound { n ≤ 5 }
+    requires room { Room (take n legs) buf.old }
+    ensures { Written (take n legs) result buf.old buf.new }
 {
     let mut cells: u32 = 0;
     let mut i = 0;

@@ -1,11 +1,9 @@
 -- What a function that draws asks for, and what it leaves in the buffer.
-use Prim.Native.Nat.{ℕ, _+_, _*_, _≤_}
-use mathlib.Core.List.{List, _++_}
-use lib.ListN.{length, drop}
-use Rattle·grid.specs.declared.Cell.{Cell}
-use Rattle·grid.specs.Panel.{dist}
-use Rattle·grid.specs.Bytes.{bytes}
-pub use Rattle·grid.specs.Bytes.{InBytes}
+use Rattle.std.specs.Prelude.{ℕ, ◌+◌, ◌*◌, ◌≤◌, List, ◌++◌, length, drop}
+use Rattle.grid.specs.declared.Cell.{Cell}
+use Rattle.grid.specs.Panel.{dist}
+use Rattle.grid.specs.Bytes.{bytes}
+pub use Rattle.grid.specs.Bytes.{InBytes}
 
 -- four numbers that are bytes
 pub record Bytes (p q p' q' : ℕ) : Type 0 where
@@ -28,9 +26,9 @@ pub record ReadySnake (first there back across n lines : ℕ) (buf : List ℕ) :
 pub record ReadyLines (first u v p q p' q' : ℕ) (buf : List ℕ) : Type 0 where
   pub start : first ≤ 65535
   pub step : 1 ≤ u
-  pub step-most : u ≤ 65535
+  pub step_most : u ≤ 65535
   pub over : 1 ≤ v
-  pub over-most : v ≤ 65535
+  pub over_most : v ≤ 65535
   pub sides : Bytes p q p' q'
   pub room : 2 * ((dist p p' + 1) * (dist q q' + 1)) ≤ length buf
 

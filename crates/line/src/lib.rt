@@ -1,22 +1,22 @@
 // Lines of cells, written into a lent buffer: one line, lines there and back, and all rows or all columns
 // of a rectangle.
-use grid::Cell;
-use grid::distance;
+#![tactic(auto)]
+
+ghost use Rattle.std.specs.Prelude.{◌≡◌, ◌+◌, ◌-◌, ◌*◌, ◌%◌, ◌≤◌, length};
+ghost use Rattle.grid.specs.Panel.{dist};
+ghost use Rattle.line.specs.Rectangle.{cells_between};
+ghost use Rattle.line.specs.Line.{line, cell_number, numbered, step_to, snake, all_lines};
+ghost use Rattle.line.specs.Sweep.{sweep};
+ghost use Rattle.line.specs.Drawn.{InBytes, ReadySnake, ReadyLines, written};
+
+use grid::{Cell, distance};
 use std::num::wrapping_add_u16;
-ghost use mathlib.Core.Path.{_≡_};
-ghost use Prim.Native.Nat.{_+_, _-_, _*_, _%_, _≤_};
-ghost use lib.ListN.{length};
-ghost use Rattle·grid.specs.Panel.{dist};
-ghost use Rattle·line·specs.specs.Rectangle.{cellsBetween};
-ghost use Rattle·line·specs.specs.Line.{line, cellNumber, numbered, stepTo, snake, allLines};
-ghost use Rattle·line·specs.specs.Sweep.{sweep};
-ghost use Rattle·line·specs.specs.Drawn.{InBytes, ReadySnake, ReadyLines, written};
 
 // n cells from the number `first` on, each `step` further: one loop for the four directions, since
 // taking away is adding modulo 65536. The compiler stores eight cells at a time.
 fn draw_line(first: u16, step: u16, n: usize, buf: &mut [u8])
-    requires { ⌜ 2 * n ≤ length (now buf) ⌝ }
-    ensures { λ _. ⌜ now (buf .exit) ≡ written (line (numbered first step) n) n (now (buf .entry)) ⌝ }
+    requires { 2 * n ≤ length buf.old }
+    ensures { buf.new ≡ written (line (numbered first step) n) n buf.old }
 {
     let mut cell = first;
     for i in 0..n {
@@ -28,9 +28,9 @@ fn draw_line(first: u16, step: u16, n: usize, buf: &mut [u8])
 
 // One of several lines: also the number where the next one begins, `across` from this one's end.
 fn draw_next(from: u32, way: u32, across: u32, n: usize, buf: &mut [u8]) -> u32
-    requires { ⌜ ReadySnake from way way across n 1 (now buf) ⌝ }
-    ensures next { λ r. ⌜ r ≡ (from + way * (n - 1) + across) % 65536 ⌝ }
-    ensures { λ _. ⌜ now (buf .exit) ≡ written (line (numbered from way) n) n (now (buf .entry)) ⌝ }
+    requires { ReadySnake from way way across n 1 buf.old }
+    ensures next { result ≡ (from + way * (n - 1) + across) % 65536 }
+    ensures buf_after { buf.new ≡ written (line (numbered from way) n) n buf.old }
 {
     draw_line(from as u16, way as u16, n, buf);
     (from + way * ((n - 1) as u32) + across) % 65536
@@ -46,8 +46,8 @@ fn draw_snake(
     lines: usize,
     buf: &mut [u8],
 )
-    requires { ⌜ ReadySnake first there back across n lines (now buf) ⌝ }
-    ensures { λ _. ⌜ now (buf .exit) ≡ written (snake first there back across n lines) (n * lines) (now (buf .entry)) ⌝ }
+    requires { ReadySnake first there back across n lines buf.old }
+    ensures { buf.new ≡ written (snake first there back across n lines) (n * lines) buf.old }
 {
     let mut from = first;
     let mut at: usize = 0;
@@ -63,15 +63,15 @@ fn draw_snake(
 
 // The step from p towards q, where one cell further is `unit` more.
 fn step_to(unit: u32, p: u32, q: u32) -> u32
-    requires { ⌜ unit ≤ 65536 ⌝ }
-    ensures { λ r. ⌜ r ≡ stepTo unit p q ⌝ }
+    requires { unit ≤ 65536 }
+    ensures { result ≡ step_to unit p q }
 {
     if p <= q { unit } else { 65536 - unit }
 }
 
 fn cell_number(c: Cell) -> u32
-    requires { ⌜ InBytes c ⌝ }
-    ensures { λ r. ⌜ r ≡ cellNumber c ⌝ }
+    requires { InBytes c }
+    ensures { result ≡ cell_number c }
 {
     c.x + 256 * c.y
 }
@@ -79,8 +79,8 @@ fn cell_number(c: Cell) -> u32
 // The lines q to q2, each from p to p2, there and back from the number `first` on: the next cell of a
 // line is `unit` more in number, that of the next line `over` more.
 fn draw_lines(first: u32, unit: u32, over: u32, p: u32, q: u32, p2: u32, q2: u32, buf: &mut [u8])
-    requires { ⌜ ReadyLines first unit over p q p2 q2 (now buf) ⌝ }
-    ensures { λ _. ⌜ now (buf .exit) ≡ written (allLines first unit over p q p2 q2) ((dist p p2 + 1) * (dist q q2 + 1)) (now (buf .entry)) ⌝ }
+    requires { ReadyLines first unit over p q p2 q2 buf.old }
+    ensures { buf.new ≡ written (all_lines first unit over p q p2 q2) ((dist p p2 + 1) * (dist q q2 + 1)) buf.old }
 {
     draw_snake(
         first,
@@ -95,8 +95,10 @@ fn draw_lines(first: u32, unit: u32, over: u32, p: u32, q: u32, p2: u32, q2: u32
 
 // All rows or all columns of the rectangle of a and b, there and back from the corner a.
 pub fn draw_sweep(row: bool, a: Cell, b: Cell, buf: &mut [u8])
-    requires { ⌜ InBytes a ⌝ ∗ ⌜ InBytes b ⌝ ∗ ⌜ 2 * cellsBetween a b ≤ length (now buf) ⌝ }
-    ensures { λ _. ⌜ now (buf .exit) ≡ written (sweep row a b) (cellsBetween a b) (now (buf .entry)) ⌝ }
+    requires fact_1 { InBytes a }
+    requires fact_2 { InBytes b }
+    requires fact_3 { 2 * cells_between a b ≤ length buf.old }
+    ensures { buf.new ≡ written (sweep row a b) (cells_between a b) buf.old }
 {
     let first = cell_number(a);
     if row {

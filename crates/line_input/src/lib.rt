@@ -1,7 +1,11 @@
-// Reads one line from standard input into a lent buffer, for the programs that take one order.
-use libc::STDIN_FILENO;
-ghost use Prim.Native.Nat.{_+_, _≤_};
-ghost use lib.ListN.{length};
+// Reads one line, or all of an input, into a lent buffer, for the programs that take orders or cases from
+// standard input.
+#![tactic(auto)]
+
+ghost use Rattle.std.specs.Prelude.{◌≡◌, ◌+◌, ◌≤◌, length, IfOk};
+
+use std::io;
+use std::io::Read;
 
 // Whether a line feed is among the bytes.
 fn has_line(bytes: &[u8]) -> bool {
@@ -15,30 +19,49 @@ fn has_line(bytes: &[u8]) -> bool {
     false
 }
 
-// Reads once, behind the first n bytes, and gives the number of bytes read.
-fn read_more(bytes: &mut [u8], n: usize) -> usize
-    requires { ⌜ n ≤ length (now bytes) ⌝ }
-    ensures { λ r. ⌜ n + r ≤ length (now (bytes .exit)) ⌝ }
+// Reads once, behind the first n bytes, and gives the number of bytes read, or the input's own error.
+fn read_more(input: &mut impl Read, bytes: &mut [u8], n: usize) -> io::Result<usize>
+    requires { n ≤ length bytes.old }
+    ensures within { IfOk result (λ k. n + k ≤ length bytes.new) }
+    ensures kept { length bytes.new ≡ length bytes.old }
 {
-    let got = libc::read(STDIN_FILENO, &mut bytes[n..]);
-    io::count(got, &bytes[n..])
+    input.read(&mut bytes[n..])
 }
 
 // Reads until a line feed, the end of the input, or a full buffer, however the input is cut into
-// pieces, and gives the number of bytes read.
-pub fn read_line(bytes: &mut [u8]) -> usize
-    ensures { λ r. ⌜ r ≤ length (now (bytes .exit)) ⌝ }
+// pieces, and gives the number of bytes read. The only error is the input's own; the buffer keeps its
+// length then too, with any bytes in it.
+pub fn read_line(input: &mut impl Read, bytes: &mut [u8]) -> io::Result<usize>
+    ensures within { IfOk result (λ n. n ≤ length bytes.new) }
+    ensures kept { length bytes.new ≡ length bytes.old }
 {
     let mut n = 0;
     while n < bytes.len() {
-        let more = read_more(bytes, n);
+        let more = read_more(input, bytes, n)?;
         if more == 0 {
-            return n;
+            return Ok(n);
         }
         n += more;
         if has_line(&bytes[..n]) {
-            return n;
+            return Ok(n);
         }
     }
-    n
+    Ok(n)
+}
+
+// Reads until the end of the input or a full buffer, and gives the number of bytes read. The only error is
+// the input's own; the buffer keeps its length then too, with any bytes in it.
+pub fn read_full(input: &mut impl Read, bytes: &mut [u8]) -> io::Result<usize>
+    ensures within { IfOk result (λ n. n ≤ length bytes.new) }
+    ensures kept { length bytes.new ≡ length bytes.old }
+{
+    let mut n = 0;
+    while n < bytes.len() {
+        let more = read_more(input, bytes, n)?;
+        if more == 0 {
+            return Ok(n);
+        }
+        n += more;
+    }
+    Ok(n)
 }

@@ -1,73 +1,73 @@
 -- The tests of a list with cells behind it: each is the test of the list and what the last cell adds. So a walk along the list need not
 -- look back at more than its last cell and at which cells it has met. And in which of two lists joined a cell stands.
-use mathlib.Core.Path.{_≡_, refl, sym, ap, _∙_}
-use mathlib.Core.Bool.{Bool, true, false, not, _&&_, _||_, and-true, and-assoc, or-assoc, or-comm, or-false, true≢false}
-use mathlib.Core.List.{List, [], _∷_, _++_}
+use mathlib.Core.Path.{◌≡◌, refl, sym, ap, ◌∙◌}
+use mathlib.Core.Bool.{Bool, true, false, not, ◌&&◌, ◌||◌, and-true, and_assoc, or_assoc, or_comm, or-false, true≢false}
+use mathlib.Core.List.{List, [], ◌∷◌, ◌++◌}
 use borrow.Author.Tests.{not-true}
-use Rattle·grid.specs.declared.Panel.{Panel}
-use Rattle·grid.specs.declared.Cell.{Cell}
-use Rattle·grid.specs.Panel.{onPanel, sameCell, neighbours}
-use Rattle·grid.proofs.Facts.{and-parts, neither, same-eq, eq-same, same-ne, ne-same}
-use Rattle·list·specs.specs.List.{allOn, stepsFrom, among, noneTwice, lastFrom}
+use Rattle.grid.specs.declared.Panel.{Panel}
+use Rattle.grid.specs.declared.Cell.{Cell}
+use Rattle.grid.specs.Panel.{on_panel, same_cell, neighbours}
+use Rattle.grid.proofs.Facts.{and_parts, neither, same_eq, eq_same, same_ne, ne_same}
+use Rattle.list.specs.List.{all_on, steps_from, among, none_twice, last_from}
 
-pub all-on-append : (p : Panel) (l k : List Cell) → allOn p (l ++ k) ≡ (allOn p l && allOn p k)
-all-on-append p [] k = refl
-all-on-append p (c ∷ l) k = ap (λ (b : Bool). onPanel p c && b) (all-on-append p l k) ∙ sym (and-assoc (onPanel p c) (allOn p l) (allOn p k))
+pub all_on_append : (p : Panel) (l k : List Cell) → all_on p (l ++ k) ≡ (all_on p l && all_on p k)
+all_on_append p [] k = refl
+all_on_append p (c ∷ l) k = ap (λ (b : Bool). on_panel p c && b) (all_on_append p l k) ∙ sym (and_assoc (on_panel p c) (all_on p l) (all_on p k))
 
-pub last-behind : (d : Cell) (l : List Cell) (c : Cell) → lastFrom d (l ++ c ∷ []) ≡ c
-last-behind d [] c = refl
-last-behind d (e ∷ l) c = last-behind e l c
+pub last_behind : (d : Cell) (l : List Cell) (c : Cell) → last_from d (l ++ c ∷ []) ≡ c
+last_behind d [] c = refl
+last_behind d (e ∷ l) c = last_behind e l c
 
-pub steps-behind : (d : Cell) (l : List Cell) (c : Cell) → stepsFrom d (l ++ c ∷ []) ≡ (stepsFrom d l && neighbours (lastFrom d l) c)
-steps-behind d [] c = and-true (neighbours d c)
-steps-behind d (e ∷ l) c =
-    ap (λ (b : Bool). neighbours d e && b) (steps-behind e l c)
-    ∙ sym (and-assoc (neighbours d e) (stepsFrom e l) (neighbours (lastFrom e l) c))
+pub steps_behind : (d : Cell) (l : List Cell) (c : Cell) → steps_from d (l ++ c ∷ []) ≡ (steps_from d l && neighbours (last_from d l) c)
+steps_behind d [] c = and-true (neighbours d c)
+steps_behind d (e ∷ l) c =
+    ap (λ (b : Bool). neighbours d e && b) (steps_behind e l c)
+    ∙ sym (and_assoc (neighbours d e) (steps_from e l) (neighbours (last_from e l) c))
 
-pub same-sym : (a b : Cell) → sameCell a b ≡ sameCell b a
-same-sym a b = by-same (sameCell a b) refl
+pub same_sym : (a b : Cell) → same_cell a b ≡ same_cell b a
+same_sym a b = by_same (same_cell a b) refl
   where
-    by-same : (r : Bool) → sameCell a b ≡ r → sameCell a b ≡ sameCell b a
-    by-same true e = e ∙ sym (eq-same (sym (same-eq a b e)))
-    by-same false e = e ∙ sym (ne-same b a (λ q. same-ne a b e (sym q)))
+    by_same : (r : Bool) → same_cell a b ≡ r → same_cell a b ≡ same_cell b a
+    by_same true e = e ∙ sym (eq_same (sym (same_eq a b e)))
+    by_same false e = e ∙ sym (ne_same b a (λ q. same_ne a b e (sym q)))
 
-pub among-append : (c : Cell) (l k : List Cell) → among c (l ++ k) ≡ (among c l || among c k)
-among-append c [] k = refl
-among-append c (d ∷ l) k =
-    ap (λ (b : Bool). sameCell c d || b) (among-append c l k) ∙ sym (or-assoc (sameCell c d) (among c l) (among c k))
+pub among_append : (c : Cell) (l k : List Cell) → among c (l ++ k) ≡ (among c l || among c k)
+among_append c [] k = refl
+among_append c (d ∷ l) k =
+    ap (λ (b : Bool). same_cell c d || b) (among_append c l k) ∙ sym (or_assoc (same_cell c d) (among c l) (among c k))
 
-pub among-behind : (d : Cell) (l : List Cell) (c : Cell) → among d (l ++ c ∷ []) ≡ (sameCell c d || among d l)
-among-behind d l c =
-    among-append d l (c ∷ [])
-    ∙ or-comm (among d l) (sameCell d c || false)
-    ∙ ap (λ (b : Bool). b || among d l) (or-false (sameCell d c) ∙ same-sym d c)
+pub among_behind : (d : Cell) (l : List Cell) (c : Cell) → among d (l ++ c ∷ []) ≡ (same_cell c d || among d l)
+among_behind d l c =
+    among_append d l (c ∷ [])
+    ∙ or_comm (among d l) (same_cell d c || false)
+    ∙ ap (λ (b : Bool). b || among d l) (or-false (same_cell d c) ∙ same_sym d c)
 
 -- a cell that is the head of a list, or else stands behind it
-pub by-head : {P : Type 0} (c d : Cell) (q : List Cell) → among c (d ∷ q) ≡ true
+pub by_head : {P : Type 0} (c d : Cell) (q : List Cell) → among c (d ∷ q) ≡ true
     → (c ≡ d → among c q ≡ false → P) → (among c q ≡ true → P) → P
-by-head {P} c d q e here behind = go (among c q) (sameCell c d) refl refl e
+by_head {P} c d q e here behind = go (among c q) (same_cell c d) refl refl e
   where
-    go : (a b : Bool) → among c q ≡ a → sameCell c d ≡ b → (b || a) ≡ true → P
+    go : (a b : Bool) → among c q ≡ a → same_cell c d ≡ b → (b || a) ≡ true → P
     go true b f g h = behind f
-    go false true f g h = here (same-eq c d g) f
+    go false true f g h = here (same_eq c d g) f
     go false false f g h = absurd (true≢false (sym h))
 
 -- where no cell stands twice, one that stands in front does not stand behind
-pub once-apart : (c : Cell) (l k : List Cell) → noneTwice (l ++ k) ≡ true → among c l ≡ true → among c k ≡ false
-once-apart c [] k o e = absurd (true≢false (sym e))
-once-apart c (d ∷ l) k o e =
-    let (fresh, rest) = and-parts (not (among d (l ++ k))) (noneTwice (l ++ k)) o in
-    let none : (among d l || among d k) ≡ false = sym (among-append d l k) ∙ not-true _ fresh in
-    by-head c d l e (λ s _. ap (λ (a : Cell). among a k) s ∙ neither (among d l) (among d k) none .1) (once-apart c l k rest)
+pub once_apart : (c : Cell) (l k : List Cell) → none_twice (l ++ k) ≡ true → among c l ≡ true → among c k ≡ false
+once_apart c [] k o e = absurd (true≢false (sym e))
+once_apart c (d ∷ l) k o e =
+    let (fresh, rest) = and_parts (not (among d (l ++ k))) (none_twice (l ++ k)) o in
+    let none : (among d l || among d k) ≡ false = sym (among_append d l k) ∙ not-true _ fresh in
+    by_head c d l e (λ s _. ap (λ (a : Cell). among a k) s ∙ (neither (among d l) (among d k) none).1) (once_apart c l k rest)
 
-none-swap : (e a n f : Bool) → (not (e || a) && (n && not f)) ≡ ((not a && n) && not (e || f))
-none-swap true true n f = refl
-none-swap true false true f = refl
-none-swap true false false f = refl
-none-swap false true n f = refl
-none-swap false false n f = refl
+none_swap : (e a n f : Bool) → (not (e || a) && (n && not f)) ≡ ((not a && n) && not (e || f))
+none_swap true true n f = refl
+none_swap true false true f = refl
+none_swap true false false f = refl
+none_swap false true n f = refl
+none_swap false false n f = refl
 
-pub none-twice-behind : (l : List Cell) (c : Cell) → noneTwice (l ++ c ∷ []) ≡ (noneTwice l && not (among c l))
-none-twice-behind [] c = refl
-none-twice-behind (d ∷ l) c =
-    (λ i. not (among-behind d l c i) && none-twice-behind l c i) ∙ none-swap (sameCell c d) (among d l) (noneTwice l) (among c l)
+pub none_twice_behind : (l : List Cell) (c : Cell) → none_twice (l ++ c ∷ []) ≡ (none_twice l && not (among c l))
+none_twice_behind [] c = refl
+none_twice_behind (d ∷ l) c =
+    (λ i. not (among_behind d l c i) && none_twice_behind l c i) ∙ none_swap (same_cell c d) (among d l) (none_twice l) (among c l)

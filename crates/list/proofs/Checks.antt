@@ -1,64 +1,64 @@
 -- What the checks of a list say where they refuse nothing, and the other way round.
-use Prim.Native.Nat.{ℕ, _≤_}
+use Prim.Native.Nat.{ℕ, ◌≤◌}
 use native.Mathlib.Omega.{arith}
-use mathlib.Core.Path.{_≡_, refl, sym, ap, _∙_}
+use mathlib.Core.Path.{◌≡◌, refl, sym, ap, ◌∙◌}
 use mathlib.Core.Bool.{true}
 use mathlib.Core.List.{List}
 use lib.Dec.{leb}
 use lib.ListN.{length}
 use borrow.Author.Tests.{leb-true, le-leb}
-use Rattle·grid.specs.declared.Cell.{Cell}
-use Rattle·grid.specs.declared.Panel.{Panel}
-use Rattle·grid.specs.declared.Check.the-variants.{Good}
-use Rattle·grid.specs.declared.Refusal.the-variants.{StepCount}
-use Rattle·grid.specs.Panel.{area, goodPanel}
-use Rattle·grid.specs.Check.{checkPanel}
-use Rattle·grid.specs.Bytes.{bytes, cellsIn}
-use Rattle·grid.proofs.Bytes.{length-bytes, cells-bytes}
-use Rattle·grid.proofs.Passed.{expect-passed, expect-rest, after-passed, after-rest, panel-passed, panel-passes}
-use Rattle·grid.proofs.Tests.{expect-yes, after-good}
-use Rattle·list·specs.specs.List.{wholeCells, allOn, allSteps}
-use Rattle·list·specs.specs.Check.{checkWalk, checkList}
-use Rattle·list·proofs.proofs.Cells.{length-cells}
-use Rattle·list·proofs.proofs.Whole.{whole, is-whole}
+use Rattle.grid.specs.declared.Cell.{Cell}
+use Rattle.grid.specs.declared.Panel.{Panel}
+use Rattle.grid.specs.declared.Check.TheVariants.{Good}
+use Rattle.grid.specs.declared.Refusal.TheVariants.{StepCount}
+use Rattle.grid.specs.Panel.{area, good_panel}
+use Rattle.grid.specs.Check.{check_panel}
+use Rattle.grid.specs.Bytes.{bytes, cells_in}
+use Rattle.grid.proofs.Bytes.{length_bytes, cells_bytes}
+use Rattle.grid.proofs.Passed.{expect_passed, expect_rest, after_passed, after_rest, panel_passed, panel_passes}
+use Rattle.grid.proofs.Tests.{expect_yes, after_good}
+use Rattle.list.specs.List.{whole_cells, all_on, all_steps}
+use Rattle.list.specs.Check.{check_walk, check_list}
+use Rattle.list.proofs.Cells.{length_cells}
+use Rattle.list.proofs.Whole.{whole, is_whole}
 
-pub walk-good : (p : Panel) (l : List Cell) → checkWalk p l ≡ Good → (allOn p l ≡ true) × (allSteps l ≡ true)
-walk-good p l e = (expect-passed (allOn p l) _ _ e, expect-passed (allSteps l) _ _ (expect-rest (allOn p l) _ _ e))
+pub walk_good : (p : Panel) (l : List Cell) → check_walk p l ≡ Good → (all_on p l ≡ true) × (all_steps l ≡ true)
+walk_good p l e = (expect_passed (all_on p l) _ _ e, expect_passed (all_steps l) _ _ (expect_rest (all_on p l) _ _ e))
 
-pub is-walk-good : (p : Panel) (l : List Cell) → allOn p l ≡ true → allSteps l ≡ true → checkWalk p l ≡ Good
-is-walk-good p l o n = sym (expect-yes _ _ o (expect-yes _ _ n refl))
+pub is_walk_good : (p : Panel) (l : List Cell) → all_on p l ≡ true → all_steps l ≡ true → check_walk p l ≡ Good
+is_walk_good p l o n = sym (expect_yes _ _ o (expect_yes _ _ n refl))
 
 -- what a list that Write does not refuse says
 pub record GoodList (p : Panel) (l : List Cell) : Type 0 where
-  pub panel : goodPanel p ≡ true
-  pub on : allOn p l ≡ true
-  pub next : allSteps l ≡ true
+  pub panel : good_panel p ≡ true
+  pub on : all_on p l ≡ true
+  pub next : all_steps l ≡ true
   pub some : 1 ≤ length l
   pub few : length l ≤ area p
 
-module _ (p : Panel) (list : List ℕ) (e : checkList p list ≡ Good) where
-  pub list-whole : wholeCells (length list) ≡ true
-  list-whole = expect-passed (wholeCells (length list)) _ _ (after-rest (checkPanel p) _ e)
+module _ (p : Panel) (list : List ℕ) (e : check_list p list ≡ Good) where
+  pub list_whole : whole_cells (length list) ≡ true
+  list_whole = expect_passed (whole_cells (length list)) _ _ (after_rest (check_panel p) _ e)
 
-  pub list-good : GoodList p (cellsIn list)
-  list-good =
-      let l = cellsIn list in
-      let w = expect-rest (wholeCells (length list)) _ _ (after-rest (checkPanel p) _ e) in
-      let (o, n) = walk-good p l (after-passed (checkWalk p l) _ w) in
+  pub list_good : GoodList p (cells_in list)
+  list_good =
+      let l = cells_in list in
+      let w = expect_rest (whole_cells (length list)) _ _ (after_rest (check_panel p) _ e) in
+      let (o, n) = walk_good p l (after_passed (check_walk p l) _ w) in
       record {
-        panel = panel-passed p (after-passed (checkPanel p) _ e);
+        panel = panel_passed p (after_passed (check_panel p) _ e);
         on = o;
         next = n;
-        some = omega (arith, whole (length list) list-whole, length-cells list);
-        few = leb-true _ _ (expect-passed (leb (length l) (area p)) _ _ (after-rest (checkWalk p l) _ w));
+        some = omega (arith, whole (length list) list_whole, length_cells list);
+        few = leb-true _ _ (expect_passed (leb (length l) (area p)) _ _ (after_rest (check_walk p l) _ w));
       }
 
-pub is-list-good : (p : Panel) (l : List Cell) → GoodList p l → checkList p (bytes l) ≡ Good
-is-list-good p l g =
-    let back = cells-bytes l in
-    let whole : wholeCells (length (bytes l)) ≡ true = is-whole (length (bytes l)) (omega (arith, g .some, length-bytes l)) (omega (arith, length-bytes l)) in
-    let walk = is-walk-good p (cellsIn (bytes l)) (ap (allOn p) back ∙ g .on) (ap allSteps back ∙ g .next) in
-    sym (after-good _ (panel-passes p (g .panel))
-    (expect-yes _ _ whole
-    (after-good _ walk
-    (expect-yes StepCount _ (le-leb (length (cellsIn (bytes l))) (area p) (omega (arith, ap length back, g .few))) refl))))
+pub is_list_good : (p : Panel) (l : List Cell) → GoodList p l → check_list p (bytes l) ≡ Good
+is_list_good p l g =
+    let back = cells_bytes l in
+    let whole : whole_cells (length (bytes l)) ≡ true = is_whole (length (bytes l)) (omega (arith, g.some, length_bytes l)) (omega (arith, length_bytes l)) in
+    let walk = is_walk_good p (cells_in (bytes l)) (ap (all_on p) back ∙ g.on) (ap all_steps back ∙ g.next) in
+    sym (after_good _ (panel_passes p g.panel)
+    (expect_yes _ _ whole
+    (after_good _ walk
+    (expect_yes StepCount _ (le-leb (length (cells_in (bytes l))) (area p) (omega (arith, ap length back, g.few))) refl))))

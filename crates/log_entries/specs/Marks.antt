@@ -1,15 +1,11 @@
 -- What the logs' walks leave in scratch: each place of a list's cells is changed once. No public call's promise cites this.
-use Prim.Native.Nat.{ℕ, _+_, _≤_, _<_}
-use mathlib.Core.Path.{_≡_}
-use mathlib.Core.Bool.{cond}
-use mathlib.Core.List.{List}
-use lib.ListN.{length, drop}
-use Rattle·grid.specs.declared.Panel.{Panel}
-use Rattle·grid.specs.declared.Cell.{Cell}
-use Rattle·grid.specs.Panel.{area, OnPanel}
-use Rattle·list.specs.List.{among}
-use Rattle·scratch.specs.Scratch.{held}
-use Rattle·log_entries·specs.specs.Log.{Entry, cellsOf}
+use Rattle.std.specs.Prelude.{ℕ, ◌+◌, ◌≤◌, ◌<◌, ◌≡◌, cond, List, length, drop}
+use Rattle.grid.specs.declared.Panel.{Panel}
+use Rattle.grid.specs.declared.Cell.{Cell}
+use Rattle.grid.specs.Panel.{area, OnPanel}
+use Rattle.list.specs.List.{among}
+use Rattle.scratch.specs.Scratch.{held}
+use Rattle.log_entries.specs.Log.{Entry, cells_of}
 
 -- scratch enough for the panel, and every place holds less than m
 pub record HoldsBelow (p : Panel) (m : ℕ) (s : List ℕ) : Type 0 where
@@ -32,4 +28,4 @@ erased k = 0
 
 -- a mark is added at the places of a log's cells
 abbrev pub Adds : Panel → ℕ → List Entry → List ℕ → List ℕ → Type 0
-Adds p m l old new = Changed p (added m) (cellsOf l) old new
+Adds p m l old new = Changed p (added m) (cells_of l) old new

@@ -1,123 +1,123 @@
 -- What the checks say where they refuse nothing, what scratch holds between them, and what the call answers.
-use Prim.Native.Nat.{ℕ, _+_, _≤_}
+use Prim.Native.Nat.{ℕ, ◌+◌, ◌≤◌}
 use native.Mathlib.Omega.{arith}
-use mathlib.Core.Path.{_≡_, refl, sym, ap, _∙_}
+use mathlib.Core.Path.{◌≡◌, refl, sym, ap, ◌∙◌}
 use mathlib.Core.Bool.{Bool, true, false, cond}
 use mathlib.Core.List.{List}
 use lib.Dec.{leb}
 use lib.ListN.{length}
 use borrow.Author.Tests.{leb-true}
-use Rattle·grid.specs.declared.Panel.{Panel}
-use Rattle·grid.specs.declared.Cell.{Cell}
-use Rattle·grid.specs.declared.Refusal.{Refusal}
-use Rattle·grid.specs.declared.Check.{Check}
-use Rattle·grid.specs.declared.Check.the-variants.{Good, Refused}
-use Rattle·grid.specs.Panel.{goodSides, area, OnPanel}
-use Rattle·grid.specs.Check.{checkPanel}
-use Rattle·grid.proofs.Answers.{read-off}
-use Rattle·grid.proofs.Passed.{expect-passed, expect-rest, after-passed, after-rest}
-use Rattle·grid.proofs.Tests.{both-branches, after-good, after-refused, answer-good, answer-refused}
-use Rattle·list.specs.List.{allOn, among, noneTwice}
-use Rattle·scratch.specs.Scratch.{held, cleared, Clean}
-use Rattle·scratch.proofs.Marks.{held-clean}
-use Rattle·log_entries.specs.Log.{Entry, entriesIn, wholeEntries, cellsOf, rises, logCheck}
-use Rattle·log_entries.specs.Marks.{HoldsBelow, Changed, added, Adds}
-use Rattle·logs·specs.specs.declared.LogsAnswer.{LogsAnswer}
-use Rattle·logs·specs.specs.declared.LogsAnswer.the-variants as answers
-use Rattle·logs·specs.specs.Logs.{sizesCheck, logsAnswer, logsValues, GivesCounts, Compares}
-use Rattle·logs·specs.specs.Walk.{GoodLog, Marked, entriesAnswer}
+use Rattle.grid.specs.declared.Panel.{Panel}
+use Rattle.grid.specs.declared.Cell.{Cell}
+use Rattle.grid.specs.declared.Refusal.{Refusal}
+use Rattle.grid.specs.declared.Check.{Check}
+use Rattle.grid.specs.declared.Check.TheVariants.{Good, Refused}
+use Rattle.grid.specs.Panel.{good_sides, area, OnPanel}
+use Rattle.grid.specs.Check.{check_panel}
+use Rattle.grid.proofs.Answers.{read_off}
+use Rattle.grid.proofs.Passed.{expect_passed, expect_rest, after_passed, after_rest}
+use Rattle.grid.proofs.Tests.{both_branches, after_good, after_refused, answer_good, answer_refused}
+use Rattle.list.specs.List.{all_on, among, none_twice}
+use Rattle.scratch.specs.Scratch.{held, cleared, Clean}
+use Rattle.scratch.proofs.Marks.{held_clean}
+use Rattle.log_entries.specs.Log.{Entry, entries_in, whole_entries, cells_of, rises, log_check}
+use Rattle.log_entries.specs.Marks.{HoldsBelow, Changed, added, Adds}
+use Rattle.logs.specs.declared.LogsAnswer.{LogsAnswer}
+use Rattle.logs.specs.declared.LogsAnswer.TheVariants as answers
+use Rattle.logs.specs.Logs.{sizes_check, logs_answer, logs_values, GivesCounts, Compares}
+use Rattle.logs.specs.Walk.{GoodLog, Marked, entries_answer}
 
 -- ---- the sizes
 
 -- what is known once the refusals before 7 are passed
 pub record Sized (p : Panel) (burned seen room : ℕ) : Type 0 where
-  pub sides : goodSides p ≡ true
-  pub laser : wholeEntries burned ≡ true
-  pub camera : wholeEntries seen ≡ true
+  pub sides : good_sides p ≡ true
+  pub laser : whole_entries burned ≡ true
+  pub camera : whole_entries seen ≡ true
   pub enough : area p ≤ room
 
-pub sized : (p : Panel) (burned seen room : ℕ) → sizesCheck p burned seen room ≡ Good → Sized p burned seen room
+pub sized : (p : Panel) (burned seen room : ℕ) → sizes_check p burned seen room ≡ Good → Sized p burned seen room
 sized p burned seen room e =
-    let first = after-rest (checkPanel p) _ e in
-    let second = expect-rest (wholeEntries burned) _ _ first in
+    let first = after_rest (check_panel p) _ e in
+    let second = expect_rest (whole_entries burned) _ _ first in
     record {
-      sides = expect-passed (goodSides p) _ _ (after-passed (checkPanel p) _ e);
-      laser = expect-passed (wholeEntries burned) _ _ first;
-      camera = expect-passed (wholeEntries seen) _ _ second;
-      enough = leb-true (area p) room (expect-passed (leb (area p) room) _ _ (expect-rest (wholeEntries seen) _ _ second));
+      sides = expect_passed (good_sides p) _ _ (after_passed (check_panel p) _ e);
+      laser = expect_passed (whole_entries burned) _ _ first;
+      camera = expect_passed (whole_entries seen) _ _ second;
+      enough = leb-true (area p) room (expect_passed (leb (area p) room) _ _ (expect_rest (whole_entries seen) _ _ second));
     }
 
 -- ---- the logs
 
-pub good-log : (p : Panel) (l : List Entry) → logCheck p l ≡ Good → GoodLog p l
-good-log p l e =
-    let once = expect-rest (allOn p (cellsOf l)) _ _ e in
+pub good_log : (p : Panel) (l : List Entry) → log_check p l ≡ Good → GoodLog p l
+good_log p l e =
+    let once = expect_rest (all_on p (cells_of l)) _ _ e in
     record {
-      on = expect-passed (allOn p (cellsOf l)) _ _ e;
-      once = expect-passed (noneTwice (cellsOf l)) _ _ once;
-      up = expect-passed (rises l) _ _ (expect-rest (noneTwice (cellsOf l)) _ _ once);
+      on = expect_passed (all_on p (cells_of l)) _ _ e;
+      once = expect_passed (none_twice (cells_of l)) _ _ once;
+      up = expect_passed (rises l) _ _ (expect_rest (none_twice (cells_of l)) _ _ once);
     }
 
 -- scratch is clean, then has the laser's marks, then the camera's too
 module _ {p : Panel} {clean : List ℕ} (k : Clean p clean) where
-  pub none-held : HoldsBelow p 1 clean
-  none-held = record { room = k .room; less = λ c o. omega (arith, held-clean clean o k) }
+  pub none_held : HoldsBelow p 1 clean
+  none_held = record { room = k.room; less = λ c o. omega (arith, held_clean clean o k) }
 
   module _ {burned : List Cell} {first : List ℕ} (g : Changed p (added 1) burned clean first) where
-    laser-held : (c : Cell) → OnPanel p c → held p first c ≡ cond (among c burned) 1 0
-    laser-held c o = g .holds c o ∙ ap (λ (n : ℕ). cond (among c burned) (n + 1) n) (held-clean clean o k)
+    laser_held : (c : Cell) → OnPanel p c → held p first c ≡ cond (among c burned) 1 0
+    laser_held c o = g.holds c o ∙ ap (λ (n : ℕ). cond (among c burned) (n + 1) n) (held_clean clean o k)
 
-    pub ones-held : HoldsBelow p 2 first
-    ones-held = record {
-      room = omega (arith, k .room, g .size);
+    pub ones_held : HoldsBelow p 2 first
+    ones_held = record {
+      room = omega (arith, k.room, g.size);
       less = λ c o.
-          let few = both-branches (λ (n : ℕ). n ≤ 1) (among c burned) 1 0 (λ _. omega arith) (λ _. omega arith) in
-          omega (arith, laser-held c o, few);
+          let few = both_branches (λ (n : ℕ). n ≤ 1) (among c burned) 1 0 (λ _. omega arith) (λ _. omega arith) in
+          omega (arith, laser_held c o, few);
     }
 
-    both-held : {seen : List Cell} {second : List ℕ} → Changed p (added 2) seen first second → (c : Cell) → OnPanel p c
+    both_held : {seen : List Cell} {second : List ℕ} → Changed p (added 2) seen first second → (c : Cell) → OnPanel p c
         → held p second c ≡ cond (among c burned) 1 0 + cond (among c seen) 2 0
-    both-held {seen} {second} f c o = f .holds c o ∙ more (among c seen) ∙ ap (λ (n : ℕ). n + cond (among c seen) 2 0) (laser-held c o)
+    both_held {seen} {second} f c o = f.holds c o ∙ more (among c seen) ∙ ap (λ (n : ℕ). n + cond (among c seen) 2 0) (laser_held c o)
       where
         more : (b : Bool) → cond b (held p first c + 2) (held p first c) ≡ held p first c + cond b 2 0
         more true = refl
         more false = omega arith
 
-pub marked : {p : Panel} (burned seen : List Entry) {clean first second : List ℕ} → goodSides p ≡ true → Clean p clean
+pub marked : {p : Panel} (burned seen : List Entry) {clean first second : List ℕ} → good_sides p ≡ true → Clean p clean
     → GoodLog p burned → Adds p 1 burned clean first → GoodLog p seen → Adds p 2 seen first second → Marked p burned seen second
 marked burned seen s k b g c f = record {
   sides = s;
   laser = b;
   camera = c;
-  room = omega (arith, k .room, g .size, f .size);
-  marks = both-held k g f;
+  room = omega (arith, k.room, g.size, f.size);
+  marks = both_held k g f;
 }
 
 -- ---- the answer
 
-gives-counts : (c : Check) (burned seen : List Entry) {r : LogsAnswer} → r ≡ logsAnswer c burned seen → GivesCounts c burned seen r
-gives-counts c burned seen e = record {
+gives_counts : (c : Check) (burned seen : List Entry) {r : LogsAnswer} → r ≡ logs_answer c burned seen → GivesCounts c burned seen r
+gives_counts c burned seen e = record {
   answers = e;
-  number = read-off (λ (a : LogsAnswer). (logsValues a) .refusal) c _ _ e;
-  both = read-off (λ (a : LogsAnswer). (logsValues a) .counts .both .0) c _ _ e;
-  only-burned = read-off (λ (a : LogsAnswer). (logsValues a) .counts .«only_burned» .0) c _ _ e;
-  only-seen = read-off (λ (a : LogsAnswer). (logsValues a) .counts .«only_seen» .0) c _ _ e;
-  earlier = read-off (λ (a : LogsAnswer). (logsValues a) .counts .earlier .0) c _ _ e;
+  number = read_off (λ (a : LogsAnswer). (logs_values a).refusal) c _ _ e;
+  both = read_off (λ (a : LogsAnswer). (logs_values a).counts.both.0) c _ _ e;
+  only_burned = read_off (λ (a : LogsAnswer). (logs_values a).counts.only_burned.0) c _ _ e;
+  only_seen = read_off (λ (a : LogsAnswer). (logs_values a).counts.only_seen.0) c _ _ e;
+  earlier = read_off (λ (a : LogsAnswer). (logs_values a).counts.earlier.0) c _ _ e;
 }
 
 -- the promise, where the sizes are refused and where they are good
 module _ (p : Panel) (burned seen old : List ℕ) where
-  pub sizes-refused : {r : Refusal} → sizesCheck p (length burned) (length seen) (length old) ≡ Refused r
+  pub sizes_refused : {r : Refusal} → sizes_check p (length burned) (length seen) (length old) ≡ Refused r
       → Compares p burned seen old old (answers.Refused r)
-  sizes-refused e = record {
-    gives = gives-counts _ _ _ (answer-refused _ _ (sym (after-refused _ e)));
-    scratch = answer-refused _ _ e;
+  sizes_refused e = record {
+    gives = gives_counts _ _ _ (answer_refused _ _ (sym (after_refused _ e)));
+    scratch = answer_refused _ _ e;
   }
 
-  pub sizes-good : sizesCheck p (length burned) (length seen) (length old) ≡ Good → {r : LogsAnswer} {new : List ℕ}
-      → r ≡ entriesAnswer p (entriesIn burned) (entriesIn seen) → new ≡ cleared p old
+  pub sizes_good : sizes_check p (length burned) (length seen) (length old) ≡ Good → {r : LogsAnswer} {new : List ℕ}
+      → r ≡ entries_answer p (entries_in burned) (entries_in seen) → new ≡ cleared p old
       → Compares p burned seen old new r
-  sizes-good z e f = record {
-    gives = gives-counts _ _ _ (e ∙ ap (λ (c : Check). logsAnswer c (entriesIn burned) (entriesIn seen)) (after-good _ z refl));
-    scratch = answer-good _ _ z f;
+  sizes_good z e f = record {
+    gives = gives_counts _ _ _ (e ∙ ap (λ (c : Check). logs_answer c (entries_in burned) (entries_in seen)) (after_good _ z refl));
+    scratch = answer_good _ _ z f;
   }

@@ -1,60 +1,60 @@
 -- What is known while the laser's entries are passed: those behind the first ones up to a tick, each of whose places is erased.
-use Prim.Native.Nat.{ℕ, _+_, _≤_, _<_}
+use Prim.Native.Nat.{ℕ, ◌+◌, ◌≤◌, ◌<◌}
 use native.Mathlib.Omega.{arith}
-use mathlib.Core.Path.{_≡_, refl, sym, ap, subst, _∙_}
+use mathlib.Core.Path.{◌≡◌, refl, sym, ap, subst, ◌∙◌}
 use mathlib.Core.Bool.{true}
-use mathlib.Core.List.{List, [], _∷_}
-use lib.ListN.{length, take, drop, set, length-set, drop-of-length-le}
+use mathlib.Core.List.{List, [], ◌∷◌}
+use lib.ListN.{length, take, drop, set, length-set, drop_of_length-le}
 use borrow.Author.Tests.{le-leb, lt-leb}
-use Rattle·grid.specs.declared.Panel.{Panel}
-use Rattle·grid.specs.declared.Cell.{Cell}
-use Rattle·grid.specs.Panel.{cell, area, OnPanel}
-use Rattle·grid.proofs.Lists.{take-next, drop-next}
-use Rattle·grid.proofs.Tests.{cond-yes, cond-no}
-use Rattle·list.specs.List.{nth, noneTwice}
-use Rattle·list.proofs.Indexed.{new-index}
-use Rattle·scratch.specs.Scratch.{place}
-use Rattle·log_entries.specs.Log.{Entry, entry, nthEntry, cellsOf}
-use Rattle·log_entries.specs.Marks.{Changed, erased}
-use Rattle·log_entries.proofs.Entries.{length-cells-of}
-use Rattle·log_entries.proofs.Marks.{one-more}
-use Rattle·logs·specs.specs.Walk.{ahead, Passes}
+use Rattle.grid.specs.declared.Panel.{Panel}
+use Rattle.grid.specs.declared.Cell.{Cell}
+use Rattle.grid.specs.Panel.{cell, area, OnPanel}
+use Rattle.grid.proofs.Lists.{take_next, drop_next}
+use Rattle.grid.proofs.Tests.{cond_yes, cond_no}
+use Rattle.list.specs.List.{nth, none_twice}
+use Rattle.list.proofs.Indexed.{new_index}
+use Rattle.scratch.specs.Scratch.{place}
+use Rattle.log_entries.specs.Log.{Entry, entry, nth_entry, cells_of}
+use Rattle.log_entries.specs.Marks.{Changed, erased}
+use Rattle.log_entries.proofs.Entries.{length_cells_of}
+use Rattle.log_entries.proofs.Marks.{one_more}
+use Rattle.logs.specs.Walk.{ahead, Passes}
 
 -- the entries from the first `passed` up to i are passed too
 pub record Passing (p : Panel) (l : List Entry) (passed t : ℕ) (old new : List ℕ) (i : ℕ) : Type 0 where
-  pub to-come : ahead t (drop i l) ≡ ahead t (drop passed l)
+  pub to_come : ahead t (drop i l) ≡ ahead t (drop passed l)
   pub size : length new ≡ length old
-  pub gone : (base : List ℕ) → Changed p erased (take passed (cellsOf l)) base old → Changed p erased (take i (cellsOf l)) base new
+  pub gone : (base : List ℕ) → Changed p erased (take passed (cells_of l)) base old → Changed p erased (take i (cells_of l)) base new
 
-pub none-passed : (p : Panel) (l : List Entry) (passed t : ℕ) (s : List ℕ) → Passing p l passed t s s passed
-none-passed p l passed t s = record { to-come = refl; size = refl; gone = λ base g. g }
+pub none_passed : (p : Panel) (l : List Entry) (passed t : ℕ) (s : List ℕ) → Passing p l passed t s s passed
+none_passed p l passed t s = record { to_come = refl; size = refl; gone = λ base g. g }
 
 module _ {p : Panel} (l : List Entry) {passed t : ℕ} {old new : List ℕ} (i : ℕ) (k : Passing p l passed t old new i) where
   -- no entry is left
-  pub all-passed : length l ≤ i → Passes p l passed t old i new
-  all-passed h =
-      let none : drop i l ≡ [] = drop-of-length-le l {i = i} h in
-      record { left = none ∙ sym (ap (ahead t) none) ∙ k .to-come; gone = k .gone }
+  pub all_passed : length l ≤ i → Passes p l passed t old i new
+  all_passed h =
+      let none : drop i l ≡ [] = drop_of_length-le l {i = i} h in
+      record { left = none ∙ sym (ap (ahead t) none) ∙ k.to_come; gone = k.gone }
 
   module _ (h : i < length l) where
-    next : drop i l ≡ nthEntry l i ∷ drop (i + 1) l
-    next = drop-next (entry (cell 0 0) 0) l i h
+    next : drop i l ≡ nth_entry l i ∷ drop (i + 1) l
+    next = drop_next (entry (cell 0 0) 0) l i h
 
     -- the next one is ahead
-    pub stopped : t < nthEntry l i .tick → Passes p l passed t old i new
+    pub stopped : t < (nth_entry l i).tick → Passes p l passed t old i new
     stopped q =
-        record { left = next ∙ cond-no _ _ (lt-leb (nthEntry l i .tick) t q) refl ∙ sym (ap (ahead t) next) ∙ k .to-come; gone = k .gone }
+        record { left = next ∙ cond_no _ _ (lt-leb (nth_entry l i).tick t q) refl ∙ sym (ap (ahead t) next) ∙ k.to_come; gone = k.gone }
 
     -- it is passed
-    pub passed-next : nthEntry l i .tick ≤ t → OnPanel p (nth (cellsOf l) i) → noneTwice (cellsOf l) ≡ true → area p ≤ length old
-        → {at v : ℕ} → at ≡ place p (nth (cellsOf l) i) → v ≡ 0 → Passing p l passed t old (set new at v) (i + 1)
-    passed-next q o once room {at} {v} here none =
-        let there : i < length (cellsOf l) = omega (arith, length-cells-of l) in
+    pub passed_next : (nth_entry l i).tick ≤ t → OnPanel p (nth (cells_of l) i) → none_twice (cells_of l) ≡ true → area p ≤ length old
+        → {at v : ℕ} → at ≡ place p (nth (cells_of l) i) → v ≡ 0 → Passing p l passed t old (set new at v) (i + 1)
+    passed_next q o once room {at} {v} here none =
+        let there : i < length (cells_of l) = omega (arith, length_cells_of l) in
         record {
-          to-come = cond-yes _ _ (le-leb (nthEntry l i .tick) t q) refl ∙ sym (ap (ahead t) next) ∙ k .to-come;
-          size = length-set new at v ∙ k .size;
+          to_come = cond_yes _ _ (le-leb (nth_entry l i).tick t q) refl ∙ sym (ap (ahead t) next) ∙ k.to_come;
+          size = length-set new at v ∙ k.size;
           gone = λ base g.
-              let done = k .gone base g in
-              subst (λ (c : List Cell). Changed p erased c base (set new at v)) (sym (take-next (cell 0 0) (cellsOf l) i there))
-              (one-more done o (new-index (cellsOf l) i once there) (omega (arith, done .size, k .size)) here none);
+              let done = k.gone base g in
+              subst (λ (c : List Cell). Changed p erased c base (set new at v)) (sym (take_next (cell 0 0) (cells_of l) i there))
+              (one_more done o (new_index (cells_of l) i once there) (omega (arith, done.size, k.size)) here none);
         }

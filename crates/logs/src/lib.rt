@@ -1,30 +1,19 @@
 // Compare: the log of the laser, which burns the cells of a foil, beside that of the camera, which sees them.
 // One walk over both in the order of ticks, with the marks of their cells in lent scratch.
-use grid::Cells;
-use grid::Check;
-use grid::Panel;
-use grid::Refusal;
-use grid::after;
-use grid::area_of;
-use grid::check_panel;
-use grid::expect;
-use log_entries::ENTRY;
-use log_entries::check_log;
-use log_entries::entry_place;
-use log_entries::tick_of;
-use log_entries::whole_entries;
+#![tactic(auto)]
+
+ghost use Rattle.std.specs.Prelude.{◌≡◌, true, cond, ◌≤◌, length, drop};
+ghost use Rattle.grid.specs.Panel.{good_sides, area};
+ghost use Rattle.list.specs.List.{all_on, none_twice};
+ghost use Rattle.scratch.specs.Scratch.{Clean};
+ghost use Rattle.log_entries.specs.Log.{entries_in, cells_of};
+ghost use Rattle.logs.specs.Counts.{in_both, seen_earlier, counts_of};
+ghost use Rattle.logs.specs.Logs.{sizes_check, Compares};
+ghost use Rattle.logs.specs.Walk.{Marked, Passes, entries_answer};
+
+use grid::{Cells, Check, Panel, Refusal, after, area_of, check_panel, expect};
+use log_entries::{ENTRY, check_log, entry_place, tick_of, whole_entries};
 use scratch::clear;
-ghost use mathlib.Core.Path.{_≡_};
-ghost use mathlib.Core.Bool.{true, cond};
-ghost use Prim.Native.Nat.{_≤_};
-ghost use lib.ListN.{length, drop};
-ghost use Rattle·grid.specs.Panel.{goodSides, area};
-ghost use Rattle·list.specs.List.{allOn, noneTwice};
-ghost use Rattle·scratch.specs.Scratch.{Clean};
-ghost use Rattle·log_entries.specs.Log.{entriesIn, cellsOf};
-ghost use Rattle·logs·specs.specs.Counts.{inBoth, seenEarlier, countsOf};
-ghost use Rattle·logs·specs.specs.Logs.{sizesCheck, Compares};
-ghost use Rattle·logs·specs.specs.Walk.{Marked, Passes, entriesAnswer};
 
 // The mark of a place in scratch: its cell is the laser's, and its entry still ahead; the camera's; or both. 0
 // once the laser's entry is passed.
@@ -35,6 +24,7 @@ const CAMERA: u8 = 2;
 const BOTH: u8 = 3;
 
 // How many cells are in both logs, only burned, only seen, and seen at an earlier tick than burned.
+#[derive(Clone, Copy)]
 pub struct LogCounts {
     pub both: Cells,
     pub only_burned: Cells,
@@ -43,6 +33,7 @@ pub struct LogCounts {
 }
 
 // What Compare answers.
+#[derive(Clone, Copy)]
 pub enum LogsAnswer {
     Refused(Refusal),
     Given(LogCounts),
@@ -50,7 +41,7 @@ pub enum LogsAnswer {
 
 // The refusals that are tested before any entry is looked at, for logs and scratch of so many bytes.
 fn check_sizes(p: Panel, burned: usize, seen: usize, room: usize) -> Check
-    ensures { λ r. ⌜ r ≡ sizesCheck p burned seen room ⌝ }
+    ensures { result ≡ sizes_check p burned seen room }
 {
     let enough = expect(area_of(p) <= room, Refusal::ShortBuffer, Check::Good);
     let camera = expect(whole_entries(seen), Refusal::ListLength, enough);
@@ -61,11 +52,11 @@ fn check_sizes(p: Panel, burned: usize, seen: usize, room: usize) -> Check
 // Passes the laser's entries up to this tick, the first `passed` being passed already, and erases the mark of
 // each. Gives how many are passed then.
 fn pass(p: Panel, burned: &[u8], passed: usize, tick: u32, scratch: &mut [u8]) -> usize
-    requires good { ⌜ goodSides p ≡ true ⌝ }
-    requires on { ⌜ allOn p (cellsOf (entriesIn (now burned))) ≡ true ⌝ }
-    requires once { ⌜ noneTwice (cellsOf (entriesIn (now burned))) ≡ true ⌝ }
-    requires room { ⌜ area p ≤ length (now scratch) ⌝ }
-    ensures { λ r. ⌜ Passes p (entriesIn (now (burned .entry))) passed tick (now (scratch .entry)) r (now (scratch .exit)) ⌝ }
+    requires good { good_sides p ≡ true }
+    requires on { all_on p (cells_of (entries_in burned.now)) ≡ true }
+    requires once { none_twice (cells_of (entries_in burned.now)) ≡ true }
+    requires room { area p ≤ length scratch.old }
+    ensures { Passes p (entries_in burned.now) passed tick scratch.old result scratch.new }
 {
     let mut i = passed;
     while i < burned.len() / ENTRY {
@@ -80,12 +71,13 @@ fn pass(p: Panel, burned: &[u8], passed: usize, tick: u32, scratch: &mut [u8]) -
 }
 
 fn one_if(yes: bool) -> u32
-    ensures { λ r. ⌜ r ≡ cond yes 1 0 ⌝ }
+    ensures { result ≡ cond yes 1 0 }
 {
     if yes { 1 } else { 0 }
 }
 
 // How many of the camera's cells are the laser's, and how many of them were not burned yet when seen.
+#[derive(Clone, Copy)]
 struct Met {
     both: u32,
     earlier: u32,
@@ -94,10 +86,10 @@ struct Met {
 // The one walk, in the order of ticks, the laser's entry first at equal ticks. A seen cell that is marked as
 // both is not burned yet; with the camera's mark alone it is not the laser's; with its mark gone it is burned.
 fn walk(p: Panel, burned: &[u8], seen: &[u8], scratch: &mut [u8]) -> Met
-    requires { ⌜ Marked p (entriesIn (now burned)) (entriesIn (now seen)) (now scratch) ⌝ }
-    ensures both { λ r. ⌜ r .both ≡ inBoth (entriesIn (now (seen .entry))) (entriesIn (now (burned .entry))) ⌝ }
-    ensures earlier { λ r. ⌜ r .earlier ≡ seenEarlier (entriesIn (now (burned .entry))) (entriesIn (now (seen .entry))) ⌝ }
-    ensures rest { λ _. ⌜ drop (area p) (now (scratch .exit)) ≡ drop (area p) (now (scratch .entry)) ⌝ }
+    requires { Marked p (entries_in burned.now) (entries_in seen.now) scratch.old }
+    ensures both { result.both ≡ in_both (entries_in seen.now) (entries_in burned.now) }
+    ensures earlier { result.earlier ≡ seen_earlier (entries_in burned.now) (entries_in seen.now) }
+    ensures rest { drop (area p) scratch.new ≡ drop (area p) scratch.old }
 {
     let mut both = 0;
     let mut earlier = 0;
@@ -115,9 +107,9 @@ fn walk(p: Panel, burned: &[u8], seen: &[u8], scratch: &mut [u8]) -> Met
 
 // The four numbers: what is in one log and not in both is only there.
 fn count_cells(p: Panel, burned: &[u8], seen: &[u8], scratch: &mut [u8]) -> LogCounts
-    requires { ⌜ Marked p (entriesIn (now burned)) (entriesIn (now seen)) (now scratch) ⌝ }
-    ensures told { λ r. ⌜ r ≡ countsOf (entriesIn (now (burned .entry))) (entriesIn (now (seen .entry))) ⌝ }
-    ensures rest { λ _. ⌜ drop (area p) (now (scratch .exit)) ≡ drop (area p) (now (scratch .entry)) ⌝ }
+    requires { Marked p (entries_in burned.now) (entries_in seen.now) scratch.old }
+    ensures told { result ≡ counts_of (entries_in burned.now) (entries_in seen.now) }
+    ensures rest { drop (area p) scratch.new ≡ drop (area p) scratch.old }
 {
     let met = walk(p, burned, seen, scratch);
     let burned_entries = (burned.len() / ENTRY) as u32;
@@ -132,10 +124,10 @@ fn count_cells(p: Panel, burned: &[u8], seen: &[u8], scratch: &mut [u8]) -> LogC
 
 // The answer behind the sizes, in clean scratch: each log is tested, then their cells are counted.
 fn compare_entries(p: Panel, burned: &[u8], seen: &[u8], scratch: &mut [u8]) -> LogsAnswer
-    requires good { ⌜ goodSides p ≡ true ⌝ }
-    requires clean { ⌜ Clean p (now scratch) ⌝ }
-    ensures told { λ r. ⌜ r ≡ entriesAnswer p (entriesIn (now (burned .entry))) (entriesIn (now (seen .entry))) ⌝ }
-    ensures rest { λ _. ⌜ drop (area p) (now (scratch .exit)) ≡ drop (area p) (now (scratch .entry)) ⌝ }
+    requires good { good_sides p ≡ true }
+    requires clean { Clean p scratch.old }
+    ensures told { result ≡ entries_answer p (entries_in burned.now) (entries_in seen.now) }
+    ensures rest { drop (area p) scratch.new ≡ drop (area p) scratch.old }
 {
     let laser = check_log(p, burned, LASER, scratch);
     if let Check::Refused(r) = laser {
@@ -151,7 +143,7 @@ fn compare_entries(p: Panel, burned: &[u8], seen: &[u8], scratch: &mut [u8]) -> 
 // How the laser's log and the camera's agree. Scratch is untouched where the sizes are refused; else it is lent
 // dirty and left clean.
 pub fn compare(p: Panel, burned: &[u8], seen: &[u8], scratch: &mut [u8]) -> LogsAnswer
-    ensures { λ r. ⌜ Compares p (now (burned .entry)) (now (seen .entry)) (now (scratch .entry)) (now (scratch .exit)) r ⌝ }
+    ensures { Compares p burned.now seen.now scratch.old scratch.new result }
 {
     let sizes = check_sizes(p, burned.len(), seen.len(), scratch.len());
     if let Check::Refused(r) = sizes {

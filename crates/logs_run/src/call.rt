@@ -1,12 +1,10 @@
 // The call with parts of buffers.
-use grid::Panel;
-use grid::number_of;
-use logs::LogCounts;
-use logs::LogsAnswer;
-use logs::compare;
+use grid::{Panel, number_of};
+use logs::{LogCounts, LogsAnswer, compare};
 use trial::numbers::at_most;
 
 // What Compare is called with: the panel, and how many bytes of each buffer are lent.
+#[derive(Clone, Copy)]
 pub struct Job {
     pub panel: Panel,
     pub burned: usize,
@@ -15,6 +13,7 @@ pub struct Job {
 }
 
 // The numbers of an answer.
+#[derive(Clone, Copy)]
 pub struct Told {
     pub refusal: u32,
     pub both: u32,

@@ -1,10 +1,7 @@
 // Logs in buffers, written and read plainly, apart from the call's own code: an entry is three pairs of
 // bytes, its cell and the halves of its tick.
-use grid::Cell;
-use grid::Panel;
-use grid::area_of;
-use trial::cells::cell_at;
-use trial::cells::put;
+use grid::{Cell, Panel, area_of};
+use trial::cells::{cell_at, put};
 use trial::numbers::add;
 
 // How many whole entries so many bytes hold.
@@ -39,6 +36,7 @@ pub fn put_entry(log: &mut [u8], i: u32, c: Cell, tick: u32) {
 
 // The panel, whether its rows are logged from the last cell to the first, and the tick of the first entry:
 // every other entry has one more than the one before it.
+#[derive(Clone, Copy)]
 pub struct Rows {
     pub panel: Panel,
     pub backwards: bool,

@@ -1,30 +1,14 @@
 // Panels and logs made up by a fixed sequence, and Compare on them beside the peer.
-use crate::call::Job;
-use crate::call::Told;
-use crate::call::called;
-use crate::call::same_numbers;
-use crate::log::entries_in;
-use crate::log::put_entry;
-use crate::peer::expected;
-use crate::peer::place_in;
-use crate::peer::size_refusal;
-use grid::Cell;
-use grid::Panel;
-use grid::area_of;
-use grid::panel_of;
+use crate::call::{Job, Told, called, same_numbers};
+use crate::log::{entries_in, put_entry};
+use crate::peer::{expected, place_in, size_refusal};
+use grid::{Cell, Panel, area_of, panel_of};
+use std::io;
 use std::num::wrapping_sub_u32;
 use trial::PITCH;
-use trial::cells::fill;
-use trial::cells::filled;
-use trial::numbers::add;
-use trial::numbers::at_most;
-use trial::numbers::below;
-use trial::numbers::made_up;
-use trial::numbers::one_less;
-use trial::numbers::pick;
-use trial::print::named;
-use trial::print::row;
-use trial::print::text;
+use trial::cells::{fill, filled};
+use trial::numbers::{add, at_most, below, made_up, one_less, pick};
+use trial::print::{named, row, text};
 
 // How many pairs of logs are made up.
 const PAIRS: u32 = 8192;
@@ -53,6 +37,7 @@ const DIFFERENT: usize = 25;
 // ---- logs
 
 // How many entries a log has, and the tick of the last.
+#[derive(Clone, Copy)]
 struct Made {
     entries: u32,
     tick: u32,
@@ -210,10 +195,13 @@ fn all_made_up(tally: &mut [u32]) {
     }
 }
 
-pub fn run() {
+pub fn run(rt: &impl Print) -> io::Result<()> {
     let mut tally = [0u32; 26];
     all_made_up(&mut tally);
-    named(b"made up, pairs of logs ", PAIRS);
-    text(b"\nrefused by 0 (none) to 21; in both, seen earlier, wrong totals, different:\n");
-    row(&tally, b"\n");
+    named(rt, b"made up, pairs of logs ", PAIRS)?;
+    text(
+        rt,
+        b"\nrefused by 0 (none) to 21; in both, seen earlier, wrong totals, different:\n",
+    )?;
+    row(rt, &tally, b"\n")
 }

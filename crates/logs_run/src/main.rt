@@ -6,34 +6,25 @@
 // the numbers were given, as by the peer, with the same bytes in scratch, and how often it differed. Standard
 // error has the processor's time, in microseconds, of each call with 1,024 entries or more of the camera's,
 // and of the peer's with as many, each with how many cells were seen earlier.
+#![tactic(auto)]
+
 mod call;
 mod log;
 mod made_up;
 mod peer;
 
-use crate::call::Job;
-use crate::call::Told;
-use crate::call::called;
-use crate::call::same_numbers;
-use crate::log::Rows;
-use crate::log::put_entry;
-use crate::log::put_rows;
+use crate::call::{Job, Told, called, same_numbers};
+use crate::log::{Rows, put_entry, put_rows};
 use crate::peer::expected;
-use grid::Cell;
-use grid::Panel;
-use grid::area_of;
-use grid::panel_of;
+use grid::{Cell, Panel, area_of, panel_of};
+use std::io;
 use std::num::wrapping_sub_usize;
+use std::time::CpuClock;
 use trial::PITCH;
-use trial::cells::count;
-use trial::cells::fill;
+use trial::cells::{count, fill};
 use trial::numbers::at_most;
-use trial::print::row;
-use trial::print::text;
-use trial::times::micros;
-use trial::times::say;
-use trial::times::say_time;
-use trial::times::turn_from;
+use trial::print::{row, text};
+use trial::times::{micros, say, say_time, turn_from};
 
 // The largest number of 32 bits.
 const MAX: u32 = 4294967295;
@@ -44,33 +35,53 @@ const ENTRIES: usize = 1024;
 // ---- a line
 
 // The time of what began at `start`.
-fn say_turn(name: &[u8], j: Job, start: u64, t: Told) {
-    let turn = turn_from(start, t.earlier);
+fn say_turn(
+    rt: &(impl CpuClock + Eprint),
+    name: &[u8],
+    j: Job,
+    start: u64,
+    t: Told,
+) -> io::Result<()> {
+    let turn = turn_from(rt, start, t.earlier);
     if j.seen < 6 * ENTRIES {
-        return;
+        return Ok(());
     }
-    say(name);
-    say_time(turn.micros, turn.sum);
-    say(b"\n");
+    say(rt, name)?;
+    say_time(rt, turn.micros, turn.sum)?;
+    say(rt, b"\n")
 }
 
-fn try_peer(j: Job, burned: &[u8], seen: &[u8], t: Told) {
-    let start = micros();
+fn try_peer(
+    rt: &(impl CpuClock + Eprint + Print),
+    j: Job,
+    burned: &[u8],
+    seen: &[u8],
+    t: Told,
+) -> io::Result<()> {
+    let start = micros(rt);
     let e = expected(j, burned, seen);
-    say_turn(b"peer ", j, start, e);
+    say_turn(rt, b"peer ", j, start, e)?;
     if !same_numbers(t, e) {
-        text(b"the peer differs\n");
+        text(rt, b"the peer differs\n")?;
     }
+    Ok(())
 }
 
-fn try_job(j: Job, burned: &[u8], seen: &[u8], scratch: &mut [u8]) {
+fn try_job(
+    rt: &(impl CpuClock + Eprint + Print),
+    j: Job,
+    burned: &[u8],
+    seen: &[u8],
+    scratch: &mut [u8],
+) -> io::Result<()> {
     fill(scratch, 255);
-    let start = micros();
+    let start = micros(rt);
     let t = called(j, burned, seen, scratch);
-    say_turn(b"compare ", j, start, t);
+    say_turn(rt, b"compare ", j, start, t)?;
     let zeros = count(scratch, 0);
     let kept = count(scratch, 255);
     row(
+        rt,
         &[
             t.refusal,
             t.both,
@@ -81,15 +92,17 @@ fn try_job(j: Job, burned: &[u8], seen: &[u8], scratch: &mut [u8]) {
             kept,
         ],
         b"\n",
-    );
+    )?;
     if j.burned <= 6 * ENTRIES && j.seen <= 6 * ENTRIES {
-        try_peer(j, burned, seen, t);
+        try_peer(rt, j, burned, seen, t)?;
     }
+    Ok(())
 }
 
 // ---- logs as text
 
 // How far a line is read: how many bytes both logs have by now, and how many of them are the laser's.
+#[derive(Clone, Copy)]
 struct Reading {
     bytes: usize,
     lasers: usize,
@@ -118,7 +131,13 @@ fn put_byte(pair: &mut [u8], at: usize, b: u8) {
 }
 
 // The camera's log stands behind the laser's.
-fn try_read(p: Panel, room: usize, r: Reading, pair: &[u8]) {
+fn try_read(
+    rt: &(impl CpuClock + Eprint + Print),
+    p: Panel,
+    room: usize,
+    r: Reading,
+    pair: &[u8],
+) -> io::Result<()> {
     let mut scratch = [0u8; 130];
     let lasers = at_most(r.lasers, pair.len());
     let j = Job {
@@ -127,48 +146,62 @@ fn try_read(p: Panel, room: usize, r: Reading, pair: &[u8]) {
         seen: wrapping_sub_usize(r.bytes, lasers),
         scratch: room,
     };
-    try_job(j, pair, &pair[lasers..], &mut scratch);
+    try_job(rt, j, pair, &pair[lasers..], &mut scratch)
 }
 
-fn read_character(p: Panel, room: usize, b: u8, r: Reading, pair: &mut [u8]) -> Reading {
+fn read_character(
+    rt: &(impl CpuClock + Eprint + Print),
+    p: Panel,
+    room: usize,
+    b: u8,
+    r: Reading,
+    pair: &mut [u8],
+) -> io::Result<Reading> {
     let mut next = r;
     if b == b'\n' {
-        try_read(p, room, r, pair);
-        return START;
+        try_read(rt, p, room, r, pair)?;
+        return Ok(START);
     }
     if b == b'/' {
         next.lasers = r.bytes;
-        return next;
+        return Ok(next);
     }
     put_byte(pair, r.bytes, value_of(b));
     next.bytes = r.bytes % 256 + 1;
-    next
+    Ok(next)
 }
 
 // A pair of logs to a line, with up to twelve entries, the camera's behind a stroke. An entry has six
 // characters: x, y and the four bytes of the tick. So much scratch is lent, of 130 bytes.
-fn try_lines(p: Panel, room: usize, lines: &[u8]) {
+fn try_lines(
+    rt: &(impl CpuClock + Eprint + Print),
+    p: Panel,
+    room: usize,
+    lines: &[u8],
+) -> io::Result<()> {
     let mut pair = [0u8; 72];
     let mut r = START;
     let mut i = 0;
     while i < lines.len() {
-        r = read_character(p, room, lines[i], r, &mut pair);
+        r = read_character(rt, p, room, lines[i], r, &mut pair)?;
         i += 1;
     }
+    Ok(())
 }
 
 // On the panel of 3 by 2, with two bytes of scratch to spare.
-fn try_logs(name: &[u8], lines: &[u8]) {
-    text(name);
-    try_lines(panel_of(3, 2, PITCH), 8, lines);
+fn try_logs(rt: &(impl CpuClock + Eprint + Print), name: &[u8], lines: &[u8]) -> io::Result<()> {
+    text(rt, name)?;
+    try_lines(rt, panel_of(3, 2, PITCH), 8, lines)
 }
 
 // Both empty, one empty; another cell; its x and y exchanged; the same cell, a tick earlier, at the same
 // tick, later. Several cells, earlier, at the same tick and later, in another order; several before any is
 // burned; all behind the last; three at one tick, of which one is burned then; the laser's all at one tick;
 // all at one tick; none in both.
-fn good_logs() {
+fn good_logs(rt: &(impl CpuClock + Eprint + Print)) -> io::Result<()> {
     try_logs(
+        rt,
         b"good logs:\n",
         b"/
 110005/
@@ -188,13 +221,14 @@ fn good_logs() {
 220004320004110004/110004220004320004
 220004320004/110004210004310004120004
 ",
-    );
+    )
 }
 
 // One byte's one beside 0, the largest beside 0; the numbers of two bytes exchanged; all four. Then twice in
 // a log.
-fn ticks_far_apart() {
+fn ticks_far_apart(rt: &(impl CpuClock + Eprint + Print)) -> io::Result<()> {
     try_logs(
+        rt,
         b"ticks far apart:\n",
         b"210000/210010
 210000/210100
@@ -226,12 +260,13 @@ fn ticks_far_apart() {
 /212100121200
 /21\xff\xff\xff\xff120000
 ",
-    );
+    )
 }
 
 // From no byte to 13, of the laser's log, of the camera's, some of both.
-fn lengths() {
+fn lengths(rt: &(impl CpuClock + Eprint + Print)) -> io::Result<()> {
     try_logs(
+        rt,
         b"6:\n",
         b"/210005
 1/210005
@@ -265,15 +300,16 @@ fn lengths() {
 11000/2
 1100052/21000
 ",
-    );
+    )
 }
 
 // 7: a cell beside the panel, in either log, first and behind others. 9: a cell twice, at the same tick and
 // later, the first and the last of a log; cells that only the other log has too. 21: a tick that falls, at
 // the second entry; at the last, below the one before it and not below the first; a rise behind a fall; ticks
 // below the other log's alone.
-fn bad_entries() {
+fn bad_entries(rt: &(impl CpuClock + Eprint + Print)) -> io::Result<()> {
     try_logs(
+        rt,
         b"7, 9, 21:\n",
         b"010005/110005
 100005/110005
@@ -308,13 +344,14 @@ fn bad_entries() {
 110009/110005210003310004
 110005210006/110000210001
 ",
-    );
+    )
 }
 
 // 7, 9 and 21 by two in one log, the later test's entry first and the earlier test's; all three. Each of the
 // laser's with each of the camera's. Each with 6, of the same log and of the other.
-fn two_faults() {
+fn two_faults(rt: &(impl CpuClock + Eprint + Print)) -> io::Result<()> {
     try_logs(
+        rt,
         b"two faults:\n",
         b"110005110005410005/
 410005110005110005/
@@ -354,13 +391,14 @@ fn two_faults() {
 /1100051100051
 /1100052100041
 ",
-    );
+    )
 }
 
 // The smallest panel: its cell in neither log, in one, in both; twice; off it.
-fn one_by_one() {
-    text(b"1 by 1:\n");
+fn one_by_one(rt: &(impl CpuClock + Eprint + Print)) -> io::Result<()> {
+    text(rt, b"1 by 1:\n")?;
     try_lines(
+        rt,
         panel_of(1, 1, PITCH),
         3,
         b"/
@@ -374,14 +412,21 @@ fn one_by_one() {
 210000/110000
 110000/120000
 ",
-    );
+    )
 }
 
 // ---- panels and scratch
 
 // Empty logs, good ones, and each of the faults of entries and lengths.
-fn try_panel(width: u32, height: u32, pitch: u32, room: usize) {
+fn try_panel(
+    rt: &(impl CpuClock + Eprint + Print),
+    width: u32,
+    height: u32,
+    pitch: u32,
+    room: usize,
+) -> io::Result<()> {
     try_lines(
+        rt,
         panel_of(width, height, pitch),
         room,
         b"/
@@ -395,52 +440,59 @@ fn try_panel(width: u32, height: u32, pitch: u32, room: usize) {
 110005210004/
 /110005210004
 ",
-    );
+    )
 }
 
-fn sides() {
-    text(b"1:\n");
-    try_panel(0, 0, PITCH, 130);
-    try_panel(0, 2, PITCH, 130);
-    try_panel(3, 0, PITCH, 130);
-    try_panel(128, 1, PITCH, 130);
-    try_panel(1, 128, PITCH, 130);
-    try_panel(129, 1, PITCH, 130);
-    try_panel(1, 129, PITCH, 130);
-    try_panel(65536, 65536, PITCH, 130);
-    try_panel(MAX, 1, PITCH, 130);
-    try_panel(1, MAX, PITCH, 130);
+fn sides(rt: &(impl CpuClock + Eprint + Print)) -> io::Result<()> {
+    text(rt, b"1:\n")?;
+    try_panel(rt, 0, 0, PITCH, 130)?;
+    try_panel(rt, 0, 2, PITCH, 130)?;
+    try_panel(rt, 3, 0, PITCH, 130)?;
+    try_panel(rt, 128, 1, PITCH, 130)?;
+    try_panel(rt, 1, 128, PITCH, 130)?;
+    try_panel(rt, 129, 1, PITCH, 130)?;
+    try_panel(rt, 1, 129, PITCH, 130)?;
+    try_panel(rt, 65536, 65536, PITCH, 130)?;
+    try_panel(rt, MAX, 1, PITCH, 130)?;
+    try_panel(rt, 1, MAX, PITCH, 130)
 }
 
 // With good sides, and with a bad one.
-fn pitches() {
-    text(b"18:\n");
-    try_panel(3, 2, 0, 8);
-    try_panel(3, 2, 999, 8);
-    try_panel(3, 2, 1000, 8);
-    try_panel(3, 2, 10000, 8);
-    try_panel(3, 2, 10001, 8);
-    try_panel(3, 2, MAX, 8);
-    try_panel(3, 129, 999, 8);
+fn pitches(rt: &(impl CpuClock + Eprint + Print)) -> io::Result<()> {
+    text(rt, b"18:\n")?;
+    try_panel(rt, 3, 2, 0, 8)?;
+    try_panel(rt, 3, 2, 999, 8)?;
+    try_panel(rt, 3, 2, 1000, 8)?;
+    try_panel(rt, 3, 2, 10000, 8)?;
+    try_panel(rt, 3, 2, 10001, 8)?;
+    try_panel(rt, 3, 2, MAX, 8)?;
+    try_panel(rt, 3, 129, 999, 8)
 }
 
 // With good panels; with a bad pitch, and a bad side.
-fn rooms() {
-    text(b"5:\n");
-    try_panel(3, 2, PITCH, 0);
-    try_panel(3, 2, PITCH, 5);
-    try_panel(3, 2, PITCH, 6);
-    try_panel(128, 1, PITCH, 127);
-    try_panel(128, 1, PITCH, 128);
-    try_panel(3, 2, 999, 5);
-    try_panel(3, 129, PITCH, 5);
+fn rooms(rt: &(impl CpuClock + Eprint + Print)) -> io::Result<()> {
+    text(rt, b"5:\n")?;
+    try_panel(rt, 3, 2, PITCH, 0)?;
+    try_panel(rt, 3, 2, PITCH, 5)?;
+    try_panel(rt, 3, 2, PITCH, 6)?;
+    try_panel(rt, 128, 1, PITCH, 127)?;
+    try_panel(rt, 128, 1, PITCH, 128)?;
+    try_panel(rt, 3, 2, 999, 5)?;
+    try_panel(rt, 3, 129, PITCH, 5)
 }
 
 // ---- every cell
 
 // Of the logs over all rows, and an entry of a cell behind those of 128 by 128, so many entries; scratch for
 // so many cells, and two bytes to spare.
-fn try_rows(laser: Rows, camera: Rows, lasers: usize, cameras: usize, behind: Cell) {
+fn try_rows(
+    rt: &(impl CpuClock + Eprint + Print),
+    laser: Rows,
+    camera: Rows,
+    lasers: usize,
+    cameras: usize,
+    behind: Cell,
+) -> io::Result<()> {
     let mut burned = [0u8; 98310];
     let mut seen = [0u8; 98310];
     let mut scratch = [0u8; 16386];
@@ -455,7 +507,7 @@ fn try_rows(laser: Rows, camera: Rows, lasers: usize, cameras: usize, behind: Ce
         seen: cameras % 65536 * 6,
         scratch: 16386,
     };
-    try_job(j, &burned, &seen, &mut scratch);
+    try_job(rt, j, &burned, &seen, &mut scratch)
 }
 
 fn rows_of(panel: Panel, backwards: bool, first: u32) -> Rows {
@@ -467,91 +519,107 @@ fn rows_of(panel: Panel, backwards: bool, first: u32) -> Rows {
 }
 
 // The ticks from these on: both logs forwards, the camera's backwards, the laser's.
-fn try_all_rows(p: Panel, burned: u32, seen: u32) {
+fn try_all_rows(
+    rt: &(impl CpuClock + Eprint + Print),
+    p: Panel,
+    burned: u32,
+    seen: u32,
+) -> io::Result<()> {
     let n = area_of(p);
     let c = Cell { x: 1, y: 1 };
     let laser = rows_of(p, false, burned);
     let camera = rows_of(p, false, seen);
-    try_rows(laser, camera, n, n, c);
-    try_rows(laser, rows_of(p, true, seen), n, n, c);
-    try_rows(rows_of(p, true, burned), camera, n, n, c);
+    try_rows(rt, laser, camera, n, n, c)?;
+    try_rows(rt, laser, rows_of(p, true, seen), n, n, c)?;
+    try_rows(rt, rows_of(p, true, burned), camera, n, n, c)
 }
 
 // The camera a tick earlier, at the same tick, a tick later.
-fn try_ticks(p: Panel, tick: u32, next: u32) {
-    try_all_rows(p, next, tick);
-    try_all_rows(p, tick, tick);
-    try_all_rows(p, tick, next);
+fn try_ticks(
+    rt: &(impl CpuClock + Eprint + Print),
+    p: Panel,
+    tick: u32,
+    next: u32,
+) -> io::Result<()> {
+    try_all_rows(rt, p, next, tick)?;
+    try_all_rows(rt, p, tick, tick)?;
+    try_all_rows(rt, p, tick, next)
 }
 
 // Where a byte of the tick ends, and where the sign of 32 bits would; up to the largest tick, and one more,
 // which is 0.
-fn six_cells() {
-    text(b"3 by 2:\n");
+fn six_cells(rt: &(impl CpuClock + Eprint + Print)) -> io::Result<()> {
+    text(rt, b"3 by 2:\n")?;
     let p = panel_of(3, 2, PITCH);
-    try_ticks(p, 0, 1);
-    try_ticks(p, 253, 254);
-    try_ticks(p, 65533, 65534);
-    try_ticks(p, 16777213, 16777214);
-    try_ticks(p, 2147483645, 2147483646);
-    try_ticks(p, 4294967289, 4294967290);
-    try_ticks(p, 4294967290, 4294967291);
+    try_ticks(rt, p, 0, 1)?;
+    try_ticks(rt, p, 253, 254)?;
+    try_ticks(rt, p, 65533, 65534)?;
+    try_ticks(rt, p, 16777213, 16777214)?;
+    try_ticks(rt, p, 2147483645, 2147483646)?;
+    try_ticks(rt, p, 4294967289, 4294967290)?;
+    try_ticks(rt, p, 4294967290, 4294967291)
 }
 
 // The same, and all of the camera's log before the laser's, and behind it.
-fn large() {
-    text(b"32 by 32, 128 by 128:\n");
+fn large(rt: &(impl CpuClock + Eprint + Print)) -> io::Result<()> {
+    text(rt, b"32 by 32, 128 by 128:\n")?;
     let p = panel_of(128, 128, PITCH);
-    try_all_rows(panel_of(32, 32, PITCH), 65000, 65001);
-    try_ticks(p, 0, 1);
-    try_ticks(p, 4294950911, 4294950912);
-    try_ticks(p, 4294950912, 4294950913);
-    try_all_rows(p, 16777210, 65530);
-    try_all_rows(p, 65530, 16777210);
+    try_all_rows(rt, panel_of(32, 32, PITCH), 65000, 65001)?;
+    try_ticks(rt, p, 0, 1)?;
+    try_ticks(rt, p, 4294950911, 4294950912)?;
+    try_ticks(rt, p, 4294950912, 4294950913)?;
+    try_all_rows(rt, p, 16777210, 65530)?;
+    try_all_rows(rt, p, 65530, 16777210)
 }
 
 // So many entries: the laser's forwards, the camera's backwards; another cell behind all of them.
-fn try_parts(lasers: usize, cameras: usize, behind: Cell) {
+fn try_parts(
+    rt: &(impl CpuClock + Eprint + Print),
+    lasers: usize,
+    cameras: usize,
+    behind: Cell,
+) -> io::Result<()> {
     let p = panel_of(128, 128, PITCH);
     try_rows(
+        rt,
         rows_of(p, false, 1),
         rows_of(p, true, 1),
         lasers,
         cameras,
         behind,
-    );
+    )
 }
 
 // None; half of them; all but one; one more: the first cell, the last, one off the panel.
-fn large_parts() {
+fn large_parts(rt: &(impl CpuClock + Eprint + Print)) -> io::Result<()> {
     let first = Cell { x: 1, y: 1 };
     let last = Cell { x: 128, y: 128 };
-    try_parts(0, 16384, first);
-    try_parts(16384, 0, first);
-    try_parts(8192, 16384, first);
-    try_parts(16384, 8192, first);
-    try_parts(8192, 8192, first);
-    try_parts(16383, 16383, first);
-    try_parts(16385, 16384, first);
-    try_parts(16384, 16385, first);
-    try_parts(16385, 0, last);
-    try_parts(0, 16385, last);
-    try_parts(16385, 16384, Cell { x: 128, y: 129 });
-    try_parts(16384, 16385, Cell { x: 129, y: 128 });
+    try_parts(rt, 0, 16384, first)?;
+    try_parts(rt, 16384, 0, first)?;
+    try_parts(rt, 8192, 16384, first)?;
+    try_parts(rt, 16384, 8192, first)?;
+    try_parts(rt, 8192, 8192, first)?;
+    try_parts(rt, 16383, 16383, first)?;
+    try_parts(rt, 16385, 16384, first)?;
+    try_parts(rt, 16384, 16385, first)?;
+    try_parts(rt, 16385, 0, last)?;
+    try_parts(rt, 0, 16385, last)?;
+    try_parts(rt, 16385, 16384, Cell { x: 128, y: 129 })?;
+    try_parts(rt, 16384, 16385, Cell { x: 129, y: 128 })
 }
 
-fn main() {
-    good_logs();
-    ticks_far_apart();
-    lengths();
-    bad_entries();
-    two_faults();
-    one_by_one();
-    sides();
-    pitches();
-    rooms();
-    six_cells();
-    large();
-    large_parts();
-    made_up::run();
+fn main(rt: HostRuntime) -> io::Result<()> {
+    good_logs(&rt)?;
+    ticks_far_apart(&rt)?;
+    lengths(&rt)?;
+    bad_entries(&rt)?;
+    two_faults(&rt)?;
+    one_by_one(&rt)?;
+    sides(&rt)?;
+    pitches(&rt)?;
+    rooms(&rt)?;
+    six_cells(&rt)?;
+    large(&rt)?;
+    large_parts(&rt)?;
+    made_up::run(&rt)
 }

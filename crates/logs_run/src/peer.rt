@@ -1,20 +1,14 @@
 // What Compare must answer, by the words of the request: every entry is tested by itself, and its cell is
 // searched in the other log from the start.
-use crate::call::Job;
-use crate::call::Told;
-use crate::call::refused;
-use crate::log::cell_of;
-use crate::log::entries_in;
-use crate::log::tick_of;
-use grid::Cell;
-use grid::Panel;
-use grid::area_of;
-use trial::cells::on;
-use trial::cells::same;
+use crate::call::{Job, Told, refused};
+use crate::log::{cell_of, entries_in, tick_of};
+use grid::{Cell, Panel, area_of};
+use trial::cells::{on, same};
 use trial::numbers::add;
 
 // What an entry of a log is tested for: its cell is off the panel; it stands before; its tick is below the
 // one before it; the other log has its cell; it has it not; it has it at a later tick.
+#[derive(Clone, Copy)]
 enum Test {
     Off,
     Again,

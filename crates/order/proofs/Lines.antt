@@ -1,48 +1,48 @@
 -- Reading one number of the line after another: what the code has read so far, and what is still to come.
-use Prim.Native.Nat.{ℕ, zero, suc, _+_, _-_, _<_}
-use mathlib.Core.Path.{_≡_, ap, _∙_}
+use Prim.Native.Nat.{ℕ, zero, suc, ◌+◌, ◌-◌, ◌<◌}
+use mathlib.Core.Path.{◌≡◌, ap, ◌∙◌}
 use mathlib.Core.List.{List}
 use native.Mathlib.Omega.{arith}
-use lib.ListN.{drop, getD, set}
-use Rattle·grid.specs.declared.Panel.{Panel}
-use Rattle·grid.specs.Panel.{panel, cell}
-use Rattle·text.specs.declared.Number.{Number}
-use Rattle·text.specs.declared.Number.the-variants.{Bad, Until}
-use Rattle·text.specs.Field.{blank, lineFeed, field, parsed, andThen}
-use Rattle·text.proofs.Reading.{reads-none, reads-on}
-use Rattle·order·specs.specs.declared.Line.{Line}
-use Rattle·order·specs.specs.declared.Line.the-variants.{Other, Order}
+use lib.ListN.{drop, get_or, set}
+use Rattle.grid.specs.declared.Panel.{Panel}
+use Rattle.grid.specs.Panel.{panel, cell}
+use Rattle.text.specs.declared.Number.{Number}
+use Rattle.text.specs.declared.Number.TheVariants.{Bad, Until}
+use Rattle.text.specs.Field.{blank, line_feed, field, parsed, and_then}
+use Rattle.text.proofs.Reading.{reads_none, reads_on}
+use Rattle.order.specs.declared.Line.{Line}
+use Rattle.order.specs.declared.Line.TheVariants.{Other, Order}
 
 -- the order whose first six numbers stand in v
-abbrev pub orderOf : List ℕ → ℕ → Line
-orderOf v q = Order (panel (getD v 0 0) (getD v 1 0) q) (cell (getD v 2 0) (getD v 3 0)) (cell (getD v 4 0) (getD v 5 0))
+abbrev pub order_of : List ℕ → ℕ → Line
+order_of v q = Order (panel (get_or v 0 0) (get_or v 1 0) q) (cell (get_or v 2 0) (get_or v 3 0)) (cell (get_or v 4 0) (get_or v 5 0))
 
 -- the same with a panel that was made of the first two and the last
-pub order-made : (v : List ℕ) (q : ℕ) {p : Panel} → p ≡ panel (getD v 0 0) (getD v 1 0) q
-    → Order p (cell (getD v 2 0) (getD v 3 0)) (cell (getD v 4 0) (getD v 5 0)) ≡ orderOf v q
-order-made v q e = ap (λ (p : Panel). Order p (cell (getD v 2 0) (getD v 3 0)) (cell (getD v 4 0) (getD v 5 0))) e
+pub order_made : (v : List ℕ) (q : ℕ) {p : Panel} → p ≡ panel (get_or v 0 0) (get_or v 1 0) q
+    → Order p (cell (get_or v 2 0) (get_or v 3 0)) (cell (get_or v 4 0) (get_or v 5 0)) ≡ order_of v q
+order_made v q e = ap (λ (p : Panel). Order p (cell (get_or v 2 0) (get_or v 3 0)) (cell (get_or v 4 0) (get_or v 5 0))) e
 
 -- what is read where k numbers with a blank behind them are still to come; the six of the line stand in v
-abbrev pub lineFrom : ℕ → List ℕ → List ℕ → Line
-lineFrom zero v l = andThen Other (field lineFeed l) (λ q l. orderOf v q)
-lineFrom (suc k) v l = andThen Other (field blank l) (λ n l. lineFrom k (set v (5 - k) n) l)
+abbrev pub line_from : ℕ → List ℕ → List ℕ → Line
+line_from zero v l = and_then Other (field line_feed l) (λ q l. order_of v q)
+line_from (suc k) v l = and_then Other (field blank l) (λ n l. line_from k (set v (5 - k) n) l)
 
 -- number i of the first six
 module _ (input v : List ℕ) (from i : ℕ) (h : i < 6) where
   abbrev more : ℕ → List ℕ → Line
-  more n l = lineFrom (5 - i) (set v (5 - (5 - i)) n) l
+  more n l = line_from (5 - i) (set v (5 - (5 - i)) n) l
 
-  one-more : andThen Other (field blank (drop from input)) more ≡ lineFrom (6 - i) v (drop from input)
-  one-more =
+  one_more : and_then Other (field blank (drop from input)) more ≡ line_from (6 - i) v (drop from input)
+  one_more =
       let e : suc (5 - i) ≡ 6 - i = omega arith in
-      ap (λ (k : ℕ). lineFrom k v (drop from input)) e
+      ap (λ (k : ℕ). line_from k v (drop from input)) e
 
   module _ {r : Number} (f : parsed input r ≡ field blank (drop from input)) where
-    pub first-none : r ≡ Bad → Other ≡ lineFrom (6 - i) v (drop from input)
-    first-none q = reads-none Other input blank from more f q ∙ one-more
+    pub first_none : r ≡ Bad → Other ≡ line_from (6 - i) v (drop from input)
+    first_none q = reads_none Other input blank from more f q ∙ one_more
 
-    pub first-on : (n j : ℕ) → r ≡ Until n j → lineFrom (6 - (i + 1)) (set v i n) (drop j input) ≡ lineFrom (6 - i) v (drop from input)
-    first-on n j q =
+    pub first_on : (n j : ℕ) → r ≡ Until n j → line_from (6 - (i + 1)) (set v i n) (drop j input) ≡ line_from (6 - i) v (drop from input)
+    first_on n j q =
         let e : 6 - (i + 1) ≡ 5 - i = omega arith in
         let g : i ≡ 5 - (5 - i) = omega arith in
-        (λ t. lineFrom (e t) (set v (g t) n) (drop j input)) ∙ reads-on Other input blank from more f q ∙ one-more
+        (λ t. line_from (e t) (set v (g t) n) (drop j input)) ∙ reads_on Other input blank from more f q ∙ one_more

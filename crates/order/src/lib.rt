@@ -1,26 +1,28 @@
 // One order line in, a longest track drawn for it, and the text that `foil` prints out, on slices.
+#![tactic(auto)]
+
+ghost use Rattle.order.specs.declared.Line.TheVariants.{Order};
+ghost use Rattle.order.specs.Line.{line_in};
+ghost use Rattle.order.specs.Order.{DrawsLine, Answers};
+
 use bound::BoundAnswer;
 use count::ClassCount;
-use grid::Cell;
-use grid::Panel;
-use grid::Refusal;
-use printout::put_answer;
-use printout::put_refused;
-ghost use Rattle·order·specs.specs.declared.Line.the-variants.{Order};
-ghost use Rattle·order·specs.specs.Line.{lineIn};
-ghost use Rattle·order·specs.specs.Order.{DrawsLine, Answers};
+use grid::{Cell, Panel, Refusal};
+use printout::{put_answer, put_refused};
 
 mod read;
 
 pub use read::read_line;
 
 // The first line of an input: an order, or another form.
+#[derive(Clone, Copy)]
 pub enum Line {
     Other,
     Order(Panel, Cell, Cell),
 }
 
 // What a line comes to: why it is refused, or the panel, with class and count of the track drawn.
+#[derive(Clone, Copy)]
 pub enum Drawing {
     Refused(Refusal),
     Given(Panel, ClassCount),
@@ -33,7 +35,7 @@ pub const TEXT: usize = 16512;
 
 // Draws where Bound refuses nothing.
 fn draw_order(p: Panel, s: Cell, t: Cell, cells: &mut [u8; CELLS]) -> Drawing
-    ensures { λ r. ⌜ DrawsLine (Order p s t) r (now (cells .exit)) ⌝ }
+    ensures { DrawsLine (Order p s t) result cells.new }
 {
     let b = bound::bound(p, s, t);
     match b {
@@ -47,7 +49,7 @@ fn draw_order(p: Panel, s: Cell, t: Cell, cells: &mut [u8; CELLS]) -> Drawing
 
 // Draws a longest track for the order in a line, at the front of the buffer.
 pub fn draw_line(input: &[u8], cells: &mut [u8; CELLS]) -> Drawing
-    ensures { λ r. ⌜ DrawsLine (lineIn (now (input .entry))) r (now (cells .exit)) ⌝ }
+    ensures { DrawsLine (line_in input.now) result cells.new }
 {
     let line = read_line(input);
     match line {
@@ -58,7 +60,7 @@ pub fn draw_line(input: &[u8], cells: &mut [u8; CELLS]) -> Drawing
 
 // The text for an input, at the front of the buffer, and its number of bytes.
 pub fn answer(input: &[u8], out: &mut [u8; TEXT]) -> usize
-    ensures { λ r. ⌜ Answers (now (input .entry)) (now (out .entry)) (now (out .exit)) r ⌝ }
+    ensures { Answers input.now out.old out.new result }
 {
     let mut cells = [0; CELLS];
     let d = draw_line(input, &mut cells);

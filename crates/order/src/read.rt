@@ -1,17 +1,14 @@
 // Reads an order's line: seven numbers in base ten.
+ghost use Rattle.std.specs.Prelude.{◌≡◌};
+ghost use Rattle.order.specs.Line.{line_in};
+
 use crate::Line;
-use grid::Cell;
-use grid::panel_of;
-use text::BLANK;
-use text::LINE_FEED;
-use text::Number;
-use text::read_field;
-ghost use mathlib.Core.Path.{_≡_};
-ghost use Rattle·order·specs.specs.Line.{lineIn};
+use grid::{Cell, panel_of};
+use text::{BLANK, LINE_FEED, Number, read_field};
 
 // Six numbers with a blank behind each, and the pitch with a line feed.
 pub fn read_line(input: &[u8]) -> Line
-    ensures { λ r. ⌜ r ≡ lineIn (now (input .entry)) ⌝ }
+    ensures { result ≡ line_in input.now }
 {
     let mut first = [0u32; 6];
     let mut from = 0;

@@ -1,12 +1,9 @@
 -- Document 02, R-9: a list of cells holds a repeat or a cell off the panel. A place is a cell's number in the list, from 0.
-use Prim.Native.Nat.{ℕ, _<_}
-use mathlib.Core.Path.{_≡_}
-use mathlib.Core.List.{List}
-use lib.ListN.{length}
-use Rattle·grid.specs.declared.Panel.{Panel}
-use Rattle·grid.specs.declared.Cell.{Cell}
-use Rattle·grid.specs.Panel.{OnPanel}
-use Rattle·list.specs.List.{nth}
+use Rattle.std.specs.Prelude.{ℕ, ◌<◌, ◌≡◌, List, length}
+use Rattle.grid.specs.declared.Panel.{Panel}
+use Rattle.grid.specs.declared.Cell.{Cell}
+use Rattle.grid.specs.Panel.{OnPanel}
+use Rattle.list.specs.List.{nth}
 
 -- the cell at some place has the property
 pub record Any (P : Cell → Type 0) (l : List Cell) : Type 0 where

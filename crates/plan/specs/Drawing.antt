@@ -1,13 +1,10 @@
 -- Legs drawn one after the other at the front of a buffer: what the drawing functions ask for and what they leave. No promise of Draw rests on this file.
-use Prim.Native.Nat.{ℕ, _*_, _≤_}
-use mathlib.Core.Path.{_≡_}
-use mathlib.Core.List.{List, [], _∷_}
-use lib.ListN.{length}
-use Rattle·grid.specs.declared.Cells.{Cells}
-use Rattle·line.specs.Rectangle.{Inside}
-use Rattle·line.specs.Drawn.{InBytes, written}
-use Rattle·plan·specs.specs.declared.Leg.{Leg}
-use Rattle·plan·specs.specs.Leg.{total, legsCells}
+use Rattle.std.specs.Prelude.{ℕ, ◌*◌, ◌≤◌, ◌≡◌, List, [], ◌∷◌, length}
+use Rattle.grid.specs.declared.Cells.{Cells}
+use Rattle.line.specs.Rectangle.{Inside}
+use Rattle.line.specs.Drawn.{InBytes, written}
+use Rattle.plan.specs.declared.Leg.{Leg}
+use Rattle.plan.specs.Leg.{total, legs_cells}
 
 -- every leg of the list has the property
 pub data Each (P : Leg → Type 0) : List Leg → Type 0 where
@@ -16,9 +13,9 @@ pub data Each (P : Leg → Type 0) : List Leg → Type 0 where
 
 -- a leg whose coordinates are bytes, with its target in its rectangle
 pub record Drawable (g : Leg) : Type 0 where
-  pub corner : InBytes (g .a)
-  pub opposite : InBytes (g .b)
-  pub inside : Inside (g .a) (g .b) (g .t)
+  pub corner : InBytes g.a
+  pub opposite : InBytes g.b
+  pub inside : Inside g.a g.b g.t
 
 -- legs to draw, and room for their cells
 pub record Room (l : List Leg) (buf : List ℕ) : Type 0 where
@@ -27,5 +24,5 @@ pub record Room (l : List Leg) (buf : List ℕ) : Type 0 where
 
 -- r is the number of the legs' cells, which stand at the front of the buffer; behind them it is the old one
 pub record Written (l : List Leg) (r : Cells) (old new : List ℕ) : Type 0 where
-  pub count : r .0 ≡ total l
-  pub content : new ≡ written (legsCells l) (total l) old
+  pub count : r.0 ≡ total l
+  pub content : new ≡ written (legs_cells l) (total l) old

@@ -1,18 +1,18 @@
 // One order line in, the layer of a longest track out, on slices: what the program `layer` writes.
-use gerber_write::DIGIT_ROOM;
-use gerber_write::put_layer;
-use order::CELLS;
-use order::Drawing;
-use order::draw_line;
+#![tactic(auto)]
+
+ghost use Rattle.plot.specs.Plot.{Plots};
+
+use gerber_write::{DIGIT_ROOM, put_layer};
+use order::{CELLS, Drawing, draw_line};
 use printout::put_refused;
-ghost use Rattle·plot·specs.specs.Plot.{Plots};
 
 // Bytes enough for the layer of any track.
 pub const LAYER: usize = 442422;
 
 // The bytes for an input, at the front of the buffer, and their number.
 pub fn answer(input: &[u8], out: &mut [u8; LAYER]) -> usize
-    ensures { λ r. ⌜ Plots (now (input .entry)) (now (out .entry)) (now (out .exit)) r ⌝ }
+    ensures { Plots input.now out.old out.new result }
 {
     let mut cells = [0; CELLS];
     let d = draw_line(input, &mut cells);

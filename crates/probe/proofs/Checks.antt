@@ -1,128 +1,128 @@
 -- The promise, test by test: where 20 is met, where Judge refuses, where a probe is off the panel, and where all is good; and what Judge's
 -- answer says then of the list and of scratch.
-use Prim.Native.Nat.{ℕ, _*_, _≤_}
+use Prim.Native.Nat.{ℕ, ◌*◌, ◌≤◌}
 use native.Mathlib.Omega.{arith}
-use mathlib.Core.Path.{_≡_, refl, sym, ap, _∙_}
+use mathlib.Core.Path.{◌≡◌, refl, sym, ap, ◌∙◌}
 use mathlib.Core.Bool.{true, false}
-use mathlib.Core.List.{List, [], _∷_}
+use mathlib.Core.List.{List, [], ◌∷◌}
 use lib.Dec.{leb}
 use lib.ListN.{length}
 use borrow.Author.Tests.{leb-true}
-use Rattle·grid.specs.declared.Panel.{Panel}
-use Rattle·grid.specs.declared.Cell.{Cell}
-use Rattle·grid.specs.declared.Cells.{Cells}
-use Rattle·grid.specs.declared.Refusal.{Refusal}
-use Rattle·grid.specs.declared.Refusal.the-variants.{CellOff, WrongEnds, ProbeBytes}
-use Rattle·grid.specs.declared.Check.{Check}
-use Rattle·grid.specs.declared.Check.the-variants.{Good, Refused}
-use Rattle·grid.specs.declared.CellsAnswer.{CellsAnswer}
-use Rattle·grid.specs.declared.CellsAnswer.the-variants as judged
-use Rattle·grid.specs.Panel.{panel, cell, dist, apart}
-use Rattle·grid.specs.Bytes.{cellsIn}
-use Rattle·grid.proofs.Answers.{checkBehind, check-behind}
-use Rattle·grid.proofs.Facts.{and-parts, is-sides}
-use Rattle·grid.proofs.Passed.{after-passed, after-rest}
-use Rattle·grid.proofs.Tests.{cond-yes, cond-no, expect-yes, expect-no, after-good, after-refused, answer-good}
-use Rattle·list.specs.List.{allOn}
-use Rattle·list.proofs.Cells.{length-cells}
-use Rattle·list.proofs.Whole.{whole}
-use Rattle·scratch.specs.Scratch.{Clean}
-use Rattle·scratch.proofs.Clean.{clean}
-use Rattle·judge.specs.Judge.{sizesCheck, cellsCheck, judgeCheck, Judges}
-use Rattle·judge.proofs.Checks.{Sized, sized, passed, count-small}
-use Rattle·probe_walk.specs.Probes.{places}
-use Rattle·probe_walk.specs.Search.{Searched}
-use Rattle·probe·specs.specs.declared.ProbeSheet.{ProbeSheet}
-use Rattle·probe·specs.specs.Probe.{fewProbes, probeCheck, sheet, probeScratch, Probes}
+use Rattle.grid.specs.declared.Panel.{Panel}
+use Rattle.grid.specs.declared.Cell.{Cell}
+use Rattle.grid.specs.declared.Cells.{Cells}
+use Rattle.grid.specs.declared.Refusal.{Refusal}
+use Rattle.grid.specs.declared.Refusal.TheVariants.{CellOff, WrongEnds, ProbeBytes}
+use Rattle.grid.specs.declared.Check.{Check}
+use Rattle.grid.specs.declared.Check.TheVariants.{Good, Refused}
+use Rattle.grid.specs.declared.CellsAnswer.{CellsAnswer}
+use Rattle.grid.specs.declared.CellsAnswer.TheVariants as judged
+use Rattle.grid.specs.Panel.{panel, cell, dist, apart}
+use Rattle.grid.specs.Bytes.{cells_in}
+use Rattle.grid.proofs.Answers.{check_behind, check_behind_lem}
+use Rattle.grid.proofs.Facts.{and_parts, is_sides}
+use Rattle.grid.proofs.Passed.{after_passed, after_rest}
+use Rattle.grid.proofs.Tests.{cond_yes, cond_no, expect_yes, expect_no, after_good, after_refused, answer_good}
+use Rattle.list.specs.List.{all_on}
+use Rattle.list.proofs.Cells.{length_cells}
+use Rattle.list.proofs.Whole.{whole}
+use Rattle.scratch.specs.Scratch.{Clean}
+use Rattle.scratch.proofs.Clean.{clean}
+use Rattle.judge.specs.Judge.{sizes_check, cells_check, judge_check, Judges}
+use Rattle.judge.proofs.Checks.{Sized, sized, passed, count_small}
+use Rattle.probe_walk.specs.Probes.{places}
+use Rattle.probe_walk.specs.Search.{Searched}
+use Rattle.probe.specs.declared.ProbeSheet.{ProbeSheet}
+use Rattle.probe.specs.Probe.{few_probes, probe_check, sheet, probe_scratch, Probes}
 
 -- ---- computed
 
 abbrev pub checked : List ℕ → List ℕ → Check
-checked list probes = probeCheck (panel 3 1 4000) (cell 1 1) (cell 2 1) list probes 3
+checked list probes = probe_check (panel 3 1 4000) (cell 1 1) (cell 2 1) list probes 3
 
 -- so many bytes: none, 64 probes; 65, an odd number
-pub bytes-shown : (fewProbes 0 ≡ true) × (fewProbes 128 ≡ true) × (fewProbes 130 ≡ false) × (fewProbes 127 ≡ false)
-bytes-shown = (refl, refl, refl, refl)
+pub bytes_shown : (few_probes 0 ≡ true) × (few_probes 128 ≡ true) × (few_probes 130 ≡ false) × (few_probes 127 ≡ false)
+bytes_shown = (refl, refl, refl, refl)
 
 -- from (1, 1) to (2, 1) on a panel of 3 by 1: half a probe and a list that Judge refuses; such a list and a probe off the panel; that probe alone
-pub order-shown : (checked (1 ∷ 1 ∷ []) (4 ∷ []) ≡ Refused ProbeBytes) × (checked (1 ∷ 1 ∷ []) (4 ∷ 1 ∷ []) ≡ Refused WrongEnds)
+pub order_shown : (checked (1 ∷ 1 ∷ []) (4 ∷ []) ≡ Refused ProbeBytes) × (checked (1 ∷ 1 ∷ []) (4 ∷ 1 ∷ []) ≡ Refused WrongEnds)
     × (checked (1 ∷ 1 ∷ 2 ∷ 1 ∷ []) (4 ∷ 1 ∷ []) ≡ Refused CellOff) × (checked (1 ∷ 1 ∷ 2 ∷ 1 ∷ []) (3 ∷ 1 ∷ []) ≡ Good)
 unfolding apart dist
-order-shown = (refl, refl, refl, refl)
+order_shown = (refl, refl, refl, refl)
 
 -- ---- what Judge's answer says
 
 module _ (p : Panel) (s t : Cell) (list old : List ℕ) {new : List ℕ} {j : CellsAnswer} (g : Judges p s t list old new j) where
-  is-check : checkBehind j ≡ judgeCheck p s t list (length old)
-  is-check = check-behind _ _ (g .gives .answers)
+  is_check : check_behind j ≡ judge_check p s t list (length old)
+  is_check = check_behind_lem _ _ g.gives.answers
 
   -- where it accepts
   module _ {k : Cells} (f : j ≡ judged.Given k) where
-    good : judgeCheck p s t list (length old) ≡ Good
-    good = sym is-check ∙ ap checkBehind f
+    good : judge_check p s t list (length old) ≡ Good
+    good = sym is_check ∙ ap check_behind f
 
-    sizes-good : sizesCheck p s t (length list) (length old) ≡ Good
-    sizes-good = after-passed (sizesCheck p s t (length list) (length old)) _ good
+    sizes_good : sizes_check p s t (length list) (length old) ≡ Good
+    sizes_good = after_passed (sizes_check p s t (length list) (length old)) _ good
 
-    cells-good : cellsCheck p s t (cellsIn list) ≡ Good
-    cells-good = after-rest (sizesCheck p s t (length list) (length old)) _ good
+    cells_good : cells_check p s t (cells_in list) ≡ Good
+    cells_good = after_rest (sizes_check p s t (length list) (length old)) _ good
 
     sizes : Sized p s t (length list) (length old)
-    sizes = sized p s t (length list) (length old) sizes-good
+    sizes = sized p s t (length list) (length old) sizes_good
 
     pub some : 2 ≤ length list
-    some = whole (length list) (sizes .whole) .0
+    some = (whole (length list) sizes.whole).0
 
-    pub left-clean : Clean p new
-    left-clean = clean p old (sizes .enough) (g .scratch ∙ sym (answer-good _ _ sizes-good refl))
+    pub left_clean : Clean p new
+    left_clean = clean p old sizes.enough (g.scratch ∙ sym (answer_good _ _ sizes_good refl))
 
-    pub searched : (probes : List ℕ) → fewProbes (length probes) ≡ true → allOn p (cellsIn probes) ≡ true → Searched p list probes
+    pub searched : (probes : List ℕ) → few_probes (length probes) ≡ true → all_on p (cells_in probes) ≡ true → Searched p list probes
     searched probes m o =
-        let tests = passed p s t (cellsIn list) cells-good in
-        let (most, even) = and-parts (leb (length probes) (2 * places)) _ m in
+        let tests = passed p s t (cells_in list) cells_good in
+        let (most, even) = and_parts (leb (length probes) (2 * places)) _ m in
         record {
-          probed = record { good = is-sides (sizes .ordered .panel .sides); on = o; few = leb-true _ _ most };
-          inside = tests .on-panel;
-          once = tests .once;
-          short = omega (arith, count-small p s t list (length old) good, length-cells list, whole (length list) (sizes .whole) .1);
+          probed = record { good = is_sides sizes.ordered.panel.sides; on = o; few = leb-true _ _ most };
+          inside = tests.on_panel_lem;
+          once = tests.once;
+          short = omega (arith, count_small p s t list (length old) good, length_cells list, (whole (length list) sizes.whole).1);
         }
 
 -- ---- the promise
 
 module _ (p : Panel) (s t : Cell) (list probes old : List ℕ) where
   abbrev q : List Cell
-  q = cellsIn probes
+  q = cells_in probes
 
   abbrev l : List Cell
-  l = cellsIn list
+  l = cells_in list
 
   -- the sheet is that of the check
-  told : {a : ProbeSheet} {z : Check} → a ≡ sheet z q l → z ≡ probeCheck p s t list probes (length old)
-      → a ≡ sheet (probeCheck p s t list probes (length old)) q l
+  told : {a : ProbeSheet} {z : Check} → a ≡ sheet z q l → z ≡ probe_check p s t list probes (length old)
+      → a ≡ sheet (probe_check p s t list probes (length old)) q l
   told e f = e ∙ ap (λ (z : Check). sheet z q l) f
 
-  pub too-many : fewProbes (length probes) ≡ false → {a : ProbeSheet} → a ≡ sheet (Refused ProbeBytes) [] [] → Probes p s t list probes old old a
-  too-many n e = record { answers = told e (expect-no _ _ n); scratch = cond-no _ _ n refl }
+  pub too_many : few_probes (length probes) ≡ false → {a : ProbeSheet} → a ≡ sheet (Refused ProbeBytes) [] [] → Probes p s t list probes old old a
+  too_many n e = record { answers = told e (expect_no _ _ n); scratch = cond_no _ _ n refl }
 
-  module _ (m : fewProbes (length probes) ≡ true) {new : List ℕ} {j : CellsAnswer} (g : Judges p s t list old new j) where
-    left : new ≡ probeScratch p s t list probes old
-    left = cond-yes _ old m (g .scratch)
+  module _ (m : few_probes (length probes) ≡ true) {new : List ℕ} {j : CellsAnswer} (g : Judges p s t list old new j) where
+    left : new ≡ probe_scratch p s t list probes old
+    left = cond_yes _ old m g.scratch
 
-    pub judge-refused : {r : Refusal} → j ≡ judged.Refused r → {a : ProbeSheet} → a ≡ sheet (Refused r) [] [] → Probes p s t list probes old new a
-    judge-refused f e = record {
-      answers = told e (expect-yes _ _ m (after-refused _ (sym (is-check p s t list old g) ∙ ap checkBehind f)));
+    pub judge_refused : {r : Refusal} → j ≡ judged.Refused r → {a : ProbeSheet} → a ≡ sheet (Refused r) [] [] → Probes p s t list probes old new a
+    judge_refused f e = record {
+      answers = told e (expect_yes _ _ m (after_refused _ (sym (is_check p s t list old g) ∙ ap check_behind f)));
       scratch = left;
     }
 
     module _ {k : Cells} (f : j ≡ judged.Given k) where
-      pub probe-off : allOn p q ≡ false → {a : ProbeSheet} → a ≡ sheet (Refused CellOff) [] [] → Probes p s t list probes old new a
-      probe-off n e = record {
-        answers = told e (expect-yes _ _ m (after-good _ (good p s t list old g f) (expect-no _ _ n)));
+      pub probe_off : all_on p q ≡ false → {a : ProbeSheet} → a ≡ sheet (Refused CellOff) [] [] → Probes p s t list probes old new a
+      probe_off n e = record {
+        answers = told e (expect_yes _ _ m (after_good _ (good p s t list old g f) (expect_no _ _ n)));
         scratch = left;
       }
 
-      pub all-good : allOn p q ≡ true → {last : List ℕ} → last ≡ new → {a : ProbeSheet} → a ≡ sheet Good q l → Probes p s t list probes old last a
-      all-good o h e = record {
-        answers = told e (expect-yes _ _ m (after-good _ (good p s t list old g f) (expect-yes _ _ o refl)));
+      pub all_good : all_on p q ≡ true → {last : List ℕ} → last ≡ new → {a : ProbeSheet} → a ≡ sheet Good q l → Probes p s t list probes old last a
+      all_good o h e = record {
+        answers = told e (expect_yes _ _ m (after_good _ (good p s t list old g f) (expect_yes _ _ o refl)));
         scratch = h ∙ left;
       }

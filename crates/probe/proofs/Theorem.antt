@@ -1,55 +1,55 @@
 -- What a sheet says of a probe where nothing is refused, in the words of tracks: the position given is the only place of its cell on the track,
 -- and a missed probe's nearest cell is the earliest of the nearest.
-use Prim.Native.Nat.{ℕ, suc, _≤_, _<_}
+use Prim.Native.Nat.{ℕ, suc, ◌≤◌, ◌<◌}
 use native.Mathlib.Omega.{arith}
-use mathlib.Core.Path.{_≡_, refl, sym, ap, subst⁻¹, _∙_}
+use mathlib.Core.Path.{◌≡◌, refl, sym, ap, subst⁻¹, ◌∙◌}
 use mathlib.Core.Bool.{false}
-use mathlib.Core.Logic.{_≢_, _↔_}
+use mathlib.Core.Logic.{◌≢◌, ◌↔◌}
 use mathlib.Core.List.{List, [], map}
-use lib.ListN.{length, getD, length-map}
-use borrow.Author.Tests.{eq-eqb, ne-eqb}
-use Rattle·grid.specs.declared.Panel.{Panel}
-use Rattle·grid.specs.declared.Cell.{Cell}
-use Rattle·grid.specs.declared.Check.{Check}
-use Rattle·grid.specs.declared.Check.the-variants.{Good}
-use Rattle·grid.specs.Panel.{cell}
-use Rattle·grid.specs.Track.{Track}
-use Rattle·grid.specs.Bytes.{cellsIn}
-use Rattle·grid.proofs.Passed.{expect-rest, after-passed, after-rest}
-use Rattle·grid.proofs.Tests.{cond-yes, cond-no}
-use Rattle·grid.proofs.Track.{some-cell}
-use Rattle·list.specs.List.{nth, among}
-use Rattle·list.proofs.Tracks.{TrackTests, tests-track}
-use Rattle·judge.specs.Judge.{sizesCheck, judgeCheck}
-use Rattle·judge.proofs.Checks.{passed}
-use Rattle·probe_walk.specs.Probes.{position, nearestMissed}
-use Rattle·probe_walk.proofs.Positions.{is-not-on, place-given, place-only}
-use Rattle·probe_walk.proofs.Nearest.{Nearest, nearest-right}
-use Rattle·probe_walk.proofs.Sheets.{placed-nth, placed-unused}
-use Rattle·probe·specs.specs.declared.ProbeSheet.{ProbeSheet}
-use Rattle·probe·specs.specs.Probe.{fewProbes, probeCheck, sheet, probeOf}
+use lib.ListN.{length, get_or, length-map}
+use borrow.Author.Tests.{eq-eqb, ne_eqb}
+use Rattle.grid.specs.declared.Panel.{Panel}
+use Rattle.grid.specs.declared.Cell.{Cell}
+use Rattle.grid.specs.declared.Check.{Check}
+use Rattle.grid.specs.declared.Check.TheVariants.{Good}
+use Rattle.grid.specs.Panel.{cell}
+use Rattle.grid.specs.Track.{Track}
+use Rattle.grid.specs.Bytes.{cells_in}
+use Rattle.grid.proofs.Passed.{expect_rest, after_passed, after_rest}
+use Rattle.grid.proofs.Tests.{cond_yes, cond_no}
+use Rattle.grid.proofs.Track.{some_cell}
+use Rattle.list.specs.List.{nth, among}
+use Rattle.list.proofs.Tracks.{TrackTests, tests_track}
+use Rattle.judge.specs.Judge.{sizes_check, judge_check}
+use Rattle.judge.proofs.Checks.{passed}
+use Rattle.probe_walk.specs.Probes.{position, nearest_missed}
+use Rattle.probe_walk.proofs.Positions.{is_not_on, place_given, place_only}
+use Rattle.probe_walk.proofs.Nearest.{Nearest, nearest_right}
+use Rattle.probe_walk.proofs.Sheets.{placed_nth, placed_unused}
+use Rattle.probe.specs.declared.ProbeSheet.{ProbeSheet}
+use Rattle.probe.specs.Probe.{few_probes, probe_check, sheet, probe_of}
 
-module _ (p : Panel) (s t : Cell) (list probes : List ℕ) (room : ℕ) (good : probeCheck p s t list probes room ≡ Good) where
+module _ (p : Panel) (s t : Cell) (list probes : List ℕ) (room : ℕ) (good : probe_check p s t list probes room ≡ Good) where
   abbrev q : List Cell
-  q = cellsIn probes
+  q = cells_in probes
 
   abbrev l : List Cell
-  l = cellsIn list
+  l = cells_in list
 
   abbrev r : ProbeSheet
-  r = probeOf p s t list probes room
+  r = probe_of p s t list probes room
 
-  is-given : r ≡ sheet Good q l
-  is-given = ap (λ (c : Check). sheet c q l) good
+  is_given : r ≡ sheet Good q l
+  is_given = ap (λ (c : Check). sheet c q l) good
 
   tests : TrackTests p s t l
   tests =
-      let judged = after-passed (judgeCheck p s t list room) _ (expect-rest (fewProbes (length probes)) _ _ good) in
-      passed p s t l (after-rest (sizesCheck p s t (length list) room) _ judged)
+      let judged = after_passed (judge_check p s t list room) _ (expect_rest (few_probes (length probes)) _ _ good) in
+      passed p s t l (after_rest (sizes_check p s t (length list) room) _ judged)
 
   -- the list is a track
-  pub on-track : Track p s t l
-  on-track = tests-track tests
+  pub on_track : Track p s t l
+  on_track = tests_track tests
 
   module _ (i : ℕ) where
     -- a place that is used
@@ -57,35 +57,35 @@ module _ (p : Panel) (s t : Cell) (list probes : List ℕ) (room : ℕ) (good : 
       abbrev c : Cell
       c = nth q i
 
-      at-place : getD (r .positions) i 0 ≡ position c l
-      at-place = ap (λ (a : ProbeSheet). getD (a .positions) i 0) is-given ∙ placed-nth 0 (λ c. position c l) q i 0 h
+      at_place : get_or r.positions i 0 ≡ position c l
+      at_place = ap (λ (a : ProbeSheet). get_or a.positions i 0) is_given ∙ placed_nth 0 (λ c. position c l) q i 0 h
 
-      near-place : getD (r .nearest) i (cell 0 0) ≡ nearestMissed l c
-      near-place = ap (λ (a : ProbeSheet). getD (a .nearest) i (cell 0 0)) is-given ∙ placed-nth (cell 0 0) (nearestMissed l) q i (cell 0 0) h
+      near_place : get_or r.nearest i (cell 0 0) ≡ nearest_missed l c
+      near_place = ap (λ (a : ProbeSheet). get_or a.nearest i (cell 0 0)) is_given ∙ placed_nth (cell 0 0) (nearest_missed l) q i (cell 0 0) h
 
       -- it holds suc k exactly if the cell with the number k of the track, from 0, is the probe's
-      pub found : (k : ℕ) → (getD (r .positions) i 0 ≡ suc k) ↔ ((k < length l) × (nth l k ≡ c))
+      pub found : (k : ℕ) → (get_or r.positions i 0 ≡ suc k) ↔ ((k < length l) × (nth l k ≡ c))
       found k = (
-        λ e. place-given c l k (sym at-place ∙ e),
-        λ e. at-place ∙ place-only c l k (tests .once) (e .0) (e .1),
+        λ e. place_given c l k (sym at_place ∙ e),
+        λ e. at_place ∙ place_only c l k tests.once e.0 e.1,
       )
 
-      pub found-blank : getD (r .positions) i 0 ≢ 0 → getD (r .nearest) i (cell 0 0) ≡ cell 0 0
-      found-blank n = near-place ∙ sym (cond-no _ _ (ne-eqb (position c l) 0 (λ e. n (at-place ∙ e))) refl)
+      pub found_blank : get_or r.positions i 0 ≢ 0 → get_or r.nearest i (cell 0 0) ≡ cell 0 0
+      found_blank n = near_place ∙ sym (cond_no _ _ (ne_eqb (position c l) 0 (λ e. n (at_place ∙ e))) refl)
 
       -- and 0 exactly if the probe is missed; then it has the nearest cell
-      pub missed : getD (r .positions) i 0 ≡ 0 → (among c l ≡ false) × Nearest c l (getD (r .nearest) i (cell 0 0))
+      pub missed : get_or r.positions i 0 ≡ 0 → (among c l ≡ false) × Nearest c l (get_or r.nearest i (cell 0 0))
       missed e =
-          let none : position c l ≡ 0 = sym at-place ∙ e in
-          let near = near-place ∙ sym (cond-yes _ _ (eq-eqb (position c l) 0 none) refl) in
-          let some : l ≢ [] = λ z. absurd (omega (arith, some-cell (on-track .walk), ap length z)) in
-          (is-not-on c l none, subst⁻¹ (Nearest c l) near (nearest-right c l some))
+          let none : position c l ≡ 0 = sym at_place ∙ e in
+          let near = near_place ∙ sym (cond_yes _ _ (eq-eqb (position c l) 0 none) refl) in
+          let some : l ≢ [] = λ z. absurd (omega (arith, some_cell on_track.walk, ap length z)) in
+          (is_not_on c l none, subst⁻¹ (Nearest c l) near (nearest_right c l some))
 
     -- a place that is not
-    pub unused : length q ≤ i → (getD (r .positions) i 0 ≡ 0) × (getD (r .nearest) i (cell 0 0) ≡ cell 0 0)
+    pub unused : length q ≤ i → (get_or r.positions i 0 ≡ 0) × (get_or r.nearest i (cell 0 0) ≡ cell 0 0)
     unused h = (
-      ap (λ (a : ProbeSheet). getD (a .positions) i 0) is-given
-          ∙ placed-unused 0 (map (λ c. position c l) q) i (omega (arith, length-map q (λ c. position c l))),
-      ap (λ (a : ProbeSheet). getD (a .nearest) i (cell 0 0)) is-given
-          ∙ placed-unused (cell 0 0) (map (nearestMissed l) q) i (omega (arith, length-map q (nearestMissed l))),
+      ap (λ (a : ProbeSheet). get_or a.positions i 0) is_given
+          ∙ placed_unused 0 (map (λ c. position c l) q) i (omega (arith, length-map q (λ c. position c l))),
+      ap (λ (a : ProbeSheet). get_or a.nearest i (cell 0 0)) is_given
+          ∙ placed_unused (cell 0 0) (map (nearest_missed l) q) i (omega (arith, length-map q (nearest_missed l))),
     )

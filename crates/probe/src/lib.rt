@@ -1,23 +1,20 @@
 // Probe: inspection touches up to 64 cells of a foil and is told where along its track each one is.
-use grid::Cell;
-use grid::Cells;
-use grid::CellsAnswer;
-use grid::Panel;
-use grid::Refusal;
+#![tactic(auto)]
+
+ghost use Rattle.std.specs.Prelude.{◌≡◌, []};
+ghost use Rattle.grid.specs.declared.Check.TheVariants as check;
+ghost use Rattle.probe.specs.Probe.{few_probes, sheet, Probes};
+
+use grid::{Cell, Cells, CellsAnswer, Panel, Refusal};
 use judge::judge;
 use list::all_on_panel;
-use probe_walk::PLACES;
-use probe_walk::find_probes;
-use probe_walk::nearest_cells;
-ghost use mathlib.Core.Path.{_≡_};
-ghost use mathlib.Core.List.{[]};
-ghost use Rattle·grid.specs.declared.Check.the-variants as check;
-ghost use Rattle·probe·specs.specs.Probe.{fewProbes, sheet, Probes};
+use probe_walk::{PLACES, find_probes, nearest_cells};
 
 // What Probe answers: for each of 64 places, in the order of the probes, the position along the track,
 // counted from 1, or 0, and for a probe that is not on the track its nearest cell, else (0, 0); and how
 // many cells of the list were read to find the positions. `refusal` is the number of the refusal, and all
 // else is 0 then.
+#[derive(Clone, Copy)]
 pub struct ProbeSheet {
     pub refusal: u32,
     pub positions: [u32; PLACES],
@@ -27,7 +24,7 @@ pub struct ProbeSheet {
 
 // Whether so many bytes hold at most 64 probes and nothing else.
 fn few_probes(bytes: usize) -> bool
-    ensures { λ r. ⌜ r ≡ fewProbes bytes ⌝ }
+    ensures { result ≡ few_probes bytes }
 {
     if bytes <= 2 * PLACES {
         bytes % 2 == 0
@@ -38,7 +35,7 @@ fn few_probes(bytes: usize) -> bool
 
 // The sheet of a refused call.
 fn refused(r: Refusal) -> ProbeSheet
-    ensures { λ a. ⌜ a ≡ sheet (check.Refused r) [] [] ⌝ }
+    ensures { result ≡ sheet (check.Refused r) [] [] }
 {
     let none = Cell { x: 0, y: 0 };
     let positions = [0u32; PLACES];
@@ -60,7 +57,7 @@ pub fn probe(
     scratch: &mut [u8],
     probes: &[u8],
 ) -> ProbeSheet
-    ensures { λ r. ⌜ Probes p entry exit (now (list .entry)) (now (probes .entry)) (now (scratch .entry)) (now (scratch .exit)) r ⌝ }
+    ensures { Probes p entry exit list.now probes.now scratch.old scratch.new result }
 {
     if !few_probes(probes.len()) {
         return refused(Refusal::ProbeBytes);

@@ -1,26 +1,13 @@
 // Orders, lists and probes made up by a fixed sequence, and Probe on them beside the peer.
 use crate::peer::expected_sheet;
-use check::same;
-use grid::Cell;
-use grid::Panel;
-use grid::area_of;
-use grid::cells_values;
-use grid::panel_of;
+use grid::{Cell, Panel, area_of, cells_values, panel_of};
 use probe::ProbeSheet;
+use std::io;
 use trial::PITCH;
-use trial::cells::Order;
-use trial::cells::cell_at;
-use trial::cells::cells_in;
-use trial::cells::fill;
-use trial::cells::put;
-use trial::numbers::add;
-use trial::numbers::at_most;
-use trial::numbers::one_less;
-use trial::numbers::pick;
-use trial::plain::Sheet;
-use trial::plain::different;
-use trial::print::named;
-use trial::print::text;
+use trial::cells::{Order, cell_at, cells_in, fill, put};
+use trial::numbers::{add, at_most, one_less, pick};
+use trial::plain::{Sheet, different};
+use trial::print::{named, text};
 
 // How many orders are made up.
 const ORDERS: u32 = 8192;
@@ -36,6 +23,7 @@ const PROBES: usize = 140;
 
 // How often a sheet was given, without probes, with every probe on the track, and with some missed; how often
 // each number refused; and how often sheet or scratch differed from the peer's.
+#[derive(Clone, Copy)]
 struct Tally {
     empty: u32,
     found: u32,
@@ -45,6 +33,7 @@ struct Tally {
 }
 
 // What Probe is called with: the order, and how many bytes of each buffer are lent.
+#[derive(Clone, Copy)]
 struct Job {
     order: Order,
     list: usize,
@@ -290,7 +279,7 @@ fn alike(s: ProbeSheet, expected: Sheet, one: &[u8], two: &[u8]) -> bool {
     if different(expected, s.refusal, positions, nearest, s.read.0) != 0 {
         return false;
     }
-    same(one, two)
+    one == two
 }
 
 fn probed(o: Order, list: &[u8], scratch: &mut [u8], probes: &[u8]) -> ProbeSheet {
@@ -362,27 +351,28 @@ fn all_made_up() -> Tally {
 // ---- what is printed
 
 // Each number that refused, and how often.
-fn print_refused(refused: [u32; 32]) {
+fn print_refused(rt: &impl Print, refused: [u32; 32]) -> io::Result<()> {
     let mut i = 0;
     while i < 32 {
         if refused[i] != 0 {
-            named(b"refused by ", i as u32);
-            named(b": ", refused[i]);
-            text(b"\n");
+            named(rt, b"refused by ", i as u32)?;
+            named(rt, b": ", refused[i])?;
+            text(rt, b"\n")?;
         }
         i += 1;
     }
+    Ok(())
 }
 
-pub fn run() {
+pub fn run(rt: &impl Print) -> io::Result<()> {
     let t = all_made_up();
-    named(b"made up, orders ", ORDERS);
-    named(b"\ngiven: without probes ", t.empty);
-    named(b", all found ", t.found);
-    named(b", some missed ", t.missed);
-    text(b"\n");
+    named(rt, b"made up, orders ", ORDERS)?;
+    named(rt, b"\ngiven: without probes ", t.empty)?;
+    named(rt, b", all found ", t.found)?;
+    named(rt, b", some missed ", t.missed)?;
+    text(rt, b"\n")?;
     let refused = t.refused;
-    print_refused(refused);
-    named(b"different ", t.different);
-    text(b"\n");
+    print_refused(rt, refused)?;
+    named(rt, b"different ", t.different)?;
+    text(rt, b"\n")
 }

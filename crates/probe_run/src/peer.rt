@@ -1,13 +1,7 @@
 // What Probe must answer, by the words of the request. Only Judge is the router's.
-use grid::Cell;
-use grid::cells_values;
-use trial::cells::Order;
-use trial::cells::cell_at;
-use trial::cells::cells_in;
-use trial::cells::on;
-use trial::plain::Sheet;
-use trial::plain::blank;
-use trial::plain::sheet_of;
+use grid::{Cell, cells_values};
+use trial::cells::{Order, cell_at, cells_in, on};
+use trial::plain::{Sheet, blank, sheet_of};
 
 // Whether some probe is off the panel.
 fn some_off(o: Order, probes: &[u8]) -> bool {

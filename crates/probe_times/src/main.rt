@@ -4,35 +4,23 @@
 // probes are found, and how many places of the sheets differ (refusal and cells read counted as one). Standard
 // error has, in the same order, the processor's time of a call of Judge, of Probe and of the plain way, in
 // nanoseconds, the shortest of some turns, each with a sum over what it gave.
-use grid::Cell;
-use grid::cells_values;
-use grid::panel_of;
+#![tactic(auto)]
+
+use grid::{Cell, cells_values, panel_of};
 use probe::ProbeSheet;
+use std::io;
 use std::num::wrapping_add_u32;
+use std::time::CpuClock;
 use trial::PITCH;
-use trial::cells::Order;
-use trial::cells::put;
-use trial::cells::repeat;
-use trial::cells::snake;
-use trial::cells::spread;
-use trial::plain::Sheet;
-use trial::plain::blank;
-use trial::plain::different;
-use trial::plain::sheet_of;
-use trial::print::named;
-use trial::print::text;
-use trial::times::DOUBLED;
-use trial::times::TURNS;
-use trial::times::Turn;
-use trial::times::each;
-use trial::times::long_enough;
-use trial::times::micros;
-use trial::times::say;
-use trial::times::say_time;
-use trial::times::shorter;
-use trial::times::turn_from;
+use trial::cells::{Order, put, repeat, snake, spread};
+use trial::plain::{Sheet, blank, different, sheet_of};
+use trial::print::{named, text};
+use trial::times::{
+    DOUBLED, TURNS, Turn, each, long_enough, micros, say, say_time, shorter, turn_from,
+};
 
 // What is timed.
+#[derive(Clone, Copy)]
 enum Way {
     Judge,
     Probe,
@@ -99,20 +87,35 @@ fn answer(way: Way, o: Order, list: &[u8], scratch: &mut [u8], probes: &[u8]) ->
 // ---- times
 
 // So many calls.
-fn timed(way: Way, o: Order, list: &[u8], scratch: &mut [u8], probes: &[u8], calls: u32) -> Turn {
-    let start = micros();
+fn timed(
+    rt: &impl CpuClock,
+    way: Way,
+    o: Order,
+    list: &[u8],
+    scratch: &mut [u8],
+    probes: &[u8],
+    calls: u32,
+) -> Turn {
+    let start = micros(rt);
     let mut sum = 0;
     for _i in 0..calls {
         sum = wrapping_add_u32(sum, answer(way, o, list, scratch, probes));
     }
-    turn_from(start, sum)
+    turn_from(rt, start, sum)
 }
 
 // The calls of a turn that is long enough.
-fn calls_of(way: Way, o: Order, list: &[u8], scratch: &mut [u8], probes: &[u8]) -> u32 {
+fn calls_of(
+    rt: &impl CpuClock,
+    way: Way,
+    o: Order,
+    list: &[u8],
+    scratch: &mut [u8],
+    probes: &[u8],
+) -> u32 {
     let mut calls = 1;
     for _k in 0..DOUBLED {
-        if long_enough(timed(way, o, list, scratch, probes, calls)) {
+        if long_enough(timed(rt, way, o, list, scratch, probes, calls)) {
             return calls;
         }
         calls = wrapping_add_u32(calls, calls);
@@ -122,6 +125,7 @@ fn calls_of(way: Way, o: Order, list: &[u8], scratch: &mut [u8], probes: &[u8]) 
 
 // The shortest turn.
 fn shortest(
+    rt: &impl CpuClock,
     way: Way,
     o: Order,
     list: &[u8],
@@ -129,28 +133,41 @@ fn shortest(
     probes: &[u8],
     calls: u32,
 ) -> Turn {
-    let mut best = timed(way, o, list, scratch, probes, calls);
+    let mut best = timed(rt, way, o, list, scratch, probes, calls);
     for _k in 1..TURNS {
-        best = shorter(best, timed(way, o, list, scratch, probes, calls));
+        best = shorter(best, timed(rt, way, o, list, scratch, probes, calls));
     }
     best
 }
 
 // In nanoseconds.
-fn say_way(name: &[u8], way: Way, o: Order, list: &[u8], probes: &[u8]) {
+fn say_way(
+    rt: &(impl CpuClock + Eprint),
+    name: &[u8],
+    way: Way,
+    o: Order,
+    list: &[u8],
+    probes: &[u8],
+) -> io::Result<()> {
     let mut scratch = [0u8; 16384];
-    let calls = calls_of(way, o, list, &mut scratch, probes);
-    let t = shortest(way, o, list, &mut scratch, probes, calls);
-    say(name);
-    say_time(each(t, calls) / 10, t.sum);
+    let calls = calls_of(rt, way, o, list, &mut scratch, probes);
+    let t = shortest(rt, way, o, list, &mut scratch, probes, calls);
+    say(rt, name)?;
+    say_time(rt, each(t, calls) / 10, t.sum)
 }
 
-fn say_times(name: &[u8], o: Order, list: &[u8], probes: &[u8]) {
-    say(name);
-    say_way(b": judge ", Way::Judge, o, list, probes);
-    say_way(b", probe ", Way::Probe, o, list, probes);
-    say_way(b", plain ", Way::Plain, o, list, probes);
-    say(b"\n");
+fn say_times(
+    rt: &(impl CpuClock + Eprint),
+    name: &[u8],
+    o: Order,
+    list: &[u8],
+    probes: &[u8],
+) -> io::Result<()> {
+    say(rt, name)?;
+    say_way(rt, b": judge ", Way::Judge, o, list, probes)?;
+    say_way(rt, b", probe ", Way::Probe, o, list, probes)?;
+    say_way(rt, b", plain ", Way::Plain, o, list, probes)?;
+    say(rt, b"\n")
 }
 
 // ---- what both give
@@ -168,76 +185,87 @@ fn found_in(positions: [u32; 64]) -> u32 {
     n
 }
 
-fn compare(name: &[u8], o: Order, list: &[u8], probes: &[u8]) {
+fn compare(rt: &impl Print, name: &[u8], o: Order, list: &[u8], probes: &[u8]) -> io::Result<()> {
     let mut scratch = [0u8; 16384];
     let s = probed(o, list, &mut scratch, probes);
     let expected = plain_sheet(o, list, &mut scratch, probes);
     let positions = s.positions;
     let nearest = s.nearest;
-    text(name);
-    named(b": read ", s.read.0);
-    named(b", found ", found_in(positions));
+    text(rt, name)?;
+    named(rt, b": read ", s.read.0)?;
+    named(rt, b", found ", found_in(positions))?;
     named(
+        rt,
         b", different ",
         different(expected, s.refusal, positions, nearest, s.read.0),
-    );
-    text(b"\n");
+    )?;
+    text(rt, b"\n")
 }
 
 // ---- cases
 
-fn try_case(name: &[u8], exit: Cell, list: &[u8], probes: &[u8]) {
+fn try_case(
+    rt: &(impl CpuClock + Eprint + Print),
+    name: &[u8],
+    exit: Cell,
+    list: &[u8],
+    probes: &[u8],
+) -> io::Result<()> {
     let o = Order {
         panel: panel_of(128, 128, PITCH),
         entry: Cell { x: 1, y: 1 },
         exit,
     };
-    compare(name, o, list, probes);
-    say_times(name, o, list, probes);
+    compare(rt, name, o, list, probes)?;
+    say_times(rt, name, o, list, probes)
 }
 
 // All rows, of which the last ends at (1, 128).
-fn try_all_rows(name: &[u8], probes: &[u8]) {
+fn try_all_rows(
+    rt: &(impl CpuClock + Eprint + Print),
+    name: &[u8],
+    probes: &[u8],
+) -> io::Result<()> {
     let mut list = [0u8; 32768];
     snake(&mut list);
-    try_case(name, Cell { x: 1, y: 128 }, &list, probes);
+    try_case(rt, name, Cell { x: 1, y: 128 }, &list, probes)
 }
 
 // All rows but the last.
-fn try_missed(name: &[u8], probes: &[u8]) {
+fn try_missed(rt: &(impl CpuClock + Eprint + Print), name: &[u8], probes: &[u8]) -> io::Result<()> {
     let mut list = [0u8; 32512];
     snake(&mut list);
-    try_case(name, Cell { x: 128, y: 127 }, &list, probes);
+    try_case(rt, name, Cell { x: 128, y: 127 }, &list, probes)
 }
 
 // 64 cells to the end.
-fn spread_cells() {
+fn spread_cells(rt: &(impl CpuClock + Eprint + Print)) -> io::Result<()> {
     let mut probes = [0u8; 128];
     spread(&mut probes);
-    try_all_rows(b"64 to the end", &probes);
+    try_all_rows(rt, b"64 to the end", &probes)
 }
 
-fn last_cell() {
+fn last_cell(rt: &(impl CpuClock + Eprint + Print)) -> io::Result<()> {
     let mut probes = [0u8; 128];
     repeat(&mut probes, Cell { x: 1, y: 128 });
-    try_all_rows(b"the end 64 times", &probes);
+    try_all_rows(rt, b"the end 64 times", &probes)
 }
 
 // Every second cell of the last row.
-fn last_row() {
+fn last_row(rt: &(impl CpuClock + Eprint + Print)) -> io::Result<()> {
     let mut probes = [0u8; 128];
     for i in 0..64 {
         let x = 2 * i + 1;
         put(&mut probes, i, Cell { x, y: 128 });
     }
-    try_missed(b"64 missed", &probes);
+    try_missed(rt, b"64 missed", &probes)
 }
 
-fn main() {
-    try_all_rows(b"no probe", b"");
-    try_all_rows(b"the end", b"\x01\x80");
-    spread_cells();
-    last_cell();
-    try_missed(b"one missed", b"\x40\x80");
-    last_row();
+fn main(rt: HostRuntime) -> io::Result<()> {
+    try_all_rows(&rt, b"no probe", b"")?;
+    try_all_rows(&rt, b"the end", b"\x01\x80")?;
+    spread_cells(&rt)?;
+    last_cell(&rt)?;
+    try_missed(&rt, b"one missed", b"\x40\x80")?;
+    last_row(&rt)
 }

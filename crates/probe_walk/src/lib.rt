@@ -1,29 +1,25 @@
 // Probes: cells of a foil that inspection touches. Where each stands on a track is found in one walk of it,
 // by marks in scratch; for one that is not on it the nearest cell is searched.
-use grid::Cell;
-use grid::Cells;
-use grid::Panel;
-use list::cell_at;
-use list::squared_distance;
-use scratch::clear;
-use scratch::place_of;
-ghost use mathlib.Core.Path.{_≡_};
-ghost use mathlib.Core.Bool.{true};
-ghost use mathlib.Core.List.{[]};
-ghost use Prim.Native.Nat.{_*_, _<_, _≤_};
-ghost use lib.ListN.{length, drop, replicate};
-ghost use Rattle·grid.specs.Panel.{goodSides, area};
-ghost use Rattle·grid.specs.Bytes.{InBytes, cellsIn};
-ghost use Rattle·list.specs.List.{nth, allOn};
-ghost use Rattle·scratch.specs.Scratch.{place, Clean};
-ghost use Rattle·probe_walk·specs.specs.Probes.{position, nearest, cellsRead, places, positions, nearestMissed, nearestCells};
-ghost use Rattle·probe_walk·specs.specs.Search.{foundOn, Probed, Searched, unfound, Marked, Noted, notedPositions};
+#![tactic(auto)]
+
+ghost use Rattle.std.specs.Prelude.{◌≡◌, true, [], ◌*◌, ◌<◌, ◌≤◌, length, drop, replicate};
+ghost use Rattle.grid.specs.Panel.{good_sides, area};
+ghost use Rattle.grid.specs.Bytes.{InBytes, cells_in};
+ghost use Rattle.list.specs.List.{nth, all_on};
+ghost use Rattle.scratch.specs.Scratch.{place, Clean};
+ghost use Rattle.probe_walk.specs.Probes.{position, nearest, cells_read, places, positions, nearest_missed, nearest_cells};
+ghost use Rattle.probe_walk.specs.Search.{found_on, Probed, Searched, unfound, Marked, Noted, noted_positions};
+
+use grid::{Cell, Cells, Panel};
+use list::{cell_at, squared_distance};
+use scratch::{clear, place_of};
 
 // How many probes a sheet has places for.
 pub const PLACES: usize = 64;
 
 // The positions of the probes, 0 for one that is not on the track and at unused places, and how many
 // cells of the track were read for them.
+#[derive(Clone, Copy)]
 pub struct Found {
     pub positions: [u32; PLACES],
     pub read: Cells,
@@ -31,10 +27,10 @@ pub struct Found {
 
 // The place in scratch of the cell with the number i, from 0, of a list.
 fn place_at(p: Panel, cells: &[u8], i: usize) -> usize
-    requires good { ⌜ goodSides p ≡ true ⌝ }
-    requires on { ⌜ allOn p (cellsIn (now cells)) ≡ true ⌝ }
-    requires below { ⌜ i < length (cellsIn (now cells)) ⌝ }
-    ensures { λ r. ⌜ r ≡ place p (nth (cellsIn (now (cells .entry))) i) ⌝ }
+    requires good { good_sides p ≡ true }
+    requires on { all_on p (cells_in cells.now) ≡ true }
+    requires below { i < length (cells_in cells.now) }
+    ensures { result ≡ place p (nth (cells_in cells.now) i) }
 {
     place_of(p, cell_at(cells, 2 * i))
 }
@@ -42,11 +38,11 @@ fn place_at(p: Panel, cells: &[u8], i: usize) -> usize
 // Marks each probed cell of clean scratch with the number of its first probe. Gives how many different
 // cells there are.
 fn mark_probes(p: Panel, probes: &[u8], scratch: &mut [u8]) -> usize
-    requires probed { ⌜ Probed p (now probes) ⌝ }
-    requires clean { ⌜ Clean p (now scratch) ⌝ }
-    ensures marks { λ _. ⌜ Marked p (cellsIn (now (probes .entry))) (now (scratch .exit)) ⌝ }
-    ensures rest { λ _. ⌜ drop (area p) (now (scratch .exit)) ≡ drop (area p) (now (scratch .entry)) ⌝ }
-    ensures told { λ r. ⌜ r ≡ unfound (cellsIn (now (probes .entry))) [] ⌝ }
+    requires probed { Probed p probes.now }
+    requires clean { Clean p scratch.old }
+    ensures marks { Marked p (cells_in probes.now) scratch.new }
+    ensures rest { drop (area p) scratch.new ≡ drop (area p) scratch.old }
+    ensures told { result ≡ unfound (cells_in probes.now) [] }
 {
     let mut different = 0;
     let mut i = 0;
@@ -64,13 +60,13 @@ fn mark_probes(p: Panel, probes: &[u8], scratch: &mut [u8]) -> usize
 // The one walk: marks the probes, reads the list until every probed cell is found, and notes each one's
 // position at its mark. Gives how many cells it read.
 fn walk(p: Panel, list: &[u8], probes: &[u8], scratch: &mut [u8], found: &mut [u32]) -> usize
-    requires searched { ⌜ Searched p (now list) (now probes) ⌝ }
-    requires clean { ⌜ Clean p (now scratch) ⌝ }
-    requires empty { ⌜ now found ≡ replicate places 0 ⌝ }
-    ensures marks { λ _. ⌜ Marked p (cellsIn (now (probes .entry))) (now (scratch .exit)) ⌝ }
-    ensures rest { λ _. ⌜ drop (area p) (now (scratch .exit)) ≡ drop (area p) (now (scratch .entry)) ⌝ }
-    ensures notes { λ _. ⌜ Noted (cellsIn (now (probes .entry))) (cellsIn (now (list .entry))) (now (found .exit)) ⌝ }
-    ensures told { λ r. ⌜ r ≡ cellsRead (cellsIn (now (probes .entry))) (cellsIn (now (list .entry))) ⌝ }
+    requires searched { Searched p list.now probes.now }
+    requires clean { Clean p scratch.old }
+    requires empty { found.old ≡ replicate places 0 }
+    ensures marks { Marked p (cells_in probes.now) scratch.new }
+    ensures rest { drop (area p) scratch.new ≡ drop (area p) scratch.old }
+    ensures notes { Noted (cells_in probes.now) (cells_in list.now) found.new }
+    ensures told { result ≡ cells_read (cells_in probes.now) (cells_in list.now) }
 {
     let mut left = mark_probes(p, probes, scratch);
     let mut read = 0;
@@ -90,10 +86,10 @@ fn walk(p: Panel, list: &[u8], probes: &[u8], scratch: &mut [u8], found: &mut [u
 
 // What is noted for every probe, at its cell's mark.
 fn noted_for(p: Panel, probes: &[u8], scratch: &[u8], found: &[u32]) -> [u32; PLACES]
-    requires probed { ⌜ Probed p (now probes) ⌝ }
-    requires marks { ⌜ Marked p (cellsIn (now probes)) (now scratch) ⌝ }
-    requires room { ⌜ places ≤ length (now found) ⌝ }
-    ensures { λ r. ⌜ r ≡ notedPositions (cellsIn (now (probes .entry))) (now (found .entry)) ⌝ }
+    requires probed { Probed p probes.now }
+    requires marks { Marked p (cells_in probes.now) scratch.now }
+    requires room { places ≤ length found.now }
+    ensures { result ≡ noted_positions (cells_in probes.now) found.now }
 {
     let mut positions = [0u32; PLACES];
     let mut i = 0;
@@ -107,10 +103,10 @@ fn noted_for(p: Panel, probes: &[u8], scratch: &[u8], found: &[u32]) -> [u32; PL
 
 // Finds the probes on the list in clean scratch, which is left clean.
 pub fn find_probes(p: Panel, list: &[u8], probes: &[u8], scratch: &mut [u8]) -> Found
-    requires searched { ⌜ Searched p (now list) (now probes) ⌝ }
-    requires clean { ⌜ Clean p (now scratch) ⌝ }
-    ensures found { λ r. ⌜ r ≡ foundOn (cellsIn (now (probes .entry))) (cellsIn (now (list .entry))) ⌝ }
-    ensures left { λ _. ⌜ now (scratch .exit) ≡ now (scratch .entry) ⌝ }
+    requires searched { Searched p list.now probes.now }
+    requires clean { Clean p scratch.old }
+    ensures found { result ≡ found_on (cells_in probes.now) (cells_in list.now) }
+    ensures left { scratch.new ≡ scratch.old }
 {
     let mut found = [0u32; PLACES];
     let read = walk(p, list, probes, scratch, &mut found) as u32;
@@ -124,9 +120,9 @@ pub fn find_probes(p: Panel, list: &[u8], probes: &[u8], scratch: &mut [u8]) -> 
 
 // The nearest cell of a list that is not empty.
 fn nearest_to(list: &[u8], c: Cell) -> Cell
-    requires some { ⌜ 2 ≤ length (now list) ⌝ }
-    requires fits { ⌜ InBytes c ⌝ }
-    ensures { λ r. ⌜ r ≡ nearest c (cellsIn (now (list .entry))) ⌝ }
+    requires some { 2 ≤ length list.now }
+    requires fits { InBytes c }
+    ensures { result ≡ nearest c (cells_in list.now) }
 {
     let mut nearest = cell_at(list, 0);
     let mut least = squared_distance(c, nearest);
@@ -145,10 +141,10 @@ fn nearest_to(list: &[u8], c: Cell) -> Cell
 
 // The nearest cell for a probe whose position is 0, (0, 0) for a found one.
 fn nearest_if_missed(list: &[u8], c: Cell, at: u32) -> Cell
-    requires some { ⌜ 2 ≤ length (now list) ⌝ }
-    requires fits { ⌜ InBytes c ⌝ }
-    requires found { ⌜ at ≡ position c (cellsIn (now list)) ⌝ }
-    ensures { λ r. ⌜ r ≡ nearestMissed (cellsIn (now (list .entry))) c ⌝ }
+    requires some { 2 ≤ length list.now }
+    requires fits { InBytes c }
+    requires found { at ≡ position c (cells_in list.now) }
+    ensures { result ≡ nearest_missed (cells_in list.now) c }
 {
     if at != 0 {
         return Cell { x: 0, y: 0 };
@@ -158,10 +154,10 @@ fn nearest_if_missed(list: &[u8], c: Cell, at: u32) -> Cell
 
 // The same for every probe.
 pub fn nearest_cells(list: &[u8], probes: &[u8], found: [u32; PLACES]) -> [Cell; PLACES]
-    requires some { ⌜ 2 ≤ length (now list) ⌝ }
-    requires few { ⌜ length (now probes) ≤ 2 * places ⌝ }
-    requires found { ⌜ found ≡ positions (cellsIn (now probes)) (cellsIn (now list)) ⌝ }
-    ensures { λ r. ⌜ r ≡ nearestCells (cellsIn (now (probes .entry))) (cellsIn (now (list .entry))) ⌝ }
+    requires some { 2 ≤ length list.now }
+    requires few { length probes.now ≤ 2 * places }
+    requires found { found ≡ positions (cells_in probes.now) (cells_in list.now) }
+    ensures { result ≡ nearest_cells (cells_in probes.now) (cells_in list.now) }
 {
     let none = Cell { x: 0, y: 0 };
     let mut cells = [none; PLACES];

@@ -3,175 +3,175 @@
 --   writes-back    every record that Read accepts is byte for byte the one that Write makes of the panel and list read
 --   read-empty     Read with an empty buffer gives 5 exactly where Letters is not refused
 --   letters-read   what Letters hands back are the letters of the list read
-use Prim.Native.Nat.{ℕ, suc, _+_, _*_, _≤_, _<_}
-use mathlib.Core.Path.{_≡_, refl, sym, ap, ap₂, _∙_}
+use Prim.Native.Nat.{ℕ, suc, ◌+◌, ◌*◌, ◌≤◌, ◌<◌}
+use mathlib.Core.Path.{◌≡◌, refl, sym, ap, ap₂, ◌∙◌}
 use mathlib.Core.Bool.{Bool, true, false}
-use mathlib.Core.Logic.{_↔_}
-use mathlib.Core.List.{List, [], _∷_, _++_}
+use mathlib.Core.Logic.{◌↔◌}
+use mathlib.Core.List.{List, [], ◌∷◌, ◌++◌}
 use native.Mathlib.Omega.{arith}
-use lib.ListN.{length, take, drop, getD, length-append, length-drop}
-use lib.Seq.{take-at, take-add, length-take-le}
+use lib.ListN.{length, take, drop, get_or, length-append, length-drop}
+use lib.Seq.{take_at, take-add, length-take-le}
 use lib.Dec.{leb, ltb}
 use borrow.Author.Tests.{le-leb, lt-leb}
-use Rattle·grid.specs.declared.Cell.{Cell}
-use Rattle·grid.specs.declared.Panel.{Panel}
-use Rattle·grid.specs.declared.Refusal.{Refusal}
-use Rattle·grid.specs.declared.Refusal.the-variants.{Mark, CutShort, Side, Pitch, EntryOff, StepCount, UnknownByte, CellOff, ShortBuffer}
-use Rattle·grid.specs.declared.Check.{Check}
-use Rattle·grid.specs.declared.Check.the-variants.{Good}
-use Rattle·grid.specs.declared.BytesAnswer.{BytesAnswer}
-use Rattle·grid.specs.Refusal.{number}
-use Rattle·grid.specs.Panel.{area, onPanel, goodSides, goodPitch}
-use Rattle·grid.specs.Bytes.{bytes, cellsIn}
-use Rattle·grid.specs.Check.{checkPanel, checkEntry, expect, after, answer}
-use Rattle·grid.specs.Answer.{bytesValues}
-use Rattle·grid.proofs.Bytes.{length-bytes, cells-bytes}
-use Rattle·grid.proofs.Facts.{clash, and-parts}
-use Rattle·grid.proofs.Passed.{after-passed}
-use Rattle·grid.proofs.Tests.{expect-yes, expect-no, after-good, answer-good, answer-refused}
-use Rattle·list.specs.List.{allOn, allSteps, withCells}
-use Rattle·list.specs.Check.{checkList}
-use Rattle·list.proofs.Cells.{bytes-cells}
-use Rattle·list.proofs.Whole.{whole}
-use Rattle·list.proofs.Checks.{GoodList, list-whole, list-good, is-list-good}
-use Rattle·step_letters.specs.Letters.{lettersFrom, lettersOf, allKnown, walkOn, walkFrom}
-use Rattle·step_letters.proofs.Lists.{length-letters-from}
-use Rattle·step_letters.proofs.Directions.{known-letters, walk-letters, letters-walk}
-use Rattle·record_head.specs.Head.{headLength, headOf, hasMark, panelIn, entryIn, stepsIn, lettersIn, checkHead}
-use Rattle·record_head.proofs.Heads.{panel-back, entry-back, steps-back, letters-back, head-back, head-is}
-use Rattle·record·specs.specs.declared.ReadAnswer.{ReadAnswer}
-use Rattle·record·specs.specs.Write.{recordOf, recordLength, checkWrite, writeAnswer, writeBuffer, recordMade}
-use Rattle·record·specs.specs.Read.{checkKnown, cellsRead, checkRecord, checkRead, readAnswer, readBuffer, readValues, listRead, lettersAnswer}
-use Rattle·record·proofs.proofs.Walks.{length-walk}
-use Rattle·record·proofs.proofs.Answers.{GoodRecord, record-good}
+use Rattle.grid.specs.declared.Cell.{Cell}
+use Rattle.grid.specs.declared.Panel.{Panel}
+use Rattle.grid.specs.declared.Refusal.{Refusal}
+use Rattle.grid.specs.declared.Refusal.TheVariants.{Mark, CutShort, Side, Pitch, EntryOff, StepCount, UnknownByte, CellOff, ShortBuffer}
+use Rattle.grid.specs.declared.Check.{Check}
+use Rattle.grid.specs.declared.Check.TheVariants.{Good}
+use Rattle.grid.specs.declared.BytesAnswer.{BytesAnswer}
+use Rattle.grid.specs.Refusal.{number}
+use Rattle.grid.specs.Panel.{area, on_panel, good_sides, good_pitch}
+use Rattle.grid.specs.Bytes.{bytes, cells_in}
+use Rattle.grid.specs.Check.{check_panel, check_entry, expect, after, answer}
+use Rattle.grid.specs.Answer.{bytes_values}
+use Rattle.grid.proofs.Bytes.{length_bytes, cells_bytes}
+use Rattle.grid.proofs.Facts.{clash, and_parts}
+use Rattle.grid.proofs.Passed.{after_passed}
+use Rattle.grid.proofs.Tests.{expect_yes, expect_no, after_good, answer_good, answer_refused}
+use Rattle.list.specs.List.{all_on, all_steps, with_cells}
+use Rattle.list.specs.Check.{check_list}
+use Rattle.list.proofs.Cells.{bytes_cells}
+use Rattle.list.proofs.Whole.{whole}
+use Rattle.list.proofs.Checks.{GoodList, list_whole, list_good, is_list_good}
+use Rattle.step_letters.specs.Letters.{letters_from, letters_of, all_known, walk_on, walk_from}
+use Rattle.step_letters.proofs.Lists.{length_letters_from}
+use Rattle.step_letters.proofs.Directions.{known_letters, walk_letters, letters_walk}
+use Rattle.record_head.specs.Head.{head_length, head_of, has_mark, panel_in, entry_in, steps_in, letters_in, check_head}
+use Rattle.record_head.proofs.Heads.{panel_back, entry_back, steps_back, letters_back, head_back, head_is}
+use Rattle.record.specs.declared.ReadAnswer.{ReadAnswer}
+use Rattle.record.specs.Write.{record_of, record_length, check_write, write_answer, write_buffer, record_made}
+use Rattle.record.specs.Read.{check_known, cells_read, check_record, check_read, read_answer, read_buffer, read_values, list_read, letters_answer}
+use Rattle.record.proofs.Walks.{length_walk}
+use Rattle.record.proofs.Answers.{GoodRecord, record_good}
 
 -- ---- a record in front of anything
 
 module _ (p : Panel) (s : Cell) (l : List Cell) (rest : List ℕ) where
   abbrev file : List ℕ
-  file = recordOf p (s ∷ l) ++ rest
+  file = record_of p (s ∷ l) ++ rest
 
   abbrev behind : List ℕ
-  behind = lettersFrom s l ++ rest
+  behind = letters_from s l ++ rest
 
-  letters-written : lettersIn file ≡ lettersFrom s l
-  letters-written = letters-back p s (length l) behind ∙ take-at (lettersFrom s l) rest (length l) (length-letters-from s l)
+  letters_written : letters_in file ≡ letters_from s l
+  letters_written = letters_back p s (length l) behind ∙ take_at (letters_from s l) rest (length l) (length_letters_from s l)
 
   module _ (g : GoodList p (s ∷ l)) where
-    cells-written : cellsRead file ≡ s ∷ l
-    cells-written =
-        ap₂ walkFrom (entry-back p s (length l) behind) letters-written ∙ ap (λ (k : List Cell). s ∷ k) (walk-letters s l (g .next))
+    cells_written : cells_read file ≡ s ∷ l
+    cells_written =
+        ap₂ walk_from (entry_back p s (length l) behind) letters_written ∙ ap (λ (k : List Cell). s ∷ k) (walk_letters s l g.next)
 
-    accepted : checkRecord file ≡ Good
+    accepted : check_record file ≡ Good
     accepted =
-        let few : suc (length l) ≤ area p = g .few in
-        let fits : length l ≤ length behind = omega (arith, length-append (lettersFrom s l) rest, length-letters-from s l) in
-        let on = and-parts (onPanel p s) (allOn p l) (g .on) .0 in
-        let head = head-back p s (length l) behind (g .panel) on (omega arith) fits in
-        let letters = ap allKnown letters-written ∙ known-letters s l in
-        let cells = ap₂ allOn (panel-back p s (length l) behind) cells-written ∙ g .on in
-        sym (after-good _ head (after-good _ (sym (expect-yes _ _ letters refl)) (expect-yes _ _ cells refl)))
+        let few : suc (length l) ≤ area p = g.few in
+        let fits : length l ≤ length behind = omega (arith, length-append (letters_from s l) rest, length_letters_from s l) in
+        let on = (and_parts (on_panel p s) (all_on p l) g.on).0 in
+        let head = head_back p s (length l) behind g.panel on (omega arith) fits in
+        let letters = ap all_known letters_written ∙ known_letters s l in
+        let cells = ap₂ all_on (panel_back p s (length l) behind) cells_written ∙ g.on in
+        sym (after_good _ head (after_good _ (sym (expect_yes _ _ letters refl)) (expect_yes _ _ cells refl)))
 
 -- Read takes the record of every good list
-read-record : (p : Panel) (l : List Cell) (rest buffer : List ℕ) → GoodList p l → 2 * length l ≤ length buffer
-    → (readAnswer (recordOf p l ++ rest) buffer ≡ ReadAnswer.Given p (record { 0 = length l }) (recordLength l))
-    × (readBuffer (recordOf p l ++ rest) buffer ≡ withCells l buffer)
-read-record p [] rest buffer g room = let none : 1 ≤ 0 = g .some in absurd (omega arith)
-read-record p (s ∷ l) rest buffer g room =
+read_record : (p : Panel) (l : List Cell) (rest buffer : List ℕ) → GoodList p l → 2 * length l ≤ length buffer
+    → (read_answer (record_of p l ++ rest) buffer ≡ ReadAnswer.Given p (record { 0 = length l }) (record_length l))
+    × (read_buffer (record_of p l ++ rest) buffer ≡ with_cells l buffer)
+read_record p [] rest buffer g room = let none : 1 ≤ 0 = g.some in absurd (omega arith)
+read_record p (s ∷ l) rest buffer g room =
     let f = file p s l rest in
     let r = behind p s l rest in
-    let panel = panel-back p s (length l) r in
-    let cells = cells-written p s l rest g in
-    let steps = steps-back p s (length l) r in
-    let fits = le-leb (2 * length (cellsRead f)) (length buffer) (omega (arith, ap length cells)) in
-    let e : checkRead f buffer ≡ Good = sym (after-good _ (accepted p s l rest g) (expect-yes _ _ fits refl)) in (
-      sym (answer-good _ _ e (sym (λ i. ReadAnswer.Given (panel i) (record { 0 = length (cells i) }) (headLength + steps i)))),
-      sym (answer-good _ _ e (sym (ap (λ (k : List Cell). withCells k buffer) cells))),
+    let panel = panel_back p s (length l) r in
+    let cells = cells_written p s l rest g in
+    let steps = steps_back p s (length l) r in
+    let fits = le-leb (2 * length (cells_read f)) (length buffer) (omega (arith, ap length cells)) in
+    let e : check_read f buffer ≡ Good = sym (after_good _ (accepted p s l rest g) (expect_yes _ _ fits refl)) in (
+      sym (answer_good _ _ e (sym (λ i. ReadAnswer.Given (panel i) (record { 0 = length (cells i) }) (head_length + steps i)))),
+      sym (answer_good _ _ e (sym (ap (λ (k : List Cell). with_cells k buffer) cells))),
     )
 
 -- ---- what Write makes
 
-length-record : (p : Panel) (l : List Cell) → 1 ≤ length l → length (recordOf p l) ≡ recordLength l
-length-record p [] h = absurd (omega arith)
-length-record p (s ∷ l) h = omega (arith, length-letters-from s l)
+length_record : (p : Panel) (l : List Cell) → 1 ≤ length l → length (record_of p l) ≡ record_length l
+length_record p [] h = absurd (omega arith)
+length_record p (s ∷ l) h = omega (arith, length_letters_from s l)
 
-written : (p : Panel) (list out : List ℕ) → checkWrite p list out ≡ Good
-    → (writeAnswer p list out ≡ BytesAnswer.Given (recordLength (cellsIn list))) × (recordMade p list out ≡ recordOf p (cellsIn list))
+written : (p : Panel) (list out : List ℕ) → check_write p list out ≡ Good
+    → (write_answer p list out ≡ BytesAnswer.Given (record_length (cells_in list))) × (record_made p list out ≡ record_of p (cells_in list))
 written p list out e =
-    let l = cellsIn list in
-    let g = list-good p list (after-passed (checkList p list) _ e) in
-    let a : writeAnswer p list out ≡ BytesAnswer.Given (recordLength l) = sym (answer-good _ _ e refl) in
-    let b : writeBuffer p list out ≡ recordOf p l ++ drop (recordLength l) out = sym (answer-good _ _ e refl) in (
+    let l = cells_in list in
+    let g = list_good p list (after_passed (check_list p list) _ e) in
+    let a : write_answer p list out ≡ BytesAnswer.Given (record_length l) = sym (answer_good _ _ e refl) in
+    let b : write_buffer p list out ≡ record_of p l ++ drop (record_length l) out = sym (answer_good _ _ e refl) in (
       a,
-      ap₂ (λ (w : BytesAnswer) (o : List ℕ). take ((bytesValues w) .bytes) o) a b
-          ∙ take-at (recordOf p l) _ (recordLength l) (length-record p l (g .some)),
+      ap₂ (λ (w : BytesAnswer) (o : List ℕ). take (bytes_values w).bytes o) a b
+          ∙ take_at (record_of p l) _ (record_length l) (length_record p l g.some),
     )
 
-pub reads-back : (p : Panel) (list out rest buffer : List ℕ) → checkWrite p list out ≡ Good → length list ≤ length buffer
-    → (readAnswer (recordMade p list out ++ rest) buffer
-    ≡ ReadAnswer.Given p (record { 0 = length (cellsIn list) }) ((bytesValues (writeAnswer p list out)) .bytes))
-    × (readBuffer (recordMade p list out ++ rest) buffer ≡ list ++ drop (length list) buffer)
-reads-back p list out rest buffer e room =
-    let l = cellsIn list in
-    let c = after-passed (checkList p list) _ e in
-    let back = bytes-cells list (whole (length list) (list-whole p list c) .1) in
-    let n : 2 * length l ≡ length list = sym (length-bytes l) ∙ ap length back in
+pub reads_back : (p : Panel) (list out rest buffer : List ℕ) → check_write p list out ≡ Good → length list ≤ length buffer
+    → (read_answer (record_made p list out ++ rest) buffer
+    ≡ ReadAnswer.Given p (record { 0 = length (cells_in list) }) (bytes_values (write_answer p list out)).bytes)
+    × (read_buffer (record_made p list out ++ rest) buffer ≡ list ++ drop (length list) buffer)
+reads_back p list out rest buffer e room =
+    let l = cells_in list in
+    let c = after_passed (check_list p list) _ e in
+    let back = bytes_cells list (whole (length list) (list_whole p list c)).1 in
+    let n : 2 * length l ≡ length list = sym (length_bytes l) ∙ ap length back in
     let (given, made) = written p list out e in
-    let (read, cells) = read-record p l rest buffer (list-good p list c) (omega arith) in (
-      ap (λ (k : List ℕ). readAnswer (k ++ rest) buffer) made ∙ read
-          ∙ ap (λ (a : BytesAnswer). ReadAnswer.Given p (record { 0 = length l }) ((bytesValues a) .bytes)) (sym given),
-      ap (λ (k : List ℕ). readBuffer (k ++ rest) buffer) made ∙ cells ∙ ap₂ (λ (b : List ℕ) (k : ℕ). b ++ drop k buffer) back n,
+    let (read, cells) = read_record p l rest buffer (list_good p list c) (omega arith) in (
+      ap (λ (k : List ℕ). read_answer (k ++ rest) buffer) made ∙ read
+          ∙ ap (λ (a : BytesAnswer). ReadAnswer.Given p (record { 0 = length l }) (bytes_values a).bytes) (sym given),
+      ap (λ (k : List ℕ). read_buffer (k ++ rest) buffer) made ∙ cells ∙ ap₂ (λ (b : List ℕ) (k : ℕ). b ++ drop k buffer) back n,
     )
 
 -- ---- what Read accepts
 
 module _ (f : List ℕ) (g : GoodRecord f) where
-  length-read : length (lettersIn f) ≡ stepsIn f
-  length-read = length-take-le (stepsIn f) (drop headLength f) (omega (arith, length-drop headLength f, g .head .whole))
+  length_read : length (letters_in f) ≡ steps_in f
+  length_read = length-take-le (steps_in f) (drop head_length f) (omega (arith, length-drop head_length f, g.head.whole))
 
-  walked : (lettersFrom (entryIn f) (walkOn (entryIn f) (lettersIn f)) ≡ lettersIn f) × (allSteps (cellsRead f) ≡ true)
-  walked = letters-walk (panelIn f) (entryIn f) (lettersIn f) (g .letters) (g .cells)
+  walked : (letters_from (entry_in f) (walk_on (entry_in f) (letters_in f)) ≡ letters_in f) × (all_steps (cells_read f) ≡ true)
+  walked = letters_walk (panel_in f) (entry_in f) (letters_in f) g.letters g.cells
 
-  steps-read : length (walkOn (entryIn f) (lettersIn f)) ≡ stepsIn f
-  steps-read = length-walk (entryIn f) (lettersIn f) ∙ length-read
+  steps_read : length (walk_on (entry_in f) (letters_in f)) ≡ steps_in f
+  steps_read = length_walk (entry_in f) (letters_in f) ∙ length_read
 
-  list-of : GoodList (panelIn f) (cellsRead f)
-  list-of = record {
-    panel = g .head .panel;
-    on = g .cells;
-    next = walked .1;
+  list_of : GoodList (panel_in f) (cells_read f)
+  list_of = record {
+    panel = g.head.panel;
+    on = g.cells;
+    next = walked.1;
     some = omega arith;
-    few = omega (arith, steps-read, g .head .few);
+    few = omega (arith, steps_read, g.head.few);
   }
 
-  record-read : ((i : ℕ) → getD f i 0 < 256) → take (headLength + stepsIn f) f ≡ recordOf (panelIn f) (cellsRead f)
-  record-read byte =
-      take-add headLength (stepsIn f) f
-      ∙ ap₂ (λ (x y : List ℕ). x ++ y) (head-is f (g .head) byte) (sym (walked .0))
-      ∙ ap (λ (k : ℕ). headOf (panelIn f) (entryIn f) k ++ lettersFrom (entryIn f) (walkOn (entryIn f) (lettersIn f))) (sym steps-read)
+  record_read : ((i : ℕ) → get_or f i 0 < 256) → take (head_length + steps_in f) f ≡ record_of (panel_in f) (cells_read f)
+  record_read byte =
+      take-add head_length (steps_in f) f
+      ∙ ap₂ (λ (x y : List ℕ). x ++ y) (head_is f g.head byte) (sym walked.0)
+      ∙ ap (λ (k : ℕ). head_of (panel_in f) (entry_in f) k ++ letters_from (entry_in f) (walk_on (entry_in f) (letters_in f))) (sym steps_read)
 
-pub writes-back : (f buffer out : List ℕ) → ((i : ℕ) → getD f i 0 < 256) → checkRead f buffer ≡ Good
-    → let r = readValues (readAnswer f buffer) in
-    r .length ≤ length out
-    → (writeAnswer (r .panel) (listRead f buffer) out ≡ BytesAnswer.Given (r .length))
-    × (recordMade (r .panel) (listRead f buffer) out ≡ take (r .length) f)
-writes-back f buffer out byte e room =
-    let g = record-good f (after-passed (checkRecord f) _ e) in
-    let p = panelIn f in
-    let l = cellsRead f in
-    let k = headLength + stepsIn f in
-    let a : readAnswer f buffer ≡ ReadAnswer.Given p (record { 0 = length l }) k = sym (answer-good _ _ e refl) in
-    let b : readBuffer f buffer ≡ withCells l buffer = sym (answer-good _ _ e refl) in
-    let cells = ap₂ (λ (r : ReadAnswer) (o : List ℕ). take (2 * (readValues r) .cells .0) o) a b in
-    let list : listRead f buffer ≡ bytes l = cells ∙ take-at (bytes l) _ (2 * length l) (length-bytes l) in
-    let n : recordLength (cellsIn (bytes l)) ≡ k = ap recordLength (cells-bytes l) ∙ ap (λ (j : ℕ). headLength + j) (steps-read f g) in
-    let fits = le-leb (recordLength (cellsIn (bytes l))) (length out) (omega (arith, ap (λ (r : ReadAnswer). (readValues r) .length) a)) in
-    let c : checkWrite p (bytes l) out ≡ Good = sym (after-good _ (is-list-good p l (list-of f g)) (expect-yes _ _ fits refl)) in
+pub writes_back : (f buffer out : List ℕ) → ((i : ℕ) → get_or f i 0 < 256) → check_read f buffer ≡ Good
+    → let r = read_values (read_answer f buffer) in
+    r.length ≤ length out
+    → (write_answer r.panel (list_read f buffer) out ≡ BytesAnswer.Given r.length)
+    × (record_made r.panel (list_read f buffer) out ≡ take r.length f)
+writes_back f buffer out byte e room =
+    let g = record_good f (after_passed (check_record f) _ e) in
+    let p = panel_in f in
+    let l = cells_read f in
+    let k = head_length + steps_in f in
+    let a : read_answer f buffer ≡ ReadAnswer.Given p (record { 0 = length l }) k = sym (answer_good _ _ e refl) in
+    let b : read_buffer f buffer ≡ with_cells l buffer = sym (answer_good _ _ e refl) in
+    let cells = ap₂ (λ (r : ReadAnswer) (o : List ℕ). take (2 * (read_values r).cells.0) o) a b in
+    let list : list_read f buffer ≡ bytes l = cells ∙ take_at (bytes l) _ (2 * length l) (length_bytes l) in
+    let n : record_length (cells_in (bytes l)) ≡ k = ap record_length (cells_bytes l) ∙ ap (λ (j : ℕ). head_length + j) (steps_read f g) in
+    let fits = le-leb (record_length (cells_in (bytes l))) (length out) (omega (arith, ap (λ (r : ReadAnswer). (read_values r).length) a)) in
+    let c : check_write p (bytes l) out ≡ Good = sym (after_good _ (is_list_good p l (list_of f g)) (expect_yes _ _ fits refl)) in
     let (given, made) = written p (bytes l) out c in (
-      ap₂ (λ (r : ReadAnswer) (o : List ℕ). writeAnswer ((readValues r) .panel) o out) a list ∙ given ∙ ap BytesAnswer.Given n
-          ∙ ap (λ (r : ReadAnswer). BytesAnswer.Given ((readValues r) .length)) (sym a),
-      ap₂ (λ (r : ReadAnswer) (o : List ℕ). recordMade ((readValues r) .panel) o out) a list ∙ made ∙ ap (recordOf p) (cells-bytes l)
-          ∙ sym (record-read f g byte) ∙ ap (λ (r : ReadAnswer). take ((readValues r) .length) f) (sym a),
+      ap₂ (λ (r : ReadAnswer) (o : List ℕ). write_answer (read_values r).panel o out) a list ∙ given ∙ ap BytesAnswer.Given n
+          ∙ ap (λ (r : ReadAnswer). BytesAnswer.Given (read_values r).length) (sym a),
+      ap₂ (λ (r : ReadAnswer) (o : List ℕ). record_made (read_values r).panel o out) a list ∙ made ∙ ap (record_of p) (cells_bytes l)
+          ∙ sym (record_read f g byte) ∙ ap (λ (r : ReadAnswer). take (read_values r).length f) (sym a),
     )
 
 -- ---- Letters
@@ -180,50 +180,50 @@ writes-back f buffer out byte e room =
 abbrev NotFive : Check → Type 0
 NotFive c = c ≡ Check.Refused ShortBuffer → ⊥
 
-expect-not : (b : Bool) (r : Refusal) (k : Check) → (number r ≡ 5 → ⊥) → NotFive k → NotFive (expect b r k)
-expect-not true r k h n e = n e
-expect-not false r k h n e = let s : r ≡ ShortBuffer = cc in h (ap number s)
+expect_not : (b : Bool) (r : Refusal) (k : Check) → (number r ≡ 5 → ⊥) → NotFive k → NotFive (expect b r k)
+expect_not true r k h n e = n e
+expect_not false r k h n e = let s : r ≡ ShortBuffer = cc in h (ap number s)
 
-after-not : (c k : Check) → NotFive c → NotFive k → NotFive (after c k)
-after-not Good k m n = n
-after-not (Check.Refused r) k m n = m
+after_not : (c k : Check) → NotFive c → NotFive k → NotFive (after c k)
+after_not Good k m n = n
+after_not (Check.Refused r) k m n = m
 
-good-not : NotFive Good
-good-not e = clash (cc)
+good_not : NotFive Good
+good_not e = clash (cc)
 
-never-five : (f : List ℕ) → NotFive (checkRecord f)
-never-five f =
-    after-not (checkHead f) _
-    (expect-not (hasMark f) Mark _ (omega arith)
-    (expect-not (leb headLength (length f)) CutShort _ (omega arith)
-    (after-not (checkEntry (panelIn f) (entryIn f)) _
-    (after-not (checkPanel (panelIn f)) _
-    (expect-not (goodSides (panelIn f)) Side _ (omega arith)
-    (expect-not (goodPitch (panelIn f)) Pitch Good (omega arith) good-not))
-    (expect-not (onPanel (panelIn f) (entryIn f)) EntryOff Good (omega arith) good-not))
-    (expect-not (ltb (stepsIn f) (area (panelIn f))) StepCount _ (omega arith)
-    (expect-not (leb (headLength + stepsIn f) (length f)) CutShort Good (omega arith) good-not)))))
-    (after-not (checkKnown (lettersIn f)) _
-    (expect-not (allKnown (lettersIn f)) UnknownByte Good (omega arith) good-not)
-    (expect-not (allOn (panelIn f) (cellsRead f)) CellOff Good (omega arith) good-not))
+never_five : (f : List ℕ) → NotFive (check_record f)
+never_five f =
+    after_not (check_head f) _
+    (expect_not (has_mark f) Mark _ (omega arith)
+    (expect_not (leb head_length (length f)) CutShort _ (omega arith)
+    (after_not (check_entry (panel_in f) (entry_in f)) _
+    (after_not (check_panel (panel_in f)) _
+    (expect_not (good_sides (panel_in f)) Side _ (omega arith)
+    (expect_not (good_pitch (panel_in f)) Pitch Good (omega arith) good_not))
+    (expect_not (on_panel (panel_in f) (entry_in f)) EntryOff Good (omega arith) good_not))
+    (expect_not (ltb (steps_in f) (area (panel_in f))) StepCount _ (omega arith)
+    (expect_not (leb (head_length + steps_in f) (length f)) CutShort Good (omega arith) good_not)))))
+    (after_not (check_known (letters_in f)) _
+    (expect_not (all_known (letters_in f)) UnknownByte Good (omega arith) good_not)
+    (expect_not (all_on (panel_in f) (cells_read f)) CellOff Good (omega arith) good_not))
 
-five-behind : (c k : Check) (a : ReadAnswer) → NotFive c → answer (after c k) ReadAnswer.Refused a ≡ ReadAnswer.Refused ShortBuffer → c ≡ Good
-five-behind Good k a n e = refl
-five-behind (Check.Refused r) k a n e = absurd (n (cc))
+five_behind : (c k : Check) (a : ReadAnswer) → NotFive c → answer (after c k) ReadAnswer.Refused a ≡ ReadAnswer.Refused ShortBuffer → c ≡ Good
+five_behind Good k a n e = refl
+five_behind (Check.Refused r) k a n e = absurd (n (cc))
 
-pub read-empty : (f : List ℕ) → (readAnswer f [] ≡ ReadAnswer.Refused ShortBuffer) ↔ (checkRecord f ≡ Good)
-read-empty f = (
-  five-behind (checkRecord f) _ _ (never-five f),
-  λ e. sym (answer-refused ReadAnswer.Refused _ (sym (after-good _ e (expect-no _ _ (lt-leb (2 * length (cellsRead f)) 0 (omega arith)))))),
+pub read_empty : (f : List ℕ) → (read_answer f [] ≡ ReadAnswer.Refused ShortBuffer) ↔ (check_record f ≡ Good)
+read_empty f = (
+  five_behind (check_record f) _ _ (never_five f),
+  λ e. sym (answer_refused ReadAnswer.Refused _ (sym (after_good _ e (expect_no _ _ (lt-leb (2 * length (cells_read f)) 0 (omega arith)))))),
 )
 
-pub letters-read : (f : List ℕ) → checkRecord f ≡ Good → lettersAnswer f ≡ lettersOf (cellsRead f)
-letters-read f e = sym (answer-good _ _ e (walked f (record-good f e) .0))
+pub letters_read : (f : List ℕ) → check_record f ≡ Good → letters_answer f ≡ letters_of (cells_read f)
+letters_read f e = sym (answer_good _ _ e (walked f (record_good f e)).0)
 
 -- a record of one cell has no letters
-pub no-letters : (f : List ℕ) → stepsIn f ≡ 0 → lettersAnswer f ≡ []
-no-letters f e = go (checkRecord f)
+pub no_letters : (f : List ℕ) → steps_in f ≡ 0 → letters_answer f ≡ []
+no_letters f e = go (check_record f)
   where
-    go : (c : Check) → answer c (λ r. []) (lettersIn f) ≡ []
-    go Good = ap (λ (k : ℕ). take k (drop headLength f)) e
+    go : (c : Check) → answer c (λ r. []) (letters_in f) ≡ []
+    go Good = ap (λ (k : ℕ). take k (drop head_length f)) e
     go (Check.Refused r) = refl

@@ -1,64 +1,60 @@
 -- Document 01, "Read" and "Letters": the refusals in order, the answers and the final content of the lent buffer.
-use Prim.Native.Nat.{ℕ, _+_, _*_}
-use mathlib.Core.Path.{_≡_}
-use mathlib.Core.List.{List, []}
-use lib.ListN.{length, take}
-use lib.Dec.{leb}
-use denote.Ref.{RefT, now}
-use Rattle·grid.specs.declared.Panel.{Panel}
-use Rattle·grid.specs.declared.Cell.{Cell}
-use Rattle·grid.specs.declared.Cells.{Cells}
-use Rattle·grid.specs.declared.Check.{Check}
-use Rattle·grid.specs.declared.Check.the-variants.{Good}
-use Rattle·grid.specs.declared.CellsAnswer.{CellsAnswer}
-use Rattle·grid.specs.declared.Refusal.the-variants.{CellOff, ShortBuffer, UnknownByte}
-use Rattle·grid.specs.Panel.{panel}
-use Rattle·grid.specs.Refusal.{number}
-use Rattle·grid.specs.Bytes.{PartOf}
-use Rattle·grid.specs.Check.{expect, after, answer}
-use Rattle·grid.specs.Answer.{refusalNumber, given, cellsAnswer}
-use Rattle·list.specs.List.{allOn, withCells}
-use Rattle·step_letters.specs.Letters.{allKnown, walkFrom}
-use Rattle·record_head.specs.Head.{headLength, panelIn, entryIn, stepsIn, lettersIn, checkHead}
-use Rattle·record·specs.specs.declared.ReadAnswer.{ReadAnswer}
-use Rattle·record·specs.specs.declared.ReadAnswer.the-variants.{Refused, Given}
+use Rattle.std.specs.Prelude.{ℕ, ◌+◌, ◌*◌, ◌≡◌, List, [], length, take, leb}
+use Rattle.std.specs.Borrow.{Bor}
+use Rattle.grid.specs.declared.Panel.{Panel}
+use Rattle.grid.specs.declared.Cell.{Cell}
+use Rattle.grid.specs.declared.Cells.{Cells}
+use Rattle.grid.specs.declared.Check.{Check}
+use Rattle.grid.specs.declared.Check.TheVariants.{Good}
+use Rattle.grid.specs.declared.CellsAnswer.{CellsAnswer}
+use Rattle.grid.specs.declared.Refusal.TheVariants.{CellOff, ShortBuffer, UnknownByte}
+use Rattle.grid.specs.Panel.{panel}
+use Rattle.grid.specs.Refusal.{number}
+use Rattle.grid.specs.Bytes.{PartOf}
+use Rattle.grid.specs.Check.{expect, after, answer}
+use Rattle.grid.specs.Answer.{refusal_number, given, cells_answer}
+use Rattle.list.specs.List.{all_on, with_cells}
+use Rattle.step_letters.specs.Letters.{all_known, walk_from}
+use Rattle.record_head.specs.Head.{head_length, panel_in, entry_in, steps_in, letters_in, check_head}
+use Rattle.record.specs.declared.ReadAnswer.{ReadAnswer}
+use Rattle.record.specs.declared.ReadAnswer.TheVariants.{Refused, Given}
 
 -- the cells of the record
-abbrev pub cellsRead : List ℕ → List Cell
-cellsRead f = walkFrom (entryIn f) (lettersIn f)
+abbrev pub cells_read : List ℕ → List Cell
+cells_read f = walk_from (entry_in f) (letters_in f)
 
 -- 16, some byte among the letters is unknown
-abbrev pub checkKnown : List ℕ → Check
-checkKnown l = expect (allKnown l) UnknownByte Good
+abbrev pub check_known : List ℕ → Check
+check_known l = expect (all_known l) UnknownByte Good
 
 -- 7, a step leaves the panel
-abbrev pub checkSteps : Panel → Cell → List ℕ → Check
-checkSteps p s l = expect (allOn p (walkFrom s l)) CellOff Good
+abbrev pub check_steps : Panel → Cell → List ℕ → Check
+check_steps p s l = expect (all_on p (walk_from s l)) CellOff Good
 
 -- 16; 7
-abbrev pub checkLetters : Panel → Cell → List ℕ → Check
-checkLetters p s l = after (checkKnown l) (checkSteps p s l)
+abbrev pub check_letters : Panel → Cell → List ℕ → Check
+check_letters p s l = after (check_known l) (check_steps p s l)
 
 -- the refusals of Letters: 14; 17; 1; 18; 2; 15; 17; 16; 7
-abbrev pub checkRecord : List ℕ → Check
-checkRecord f = after (checkHead f) (checkLetters (panelIn f) (entryIn f) (lettersIn f))
+abbrev pub check_record : List ℕ → Check
+check_record f = after (check_head f) (check_letters (panel_in f) (entry_in f) (letters_in f))
 
 -- a refusal of Letters, or the record's cell count
-abbrev pub recordCells : List ℕ → CellsAnswer
-recordCells f = cellsAnswer (checkRecord f) (length (cellsRead f))
+abbrev pub record_cells : List ℕ → CellsAnswer
+record_cells f = cells_answer (check_record f) (length (cells_read f))
 
 -- the refusals of Read: as Letters; 5, the buffer is too short for the list
-abbrev pub checkRead : List ℕ → List ℕ → Check
-checkRead f list = after (checkRecord f) (expect (leb (2 * length (cellsRead f)) (length list)) ShortBuffer Good)
+abbrev pub check_read : List ℕ → List ℕ → Check
+check_read f list = after (check_record f) (expect (leb (2 * length (cells_read f)) (length list)) ShortBuffer Good)
 
 -- the panel, the cell count and the record length
-abbrev pub readAnswer : List ℕ → List ℕ → ReadAnswer
-readAnswer f list =
-    answer (checkRead f list) Refused (Given (panelIn f) (record { 0 = length (cellsRead f) }) (headLength + stepsIn f))
+abbrev pub read_answer : List ℕ → List ℕ → ReadAnswer
+read_answer f list =
+    answer (check_read f list) Refused (Given (panel_in f) (record { 0 = length (cells_read f) }) (head_length + steps_in f))
 
 -- the list, and the bytes behind it as they were; a refusal changes nothing
-abbrev pub readBuffer : List ℕ → List ℕ → List ℕ
-readBuffer f list = answer (checkRead f list) (λ r. list) (withCells (cellsRead f) list)
+abbrev pub read_buffer : List ℕ → List ℕ → List ℕ
+read_buffer f list = answer (check_read f list) (λ r. list) (with_cells (cells_read f) list)
 
 -- number, panel, cell count and record length of an answer
 pub record ReadValues : Type 0 where
@@ -67,33 +63,33 @@ pub record ReadValues : Type 0 where
   pub cells : Cells
   pub length : ℕ
 
-abbrev pub readValues : ReadAnswer → ReadValues
-readValues (Refused r) = record { refusal = number r; panel = panel 0 0 0; cells = record { 0 = 0 }; length = 0 }
-readValues (Given p n k) = record { refusal = 0; panel = p; cells = n; length = k }
+abbrev pub read_values : ReadAnswer → ReadValues
+read_values (Refused r) = record { refusal = number r; panel = panel 0 0 0; cells = record { 0 = 0 }; length = 0 }
+read_values (Given p n k) = record { refusal = 0; panel = p; cells = n; length = k }
 
 -- what Read promises of its answer r and of the buffer, old before the call and new after it
 pub record Reads (file old new : List ℕ) (r : ReadAnswer) : Type 0 where
-  pub answers : r ≡ readAnswer file old
-  pub number : (readValues r) .refusal ≡ refusalNumber (checkRead file old)
-  pub width : (readValues r) .panel .width ≡ given (checkRead file old) ((panelIn file) .width)
-  pub height : (readValues r) .panel .height ≡ given (checkRead file old) ((panelIn file) .height)
-  pub pitch : (readValues r) .panel .pitch ≡ given (checkRead file old) ((panelIn file) .pitch)
-  pub count : (readValues r) .cells .0 ≡ given (checkRead file old) (length (cellsRead file))
-  pub bytes : (readValues r) .length ≡ given (checkRead file old) (headLength + stepsIn file)
-  pub buffer : new ≡ readBuffer file old
+  pub answers : r ≡ read_answer file old
+  pub number : (read_values r).refusal ≡ refusal_number (check_read file old)
+  pub width : (read_values r).panel.width ≡ given (check_read file old) (panel_in file).width
+  pub height : (read_values r).panel.height ≡ given (check_read file old) (panel_in file).height
+  pub pitch : (read_values r).panel.pitch ≡ given (check_read file old) (panel_in file).pitch
+  pub count : (read_values r).cells.0 ≡ given (check_read file old) (length (cells_read file))
+  pub bytes : (read_values r).length ≡ given (check_read file old) (head_length + steps_in file)
+  pub buffer : new ≡ read_buffer file old
 
 -- the list read: x and y for as many cells as Read says
-abbrev pub listRead : List ℕ → List ℕ → List ℕ
-listRead f list = take (2 * (readValues (readAnswer f list)) .cells .0) (readBuffer f list)
+abbrev pub list_read : List ℕ → List ℕ → List ℕ
+list_read f list = take (2 * (read_values (read_answer f list)).cells.0) (read_buffer f list)
 
 -- the letters; empty if refused
-abbrev pub lettersAnswer : List ℕ → List ℕ
-lettersAnswer f = answer (checkRecord f) (λ r. []) (lettersIn f)
+abbrev pub letters_answer : List ℕ → List ℕ
+letters_answer f = answer (check_record f) (λ r. []) (letters_in f)
 
 -- where the stretch with the letters begins: at the head's end; at the front if refused
-abbrev pub lettersPlace : List ℕ → ℕ
-lettersPlace f = given (checkRecord f) headLength
+abbrev pub letters_place : List ℕ → ℕ
+letters_place f = given (check_record f) head_length
 
 -- what Letters promises of the stretch of the file that it hands back
-pub record Lettered (file letters : RefT (List ℕ)) : Type 0 where
-  pub part : PartOf file (lettersPlace (now file)) (lettersAnswer (now file)) letters
+pub record Lettered (file letters : Bor (List ℕ)) : Type 0 where
+  pub part : PartOf file (letters_place file.now) (letters_answer file.now) letters

@@ -1,44 +1,29 @@
 // Records: Write makes one of a panel and a list of neighbours, Read gives panel and list back, Letters
 // hands back the part of the file that holds the step letters.
-use grid::BytesAnswer;
-use grid::Cell;
-use grid::Cells;
-use grid::CellsAnswer;
-use grid::Check;
-use grid::Panel;
-use grid::Refusal;
-use grid::on_panel;
-use grid::steps_of;
-use list::cell_at;
-use list::check_list;
-use list::put_cell;
-use record_head::HEAD;
-use record_head::check_head;
-use record_head::head_in;
-use record_head::letters_in;
-use record_head::write_head;
-use step_letters::Stepped;
-use step_letters::step_by;
-use step_letters::write_letters;
-ghost use mathlib.Core.Path.{_≡_};
-ghost use mathlib.Core.Bool.{true};
-ghost use Prim.Native.Nat.{_≤_, _<_, _*_};
-ghost use lib.ListN.{length};
-ghost use Rattle·grid.specs.Panel.{OnPanel, onPanel, goodPanel};
-ghost use Rattle·grid.specs.Answer.{cellsAnswer};
-ghost use Rattle·list.specs.List.{allOn, withCells};
-ghost use Rattle·step_letters.specs.Letters.{walkFrom, largestPanel};
-ghost use Rattle·record·specs.specs.Write.{Writes};
-ghost use Rattle·record·specs.specs.Read.{checkKnown, checkSteps, checkLetters, recordCells, Reads, Lettered};
+#![tactic(auto)]
+
+ghost use Rattle.std.specs.Prelude.{◌≡◌, true, ◌≤◌, ◌<◌, ◌*◌, length};
+ghost use Rattle.grid.specs.Panel.{OnPanel, on_panel, good_panel};
+ghost use Rattle.grid.specs.Answer.{cells_answer};
+ghost use Rattle.list.specs.List.{all_on, with_cells};
+ghost use Rattle.step_letters.specs.Letters.{walk_from, largest_panel};
+ghost use Rattle.record.specs.Write.{Writes};
+ghost use Rattle.record.specs.Read.{check_known, check_steps, check_letters, record_cells, Reads, Lettered};
+
+use grid::{BytesAnswer, Cell, Cells, CellsAnswer, Check, Panel, Refusal, on_panel, steps_of};
+use list::{cell_at, check_list, put_cell};
+use record_head::{HEAD, check_head, head_in, letters_in, write_head};
+use step_letters::{Stepped, step_by, write_letters};
 
 // What Read answers: why it refuses, or the panel, the cell count and the record length.
+#[derive(Clone, Copy)]
 pub enum ReadAnswer {
     Refused(Refusal),
     Given(Panel, Cells, u32),
 }
 
 pub fn write(p: Panel, list: &[u8], out: &mut [u8]) -> BytesAnswer
-    ensures { λ r. ⌜ Writes p (now (list .entry)) (now (out .entry)) (now (out .exit)) r ⌝ }
+    ensures { Writes p list.now out.old out.new result }
 {
     let c = check_list(p, list);
     if let Check::Refused(r) = c {
@@ -58,8 +43,8 @@ pub fn write(p: Panel, list: &[u8], out: &mut [u8]) -> BytesAnswer
 
 // Whether every byte is a letter, tried from one cell.
 fn check_known(c: Cell, letters: &[u8]) -> Check
-    requires { ⌜ OnPanel largestPanel c ⌝ }
-    ensures { λ r. ⌜ r ≡ checkKnown (now (letters .entry)) ⌝ }
+    requires { OnPanel largest_panel c }
+    ensures { result ≡ check_known letters.now }
 {
     let mut i = 0;
     while i < letters.len() {
@@ -74,8 +59,8 @@ fn check_known(c: Cell, letters: &[u8]) -> Check
 
 // Walks the letters from a cell, and counts it and each cell after it.
 fn walk(p: Panel, s: Cell, letters: &[u8]) -> CellsAnswer
-    requires { ⌜ (goodPanel p ≡ true) × (onPanel p s ≡ true) × (length (now letters) < 65536) ⌝ }
-    ensures { λ r. ⌜ r ≡ cellsAnswer (checkSteps p s (now (letters .entry))) (length (walkFrom s (now (letters .entry)))) ⌝ }
+    requires { (good_panel p ≡ true) × (on_panel p s ≡ true) × (length letters.now < 65536) }
+    ensures { result ≡ cells_answer (check_steps p s letters.now) (length (walk_from s letters.now)) }
 {
     let mut at = s;
     let mut count = 1;
@@ -97,8 +82,8 @@ fn walk(p: Panel, s: Cell, letters: &[u8]) -> CellsAnswer
 
 // Why letters are refused, or how many cells they lead over.
 fn count_cells(p: Panel, s: Cell, letters: &[u8]) -> CellsAnswer
-    requires { ⌜ (goodPanel p ≡ true) × (onPanel p s ≡ true) × (length (now letters) < 65536) ⌝ }
-    ensures { λ r. ⌜ r ≡ cellsAnswer (checkLetters p s (now (letters .entry))) (length (walkFrom s (now (letters .entry)))) ⌝ }
+    requires { (good_panel p ≡ true) × (on_panel p s ≡ true) × (length letters.now < 65536) }
+    ensures { result ≡ cells_answer (check_letters p s letters.now) (length (walk_from s letters.now)) }
 {
     let c = check_known(s, letters);
     if let Check::Refused(r) = c {
@@ -109,7 +94,7 @@ fn count_cells(p: Panel, s: Cell, letters: &[u8]) -> CellsAnswer
 
 // What Letters refuses, or the record's cell count.
 fn find_record(file: &[u8]) -> CellsAnswer
-    ensures { λ r. ⌜ r ≡ recordCells (now (file .entry)) ⌝ }
+    ensures { result ≡ record_cells file.now }
 {
     let c = check_head(file);
     if let Check::Refused(r) = c {
@@ -123,8 +108,8 @@ fn find_record(file: &[u8]) -> CellsAnswer
 
 // The cells that letters lead over, at the front of the buffer.
 fn write_cells(s: Cell, letters: &[u8], list: &mut [u8])
-    requires { ⌜ (allOn largestPanel (walkFrom s (now letters)) ≡ true) × (2 * length (walkFrom s (now letters)) ≤ length (now list)) ⌝ }
-    ensures { λ _. ⌜ now (list .exit) ≡ withCells (walkFrom s (now (letters .entry))) (now (list .entry)) ⌝ }
+    requires { (all_on largest_panel (walk_from s letters.now) ≡ true) × (2 * length (walk_from s letters.now) ≤ length list.old) }
+    ensures { list.new ≡ with_cells (walk_from s letters.now) list.old }
 {
     put_cell(list, 0, s);
     let mut at = s;
@@ -143,7 +128,7 @@ fn write_cells(s: Cell, letters: &[u8], list: &mut [u8])
 }
 
 pub fn read(file: &[u8], list: &mut [u8]) -> ReadAnswer
-    ensures { λ r. ⌜ Reads (now (file .entry)) (now (list .entry)) (now (list .exit)) r ⌝ }
+    ensures { Reads file.now list.old list.new result }
 {
     let f = find_record(file);
     match f {
@@ -164,7 +149,7 @@ pub fn read(file: &[u8], list: &mut [u8]) -> ReadAnswer
 }
 
 pub fn letters<'a>(file: &'a [u8]) -> &'a [u8]
-    ensures { λ r. ⌜ Lettered (file .entry) r ⌝ }
+    ensures { Lettered file.entry result }
 {
     let f = find_record(file);
     if let CellsAnswer::Refused(_) = f {

@@ -1,22 +1,13 @@
 // The head of a record: written, read back and checked, and where the letters lie behind it.
-use grid::Cell;
-use grid::Check;
-use grid::Panel;
-use grid::Refusal;
-use grid::Steps;
-use grid::area_of;
-use grid::check_entry;
-use grid::panel_of;
-use list::byte_at;
-use list::cell_at;
-ghost use mathlib.Core.Path.{_≡_};
-ghost use mathlib.Core.Bool.{true};
-ghost use mathlib.Core.List.{_++_};
-ghost use Prim.Native.Nat.{_≤_, _<_, _+_, _/_, _%_};
-ghost use lib.ListN.{length, drop, set};
-ghost use Rattle·grid.specs.Panel.{onPanel, goodPanel};
-ghost use Rattle·grid.specs.Bytes.{PartOf};
-ghost use Rattle·record_head·specs.specs.Head.{headOf, headLength, hasMark, pairAt, hasHead, headIn, stepsIn, lettersIn, checkHead};
+#![tactic(auto)]
+
+ghost use Rattle.std.specs.Prelude.{◌≡◌, true, ◌++◌, ◌≤◌, ◌<◌, ◌+◌, ◌/◌, ◌%◌, length, drop, set};
+ghost use Rattle.grid.specs.Panel.{on_panel, good_panel};
+ghost use Rattle.grid.specs.Bytes.{PartOf};
+ghost use Rattle.record_head.specs.Head.{head_of, head_length, has_mark, pair_at, has_head, head_in, steps_in, letters_in, check_head};
+
+use grid::{Cell, Check, Panel, Refusal, Steps, area_of, check_entry, panel_of};
+use list::{byte_at, cell_at};
 
 // The mark (a magic number).
 pub const MARK_HIGH: u8 = 0x46;
@@ -43,6 +34,7 @@ pub const STEPS_LOW: usize = 9;
 pub const HEAD: usize = 10;
 
 // The fields of a record's head.
+#[derive(Clone, Copy)]
 pub struct Head {
     pub panel: Panel,
     pub entry: Cell,
@@ -51,23 +43,23 @@ pub struct Head {
 
 // A number in two bytes, by the places of its high byte and of its low one.
 fn put_pair(out: &mut [u8], high: usize, low: usize, k: u32)
-    requires { ⌜ (k < 65536) × (high < length (now out)) × (low < length (now out)) ⌝ }
-    ensures { λ _. ⌜ now (out .exit) ≡ set (set (now (out .entry)) high (k / 256)) low (k % 256) ⌝ }
+    requires { (k < 65536) × (high < length out.old) × (low < length out.old) }
+    ensures { out.new ≡ set (set out.old high (k / 256)) low (k % 256) }
 {
     out[high] = (k / 256) as u8;
     out[low] = (k % 256) as u8;
 }
 
 fn pair_at(file: &[u8], high: usize, low: usize) -> u32
-    requires { ⌜ (high < length (now file)) × (low < length (now file)) ⌝ }
-    ensures { λ r. ⌜ (r ≡ pairAt (now (file .entry)) high low) × (r < 65536) ⌝ }
+    requires { (high < length file.now) × (low < length file.now) }
+    ensures { (result ≡ pair_at file.now high low) × (result < 65536) }
 {
     256 * byte_at(file, high) + byte_at(file, low)
 }
 
 pub fn write_head(p: Panel, entry: Cell, steps: Steps, out: &mut [u8])
-    requires { ⌜ (goodPanel p ≡ true) × (onPanel p entry ≡ true) × (steps .0 < 65536) × (headLength ≤ length (now out)) ⌝ }
-    ensures { λ _. ⌜ now (out .exit) ≡ headOf p entry (steps .0) ++ drop headLength (now (out .entry)) ⌝ }
+    requires { (good_panel p ≡ true) × (on_panel p entry ≡ true) × (steps.0 < 65536) × (head_length ≤ length out.old) }
+    ensures { out.new ≡ head_of p entry steps.0 ++ drop head_length out.old }
 {
     out[0] = MARK_HIGH;
     out[1] = MARK_LOW;
@@ -79,8 +71,9 @@ pub fn write_head(p: Panel, entry: Cell, steps: Steps, out: &mut [u8])
     put_pair(out, STEPS_HIGH, STEPS_LOW, steps.0);
 }
 
+#[tactic(auto, unfolding(crate::specs::Head::has_mark))]
 fn has_mark(file: &[u8]) -> bool
-    ensures { λ r. ⌜ r ≡ hasMark (now (file .entry)) ⌝ }
+    ensures { result ≡ has_mark file.now }
 {
     if 2 <= file.len() {
         if file[0] == MARK_HIGH {
@@ -93,14 +86,14 @@ fn has_mark(file: &[u8]) -> bool
 
 // Whether there are bytes enough for a head.
 fn has_head(file: &[u8]) -> bool
-    ensures { λ r. ⌜ r ≡ hasHead (now (file .entry)) ⌝ }
+    ensures { result ≡ has_head file.now }
 {
     HEAD <= file.len()
 }
 
 pub fn head_in(file: &[u8]) -> Head
-    requires { ⌜ headLength ≤ length (now file) ⌝ }
-    ensures { λ r. ⌜ r ≡ headIn (now (file .entry)) ⌝ }
+    requires { head_length ≤ length file.now }
+    ensures { result ≡ head_in file.now }
 {
     Head {
         panel: panel_of(
@@ -115,8 +108,8 @@ pub fn head_in(file: &[u8]) -> Head
 
 // The stretch that holds the step letters.
 pub fn letters_in<'a>(file: &'a [u8]) -> &'a [u8]
-    requires { ⌜ headLength + stepsIn (now file) ≤ length (now file) ⌝ }
-    ensures { λ r. ⌜ PartOf (file .entry) headLength (lettersIn (now (file .entry))) r ⌝ }
+    requires { head_length + steps_in file.now ≤ length file.now }
+    ensures { PartOf file.entry head_length (letters_in file.now) result }
 {
     let end = HEAD + pair_at(file, STEPS_HIGH, STEPS_LOW) as usize;
     &file[HEAD..end]
@@ -124,7 +117,7 @@ pub fn letters_in<'a>(file: &'a [u8]) -> &'a [u8]
 
 // What Read refuses before it looks at a letter.
 pub fn check_head(file: &[u8]) -> Check
-    ensures { λ r. ⌜ r ≡ checkHead (now (file .entry)) ⌝ }
+    ensures { result ≡ check_head file.now }
 {
     if !has_mark(file) {
         return Check::Refused(Refusal::Mark);

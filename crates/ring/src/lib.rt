@@ -1,32 +1,30 @@
 // Ring: a longest closed track from (1, 1). It is the corner track from (1, 1) to its neighbour (2, 1)
 // in the whole panel.
-use grid::Cell;
-use grid::Cells;
-use grid::CellsAnswer;
-use grid::Check;
-use grid::Panel;
-use grid::Refusal;
-ghost use mathlib.Core.Path.{_≡_};
-ghost use Rattle·grid.specs.Panel.{GoodSides};
-ghost use Rattle·ring·specs.specs.Ring.{twoWide, ringCount, ringCheck, Rings};
+#![tactic(auto)]
+
+ghost use Rattle.std.specs.Prelude.{◌≡◌};
+ghost use Rattle.grid.specs.Panel.{GoodSides};
+ghost use Rattle.ring.specs.Ring.{two_wide, ring_count, ring_check, Rings};
+
+use grid::{Cell, Cells, CellsAnswer, Check, Panel, Refusal};
 
 fn two_wide(p: Panel) -> bool
-    ensures { λ r. ⌜ r ≡ twoWide p ⌝ }
+    ensures { result ≡ two_wide p }
 {
     if 2 <= p.width { 2 <= p.height } else { false }
 }
 
 // mn without its odd cell.
 fn ring_count(p: Panel) -> Cells
-    requires { ⌜ GoodSides p ⌝ }
-    ensures { λ r. ⌜ r .0 ≡ ringCount p ⌝ }
+    requires { GoodSides p }
+    ensures { result.0 ≡ ring_count p }
 {
     Cells((grid::area_of(p) / 2 * 2) as u32)
 }
 
 // The refusals in order, for a buffer of `size` bytes.
 fn check_ring(p: Panel, size: usize) -> Check
-    ensures { λ r. ⌜ r ≡ ringCheck p size ⌝ }
+    ensures { result ≡ ring_check p size }
 {
     let c = grid::check_panel(p);
     if let Check::Refused(r) = c {
@@ -44,7 +42,7 @@ fn check_ring(p: Panel, size: usize) -> Check
 
 // The call.
 pub fn ring(p: Panel, buf: &mut [u8]) -> CellsAnswer
-    ensures { λ r. ⌜ Rings p (now (buf .entry)) (now (buf .exit)) r ⌝ }
+    ensures { Rings p buf.old buf.new result }
 {
     let c = check_ring(p, buf.len());
     if let Check::Refused(r) = c {

@@ -3,18 +3,13 @@
 // of a larger buffer, filled with 7 before, says: `closed`, the cells are a track from (1, 1) whose last
 // cell is a neighbour of its first, and the bytes behind are 7; a refusal has no cell, and `untouched`, all
 // bytes are 7; else `FAULT`.
-use grid::Cell;
-use grid::Panel;
-use grid::cells_values;
-use grid::panel_of;
+#![tactic(auto)]
+
+use grid::{Cell, Panel, cells_values, panel_of};
+use std::io;
 use trial::PITCH;
-use trial::cells::Order;
-use trial::cells::byte_at;
-use trial::cells::filled;
-use trial::cells::is_closed;
-use trial::cells::is_track;
-use trial::print::row;
-use trial::print::text;
+use trial::cells::{Order, byte_at, filled, is_closed, is_track};
+use trial::print::{row, text};
 
 // What the buffer is filled with.
 const FILL: u8 = 7;
@@ -39,89 +34,89 @@ fn closed(buf: &[u8], p: Panel, last: Cell, k: u32) -> bool {
     filled(buf, 2 * (k as usize), FILL)
 }
 
-fn word(right: bool, name: &[u8]) {
+fn word(rt: &impl Print, right: bool, name: &[u8]) -> io::Result<()> {
     if right {
-        text(name);
+        text(rt, name)
     } else {
-        text(b"FAULT\n");
+        text(rt, b"FAULT\n")
     }
 }
 
-fn report(buf: &[u8], p: Panel, number: u32, count: u32) {
+fn report(rt: &impl Print, buf: &[u8], p: Panel, number: u32, count: u32) -> io::Result<()> {
     let behind = 2 * (count as usize);
     if behind < 2 {
-        row(&[number, count], b" ");
-        word(filled(buf, 0, FILL), b"untouched\n");
-        return;
+        row(rt, &[number, count], b" ")?;
+        return word(rt, filled(buf, 0, FILL), b"untouched\n");
     }
     let x = byte_at(buf, behind - 2);
     let y = byte_at(buf, behind - 1);
-    row(&[number, count, x, y], b" ");
-    word(closed(buf, p, Cell { x, y }, count), b"closed\n");
+    row(rt, &[number, count, x, y], b" ")?;
+    word(rt, closed(buf, p, Cell { x, y }, count), b"closed\n")
 }
 
 // Ring in the first `size` bytes of a buffer that is filled.
-fn answer_in(p: Panel, size: usize, buf: &mut [u8]) {
+fn answer_in(rt: &impl Print, p: Panel, size: usize, buf: &mut [u8]) -> io::Result<()> {
     if size <= buf.len() {
         let v = cells_values(ring::ring(p, &mut buf[0..size]));
-        report(buf, p, v.refusal, v.cells.0);
+        report(rt, buf, p, v.refusal, v.cells.0)?;
     }
+    Ok(())
 }
 
-fn answer_at(width: u32, height: u32, size: u32, pitch: u32) {
+fn answer_at(rt: &impl Print, width: u32, height: u32, size: u32, pitch: u32) -> io::Result<()> {
     let mut buf = [FILL; 40000];
-    row(&[width, height, size, pitch], b": ");
-    answer_in(panel_of(width, height, pitch), size as usize, &mut buf);
+    row(rt, &[width, height, size, pitch], b": ")?;
+    answer_in(rt, panel_of(width, height, pitch), size as usize, &mut buf)
 }
 
 // A panel of the usual pitch.
-fn answer(width: u32, height: u32, size: u32) {
-    answer_at(width, height, size, PITCH);
+fn answer(rt: &impl Print, width: u32, height: u32, size: u32) -> io::Result<()> {
+    answer_at(rt, width, height, size, PITCH)
 }
 
 // Pitches at the ends of their range and outside it.
-fn pitches() {
-    answer_at(4, 3, 24, 999);
-    answer_at(4, 3, 24, 1000);
-    answer_at(4, 3, 24, 10000);
-    answer_at(4, 3, 24, 10001);
-    answer_at(4, 3, 24, 0);
-    answer_at(4, 3, 24, MAX);
+fn pitches(rt: &impl Print) -> io::Result<()> {
+    answer_at(rt, 4, 3, 24, 999)?;
+    answer_at(rt, 4, 3, 24, 1000)?;
+    answer_at(rt, 4, 3, 24, 10000)?;
+    answer_at(rt, 4, 3, 24, 10001)?;
+    answer_at(rt, 4, 3, 24, 0)?;
+    answer_at(rt, 4, 3, 24, MAX)
 }
 
 // A bad pitch behind a bad side, then before a side of 1 and before a short buffer; then these two with
 // a good pitch.
-fn pitch_and_more() {
-    answer_at(0, 5, 40000, 999);
-    answer_at(129, 1, 0, MAX);
-    answer_at(1, 128, 40000, 999);
-    answer_at(3, 3, 15, 10001);
-    answer_at(1, 1, 0, 0);
-    answer_at(1, 128, 40000, 1000);
-    answer_at(3, 3, 15, 10000);
+fn pitch_and_more(rt: &impl Print) -> io::Result<()> {
+    answer_at(rt, 0, 5, 40000, 999)?;
+    answer_at(rt, 129, 1, 0, MAX)?;
+    answer_at(rt, 1, 128, 40000, 999)?;
+    answer_at(rt, 3, 3, 15, 10001)?;
+    answer_at(rt, 1, 1, 0, 0)?;
+    answer_at(rt, 1, 128, 40000, 1000)?;
+    answer_at(rt, 3, 3, 15, 10000)
 }
 
-fn main() {
-    answer(2, 2, 8);
-    answer(3, 2, 12);
-    answer(2, 3, 12);
-    answer(3, 3, 16);
-    answer(3, 3, 15);
-    answer(4, 3, 40000);
-    answer(5, 5, 48);
-    answer(7, 4, 56);
-    answer(128, 128, 32768);
-    answer(128, 128, 32767);
-    answer(127, 127, 32256);
-    answer(127, 127, 32255);
-    answer(128, 2, 512);
-    answer(1, 1, 40000);
-    answer(1, 128, 40000);
-    answer(128, 1, 40000);
-    answer(0, 5, 40000);
-    answer(5, 0, 0);
-    answer(129, 2, 40000);
-    answer(2, MAX, 40000);
-    pitches();
-    pitch_and_more();
+fn main(rt: HostRuntime) -> io::Result<()> {
+    answer(&rt, 2, 2, 8)?;
+    answer(&rt, 3, 2, 12)?;
+    answer(&rt, 2, 3, 12)?;
+    answer(&rt, 3, 3, 16)?;
+    answer(&rt, 3, 3, 15)?;
+    answer(&rt, 4, 3, 40000)?;
+    answer(&rt, 5, 5, 48)?;
+    answer(&rt, 7, 4, 56)?;
+    answer(&rt, 128, 128, 32768)?;
+    answer(&rt, 128, 128, 32767)?;
+    answer(&rt, 127, 127, 32256)?;
+    answer(&rt, 127, 127, 32255)?;
+    answer(&rt, 128, 2, 512)?;
+    answer(&rt, 1, 1, 40000)?;
+    answer(&rt, 1, 128, 40000)?;
+    answer(&rt, 128, 1, 40000)?;
+    answer(&rt, 0, 5, 40000)?;
+    answer(&rt, 5, 0, 0)?;
+    answer(&rt, 129, 2, 40000)?;
+    answer(&rt, 2, MAX, 40000)?;
+    pitches(&rt)?;
+    pitch_and_more(&rt)
 }

@@ -1,27 +1,27 @@
 -- Clearing makes scratch clean, and clearing it again takes away what was marked in between.
-use Prim.Native.Nat.{ℕ, _≤_}
+use Prim.Native.Nat.{ℕ, ◌≤◌}
 use native.Mathlib.Omega.{arith}
-use mathlib.Core.Path.{_≡_, sym, ap, _∙_}
-use mathlib.Core.List.{List, _++_}
+use mathlib.Core.Path.{◌≡◌, sym, ap, ◌∙◌}
+use mathlib.Core.List.{List, ◌++◌}
 use lib.ListN.{length, take, drop, replicate, length-append, length-replicate, take-append-drop}
-use lib.Seq.{take-at, drop-at}
-use Rattle·grid.specs.declared.Panel.{Panel}
-use Rattle·grid.specs.Panel.{area}
-use Rattle·scratch·specs.specs.Scratch.{cleared, Clean}
+use lib.Seq.{take_at, drop_at}
+use Rattle.grid.specs.declared.Panel.{Panel}
+use Rattle.grid.specs.Panel.{area}
+use Rattle.scratch.specs.Scratch.{cleared, Clean}
 
 pub clean : (p : Panel) (s : List ℕ) {e : List ℕ} → area p ≤ length s → e ≡ cleared p s → Clean p e
 clean p s {e} h f = record {
   room = simp (f, length-append, length-replicate) (omega arith);
-  zeros = ap (take (area p)) f ∙ take-at (replicate (area p) 0) (drop (area p) s) (area p) (length-replicate (area p) 0);
+  zeros = ap (take (area p)) f ∙ take_at (replicate (area p) 0) (drop (area p) s) (area p) (length-replicate (area p) 0);
 }
 
 -- m is scratch that was cleared, with marks among its places
-pub cleared-again : (p : Panel) (s : List ℕ) {c : List ℕ} (m : List ℕ)
+pub cleared_again : (p : Panel) (s : List ℕ) {c : List ℕ} (m : List ℕ)
     → c ≡ cleared p s → drop (area p) m ≡ drop (area p) c → cleared p m ≡ cleared p s
-cleared-again p s m e d =
+cleared_again p s m e d =
     ap (λ (r : List ℕ). replicate (area p) 0 ++ r)
-    (d ∙ ap (drop (area p)) e ∙ drop-at (replicate (area p) 0) (drop (area p) s) (area p) (length-replicate (area p) 0))
+    (d ∙ ap (drop (area p)) e ∙ drop_at (replicate (area p) 0) (drop (area p) s) (area p) (length-replicate (area p) 0))
 
 -- m is clean scratch, with marks among its places
-pub clean-again : (p : Panel) {s : List ℕ} (m : List ℕ) → Clean p s → drop (area p) m ≡ drop (area p) s → cleared p m ≡ s
-clean-again p {s} m c d = (λ i. sym (c .zeros) i ++ d i) ∙ take-append-drop (area p) s
+pub clean_again : (p : Panel) {s : List ℕ} (m : List ℕ) → Clean p s → drop (area p) m ≡ drop (area p) s → cleared p m ≡ s
+clean_again p {s} m c d = (λ i. sym c.zeros i ++ d i) ∙ take-append-drop (area p) s

@@ -1,31 +1,31 @@
 -- Computed: which refusal comes first, what is left of session and buffer, and what is recorded. A wrong definition shows here.
 use Prim.Native.Nat.{ℕ}
-use mathlib.Core.Path.{_≡_, refl}
+use mathlib.Core.Path.{◌≡◌, refl}
 use mathlib.Core.Bool.{true, false}
-use mathlib.Core.List.{List, [], _∷_, _++_}
+use mathlib.Core.List.{List, [], ◌∷◌, ◌++◌}
 use lib.ListN.{replicate}
-use Rattle·grid.specs.declared.Check.{Check}
-use Rattle·grid.specs.declared.Check.the-variants.{Good, Refused}
-use Rattle·grid.specs.declared.Refusal.the-variants.{ListLength, ShortBuffer, NoSuchEdit, NothingRecorded}
-use Rattle·grid.specs.Panel.{panel, cell, apart, dist}
-use Rattle·detour.specs.declared.Edit.{Edit}
-use Rattle·detour.specs.Detour.{bulgeAt}
-use Rattle·session·specs.specs.declared.Session.{Session}
-use Rattle·session·specs.specs.declared.Command.{Command}
-use Rattle·session·specs.specs.declared.Command.the-variants.{Bulge, Press, TakeBack}
-use Rattle·session·specs.specs.Session.{noEdit, newSession, onRecord}
-use Rattle·session·specs.specs.Edits.{sessionCells, editOf, editCheck, sessionAfter, bufferAfter}
+use Rattle.grid.specs.declared.Check.{Check}
+use Rattle.grid.specs.declared.Check.TheVariants.{Good, Refused}
+use Rattle.grid.specs.declared.Refusal.TheVariants.{ListLength, ShortBuffer, NoSuchEdit, NothingRecorded}
+use Rattle.grid.specs.Panel.{panel, cell, apart, dist}
+use Rattle.detour.specs.declared.Edit.{Edit}
+use Rattle.detour.specs.Detour.{bulge_at}
+use Rattle.session.specs.declared.Session.{Session}
+use Rattle.session.specs.declared.Command.{Command}
+use Rattle.session.specs.declared.Command.TheVariants.{Bulge, Press, TakeBack}
+use Rattle.session.specs.Session.{no_edit, new_session, on_record}
+use Rattle.session.specs.Edits.{session_cells, edit_of, edit_check, session_after, buffer_after}
 
 -- a session with a count of k, n edits recorded, and one edit in front of 31 others
 abbrev session : ℕ → ℕ → Edit → Session
-session k n e = record { count = record { 0 = k }; recorded = n; edits = e ∷ replicate 31 noEdit }
+session k n e = record { count = record { 0 = k }; recorded = n; edits = e ∷ replicate 31 no_edit }
 
 abbrev new : Session
-new = session 2 0 noEdit
+new = session 2 0 no_edit
 
 -- a new session has the count that is given, and nothing recorded
-pub new-shown : newSession (record { 0 = 2 }) ≡ new
-new-shown = refl
+pub new_shown : new_session (record { 0 = 2 }) ≡ new
+new_shown = refl
 
 -- ---- on a panel of 2 by 2, from (1, 1) to (2, 1)
 
@@ -40,55 +40,55 @@ abbrev bulged : List ℕ
 bulged = 1 ∷ 1 ∷ 1 ∷ 2 ∷ 2 ∷ 2 ∷ 2 ∷ 1 ∷ []
 
 abbrev checked : Command → Session → List ℕ → Check
-checked c s buffer = editCheck (panel 2 2 4000) (cell 1 1) (cell 2 1) c s buffer 4
+checked c s buffer = edit_check (panel 2 2 4000) (cell 1 1) (cell 2 1) c s buffer 4
 
 -- right of the way there is room for the bulge, left of it not: 22, also where the buffer is too short; 5 where it is only that
-pub edits-shown : (checked (Bulge 1 false) new long ≡ Good)
-    × (checked (Press 1) (session 4 0 noEdit) bulged ≡ Good)
+pub edits_shown : (checked (Bulge 1 false) new long ≡ Good)
+    × (checked (Press 1) (session 4 0 no_edit) bulged ≡ Good)
     × (checked (Bulge 1 true) new long ≡ Refused NoSuchEdit)
     × (checked (Bulge 1 true) new short ≡ Refused NoSuchEdit)
     × (checked (Bulge 1 false) new short ≡ Refused ShortBuffer)
 unfolding apart dist
-edits-shown = (refl, refl, refl, refl, refl)
+edits_shown = (refl, refl, refl, refl, refl)
 
 -- nothing is recorded: 23, whether or not the edit that is not recorded could be taken back
-pub nothing-shown : (checked TakeBack new long ≡ Refused NothingRecorded)
-    × (checked TakeBack (session 4 0 (bulgeAt 1 false)) bulged ≡ Refused NothingRecorded)
-    × (checked TakeBack (session 4 1 (bulgeAt 1 false)) bulged ≡ Good)
+pub nothing_shown : (checked TakeBack new long ≡ Refused NothingRecorded)
+    × (checked TakeBack (session 4 0 (bulge_at 1 false)) bulged ≡ Refused NothingRecorded)
+    × (checked TakeBack (session 4 1 (bulge_at 1 false)) bulged ≡ Good)
 unfolding apart dist
-nothing-shown = (refl, refl, refl)
+nothing_shown = (refl, refl, refl)
 
 -- 32 edits recorded are good, 33 are not; nor is a count of 5 where the buffer holds 4
-pub claims-shown : (checked (Bulge 1 false) (session 2 32 noEdit) long ≡ Good)
-    × (checked (Bulge 1 false) (session 2 33 noEdit) long ≡ Refused ListLength)
-    × (checked (Press 1) (session 5 0 noEdit) bulged ≡ Refused ListLength)
+pub claims_shown : (checked (Bulge 1 false) (session 2 32 no_edit) long ≡ Good)
+    × (checked (Bulge 1 false) (session 2 33 no_edit) long ≡ Refused ListLength)
+    × (checked (Press 1) (session 5 0 no_edit) bulged ≡ Refused ListLength)
 unfolding apart dist
-claims-shown = (refl, refl, refl)
+claims_shown = (refl, refl, refl)
 
 -- ---- what is left
 
-abbrev sessionLeft : Command → Session → List ℕ → Session
-sessionLeft c s buffer = sessionAfter (checked c s buffer) c (editOf c s buffer) (sessionCells s buffer) s
+abbrev session_left : Command → Session → List ℕ → Session
+session_left c s buffer = session_after (checked c s buffer) c (edit_of c s buffer) (session_cells s buffer) s
 
-abbrev bufferLeft : Command → Session → List ℕ → List ℕ
-bufferLeft c s buffer = bufferAfter (checked c s buffer) (editOf c s buffer) (sessionCells s buffer) buffer
+abbrev buffer_left : Command → Session → List ℕ → List ℕ
+buffer_left c s buffer = buffer_after (checked c s buffer) (edit_of c s buffer) (session_cells s buffer) buffer
 
 -- a refused command leaves both as they were; a bulge is recorded at its place, and the byte behind it is 0; taking it back records nothing
-pub left-shown : (sessionLeft (Bulge 1 true) new long ≡ new)
-    × (bufferLeft (Bulge 1 true) new long ≡ long)
-    × (sessionLeft (Bulge 1 false) new long ≡ session 4 1 (bulgeAt 1 false))
-    × (bufferLeft (Bulge 1 false) new (long ++ (7 ∷ [])) ≡ bulged ++ (0 ∷ []))
-    × (sessionLeft TakeBack (session 4 1 (bulgeAt 1 false)) bulged ≡ session 2 0 (bulgeAt 1 false))
-    × (bufferLeft TakeBack (session 4 1 (bulgeAt 1 false)) bulged ≡ 1 ∷ 1 ∷ 2 ∷ 1 ∷ 0 ∷ 0 ∷ 0 ∷ 0 ∷ [])
+pub left_shown : (session_left (Bulge 1 true) new long ≡ new)
+    × (buffer_left (Bulge 1 true) new long ≡ long)
+    × (session_left (Bulge 1 false) new long ≡ session 4 1 (bulge_at 1 false))
+    × (buffer_left (Bulge 1 false) new (long ++ (7 ∷ [])) ≡ bulged ++ (0 ∷ []))
+    × (session_left TakeBack (session 4 1 (bulge_at 1 false)) bulged ≡ session 2 0 (bulge_at 1 false))
+    × (buffer_left TakeBack (session 4 1 (bulge_at 1 false)) bulged ≡ 1 ∷ 1 ∷ 2 ∷ 1 ∷ 0 ∷ 0 ∷ 0 ∷ 0 ∷ [])
 unfolding apart dist
-left-shown = (refl, refl, refl, refl, refl, refl)
+left_shown = (refl, refl, refl, refl, refl, refl)
 
 -- a press is recorded with the side that its detour is on: here right of the way
-pub side-shown : sessionLeft (Press 1) (session 4 0 noEdit) bulged ≡ session 2 1 (record { place = 1; bulge = false; left = false })
+pub side_shown : session_left (Press 1) (session 4 0 no_edit) bulged ≡ session 2 1 (record { place = 1; bulge = false; left = false })
 unfolding apart dist
-side-shown = refl
+side_shown = refl
 
 -- where 32 edits are recorded the oldest is dropped
-pub dropped-shown : onRecord (bulgeAt 2 true) 4 (session 2 32 (bulgeAt 1 true))
-    ≡ record { count = record { 0 = 4 }; recorded = 32; edits = replicate 31 noEdit ++ (bulgeAt 2 true ∷ []) }
-dropped-shown = refl
+pub dropped_shown : on_record (bulge_at 2 true) 4 (session 2 32 (bulge_at 1 true))
+    ≡ record { count = record { 0 = 4 }; recorded = 32; edits = replicate 31 no_edit ++ (bulge_at 2 true ∷ []) }
+dropped_shown = refl

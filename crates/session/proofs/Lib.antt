@@ -1,3 +1,2 @@
 pub mod Examples
-pub mod Passed
 pub mod Leaving

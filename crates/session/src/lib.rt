@@ -1,34 +1,25 @@
 // An edit session: a drawing is edited by bulges and presses, and its last edits can be taken back. The session
 // is lent to the one call; the list is in a lent buffer beside it.
+#![tactic(auto)]
+
+ghost use Rattle.std.specs.Prelude.{◌≡◌, true, cond, [], ◌∷◌, ◌++◌, ◌+◌, ◌-◌, ◌*◌, ◌≤◌, length, drop};
+ghost use Rattle.grid.specs.declared.CellsAnswer.TheVariants.{Refused};
+ghost use Rattle.grid.specs.Panel.{good_sides};
+ghost use Rattle.grid.specs.Bytes.{cells_in, front};
+ghost use Rattle.session.specs.Session.{kept_edits, new_session, list_cells, ready, newest, meant, on_record, off_record, changed};
+ghost use Rattle.session.specs.Edits.{edit_test, EditLeaves, Edits};
+
 use detour::Edit;
-use edit_list::can_edit;
-use edit_list::make;
-use edit_list::opposite;
-use edit_list::press_at;
-use grid::Cell;
-use grid::Cells;
-use grid::CellsAnswer;
-use grid::Check;
-use grid::Panel;
-use grid::Refusal;
-use grid::expect;
+use edit_list::{can_edit, make, opposite, press_at};
+use grid::{Cell, Cells, CellsAnswer, Check, Panel, Refusal, expect};
 use judge::judge;
-ghost use mathlib.Core.Path.{_≡_};
-ghost use mathlib.Core.Bool.{true, cond};
-ghost use mathlib.Core.List.{[], _∷_, _++_};
-ghost use Prim.Native.Nat.{_+_, _-_, _*_, _≤_};
-ghost use lib.ListN.{length, drop};
-ghost use Rattle·grid.specs.declared.CellsAnswer.the-variants.{Refused};
-ghost use Rattle·grid.specs.Panel.{goodSides};
-ghost use Rattle·grid.specs.Bytes.{cellsIn, front};
-ghost use Rattle·session·specs.specs.Session.{keptEdits, newSession, listCells, ready, newest, meant, onRecord, offRecord, changed};
-ghost use Rattle·session·specs.specs.Edits.{editTest, EditLeaves, Edits};
 
 // How many edits a session keeps.
 const KEPT_EDITS: usize = 32;
 
 // An edit session, which is an undo history: the cell count of a drawing, how many edits are recorded, and the
 // edits, oldest first.
+#[derive(Clone, Copy)]
 pub struct Session {
     pub count: Cells,
     pub recorded: u32,
@@ -36,6 +27,7 @@ pub struct Session {
 }
 
 // A bulge at a place, left of the way or else right; a press at a place; or the newest edit taken back.
+#[derive(Clone, Copy)]
 pub enum Command {
     Bulge(u32, bool),
     Press(u32),
@@ -43,6 +35,7 @@ pub enum Command {
 }
 
 // What the call answers, with the session that it leaves.
+#[derive(Clone, Copy)]
 pub struct Edited {
     pub session: Session,
     pub answer: CellsAnswer,
@@ -50,7 +43,7 @@ pub struct Edited {
 
 // A session without edits. The count is not tested.
 pub fn new_session(count: Cells) -> Session
-    ensures { λ r. ⌜ r ≡ newSession count ⌝ }
+    ensures { result ≡ new_session count }
 {
     let none = Edit {
         place: 0,
@@ -67,7 +60,7 @@ pub fn new_session(count: Cells) -> Session
 // How many cells of a buffer are the session's list; 0, which Judge refuses, where the buffer has fewer than the
 // count or too many edits are claimed.
 fn list_cells(s: Session, bytes: usize) -> usize
-    ensures { λ r. ⌜ r ≡ listCells s bytes ⌝ }
+    ensures { result ≡ list_cells s bytes }
 {
     let cells = s.count.0 as usize;
     if bytes < 2 * cells {
@@ -81,7 +74,7 @@ fn list_cells(s: Session, bytes: usize) -> usize
 
 // Whether what the command takes back, if it does, is recorded.
 fn ready(c: Command, s: Session) -> bool
-    ensures { λ r. ⌜ r ≡ ready c s ⌝ }
+    ensures { result ≡ ready c s }
 {
     match c {
         Command::Bulge(_, _) => true,
@@ -92,8 +85,8 @@ fn ready(c: Command, s: Session) -> bool
 
 // The newest recorded edit.
 fn newest(s: Session) -> Edit
-    requires { ⌜ (1 ≤ s .recorded) × (s .recorded ≤ keptEdits) ⌝ }
-    ensures { λ r. ⌜ r ≡ newest s ⌝ }
+    requires { (1 ≤ s.recorded) × (s.recorded ≤ kept_edits) }
+    ensures { result ≡ newest s }
 {
     let edits = s.edits;
     edits[s.recorded as usize - 1]
@@ -101,9 +94,9 @@ fn newest(s: Session) -> Edit
 
 // The edit that the command makes of the list.
 fn meant(c: Command, s: Session, list: &[u8]) -> Edit
-    requires few { ⌜ s .recorded ≤ keptEdits ⌝ }
-    requires taken { ⌜ ready c s ≡ true ⌝ }
-    ensures { λ r. ⌜ r ≡ meant c s (cellsIn (now (list .entry))) ⌝ }
+    requires few { s.recorded ≤ kept_edits }
+    requires taken { ready c s ≡ true }
+    ensures { result ≡ meant c s (cells_in list.now) }
 {
     match c {
         Command::Bulge(place, left) => Edit {
@@ -118,7 +111,7 @@ fn meant(c: Command, s: Session, list: &[u8]) -> Edit
 
 // The edits without the oldest, and with e for the newest.
 fn shifted(edits: [Edit; KEPT_EDITS], e: Edit) -> [Edit; KEPT_EDITS]
-    ensures { λ r. ⌜ r ≡ drop 1 edits ++ (e ∷ []) ⌝ }
+    ensures { result ≡ drop 1 edits ++ (e ∷ []) }
 {
     let mut all = [e; KEPT_EDITS];
     let mut i = 0;
@@ -131,7 +124,7 @@ fn shifted(edits: [Edit; KEPT_EDITS], e: Edit) -> [Edit; KEPT_EDITS]
 
 // The session with the edit recorded.
 fn on_record(e: Edit, count: Cells, s: Session) -> Session
-    ensures { λ r. ⌜ r ≡ onRecord e (count .0) s ⌝ }
+    ensures { result ≡ on_record e count.0 s }
 {
     let mut edits = s.edits;
     if KEPT_EDITS <= s.recorded as usize {
@@ -151,8 +144,8 @@ fn on_record(e: Edit, count: Cells, s: Session) -> Session
 
 // The session with the newest edit off the record.
 fn off_record(count: Cells, s: Session) -> Session
-    requires { ⌜ 1 ≤ s .recorded ⌝ }
-    ensures { λ r. ⌜ r ≡ offRecord (count .0) s ⌝ }
+    requires { 1 ≤ s.recorded }
+    ensures { result ≡ off_record count.0 s }
 {
     let edits = s.edits;
     Session {
@@ -164,8 +157,8 @@ fn off_record(count: Cells, s: Session) -> Session
 
 // The session after a command whose edit is made.
 fn changed(c: Command, e: Edit, count: Cells, s: Session) -> Session
-    requires { ⌜ ready c s ≡ true ⌝ }
-    ensures { λ r. ⌜ r ≡ changed c e (count .0) s ⌝ }
+    requires { ready c s ≡ true }
+    ensures { result ≡ changed c e count.0 s }
 {
     match c {
         Command::Bulge(_, _) => on_record(e, count, s),
@@ -176,16 +169,16 @@ fn changed(c: Command, e: Edit, count: Cells, s: Session) -> Session
 
 // How many cells the list has after an edit.
 fn cells_after(cells: usize, e: Edit) -> usize
-    requires { ⌜ (2 ≤ cells) × (cells ≤ 16384) ⌝ }
-    ensures { λ r. ⌜ r ≡ cond (e .bulge) (cells + 2) (cells - 2) ⌝ }
+    requires { (2 ≤ cells) × (cells ≤ 16384) }
+    ensures { result ≡ cond e.bulge (cells + 2) (cells - 2) }
 {
     if e.bulge { cells + 2 } else { cells - 2 }
 }
 
 // 22, then 5, of an edit of the list of so many cells in front of a buffer.
 fn check_edit(p: Panel, e: Edit, cells: usize, list: &[u8]) -> Check
-    requires { ⌜ (2 * cells ≤ length (now list)) × (cells ≤ 16384) ⌝ }
-    ensures { λ r. ⌜ r ≡ editTest p e (front cells (now (list .entry))) (length (now (list .entry))) ⌝ }
+    requires { (2 * cells ≤ length list.now) × (cells ≤ 16384) }
+    ensures { result ≡ edit_test p e (front cells list.now) (length list.now) }
 {
     if !can_edit(p, &list[..2 * cells], e) {
         return Check::Refused(Refusal::NoSuchEdit);
@@ -195,7 +188,7 @@ fn check_edit(p: Panel, e: Edit, cells: usize, list: &[u8]) -> Check
 }
 
 fn refused(s: Session, r: Refusal) -> Edited
-    ensures { λ d. ⌜ (d .session ≡ s) × (d .answer ≡ Refused r) ⌝ }
+    ensures { (result.session ≡ s) × (result.answer ≡ Refused r) }
 {
     Edited {
         session: s,
@@ -205,11 +198,11 @@ fn refused(s: Session, r: Refusal) -> Edited
 
 // The edit of a list that Judge accepts, behind 22 and 5.
 fn edit_judged(s: Session, c: Command, e: Edit, p: Panel, cells: usize, list: &mut [u8]) -> Edited
-    requires held { ⌜ (2 * cells ≤ length (now list)) × (cells ≤ 16384) ⌝ }
-    requires good { ⌜ goodSides p ≡ true ⌝ }
-    requires taken { ⌜ ready c s ≡ true ⌝ }
-    ensures { λ r. ⌜ EditLeaves (editTest p e (front cells (now (list .entry))) (length (now (list .entry))))
-        c e (front cells (now (list .entry))) s (now (list .entry)) (r .session) (now (list .exit)) (r .answer) ⌝ }
+    requires held { (2 * cells ≤ length list.old) × (cells ≤ 16384) }
+    requires good { good_sides p ≡ true }
+    requires taken { ready c s ≡ true }
+    ensures { EditLeaves (edit_test p e (front cells list.old) (length list.old))
+        c e (front cells list.old) s list.old result.session list.new result.answer }
 {
     let told = check_edit(p, e, cells, list);
     if let Check::Refused(r) = told {
@@ -233,8 +226,8 @@ fn edit_value(
     list: &mut [u8],
     scratch: &mut [u8],
 ) -> Edited
-    ensures { λ r. ⌜ Edits p entry exit c s (now (list .entry)) (now (scratch .entry))
-        (r .session) (now (list .exit)) (now (scratch .exit)) (r .answer) ⌝ }
+    ensures { Edits p entry exit c s list.old scratch.old
+        result.session list.new scratch.new result.answer }
 {
     let cells = list_cells(s, list.len());
     let judged = judge(p, entry, exit, &list[..2 * cells], scratch);
@@ -258,8 +251,8 @@ pub fn edit_drawing(
     list: &mut [u8],
     scratch: &mut [u8],
 ) -> CellsAnswer
-    ensures { λ r. ⌜ Edits p entry exit c (now (s .entry)) (now (list .entry)) (now (scratch .entry))
-        (now (s .exit)) (now (list .exit)) (now (scratch .exit)) r ⌝ }
+    ensures { Edits p entry exit c s.old list.old scratch.old
+        s.new list.new scratch.new result }
 {
     let was = *s;
     let done = edit_value(was, c, p, entry, exit, list, scratch);
@@ -277,8 +270,8 @@ pub fn edit_lent(
     list: &mut [u8],
     scratch: &mut [u8],
 ) -> Edited
-    ensures { λ r. ⌜ Edits p entry exit c s (now (list .entry)) (now (scratch .entry))
-        (r .session) (now (list .exit)) (now (scratch .exit)) (r .answer) ⌝ }
+    ensures { Edits p entry exit c s list.old scratch.old
+        result.session list.new scratch.new result.answer }
 {
     let mut lent = s;
     let answer = edit_drawing(&mut lent, c, p, entry, exit, list, scratch);

@@ -1,26 +1,11 @@
 // The call with parts of buffers, and lines of text that say what it is called with.
-use grid::Cell;
-use grid::Cells;
-use grid::CellsValues;
-use grid::Panel;
-use grid::cells_values;
-use grid::panel_of;
-use session::Command;
-use session::Edited;
-use session::Session;
-use session::edit_lent;
-use session::new_session;
+use grid::{Cell, Cells, CellsValues, Panel, cells_values, panel_of};
+use session::{Command, Edited, Session, edit_lent, new_session};
+use std::io;
 use trial::PITCH;
-use trial::cells::Order;
-use trial::cells::cell_at;
-use trial::cells::count;
-use trial::cells::put;
-use trial::cells::wide;
-use trial::numbers::add;
-use trial::numbers::at_most;
-use trial::numbers::scrambled;
-use trial::print::row;
-use trial::print::text;
+use trial::cells::{Order, cell_at, count, put, wide};
+use trial::numbers::{add, at_most, scrambled};
+use trial::print::{row, text};
 
 // The buffers of a line: room for ten cells, and for the marks of 258.
 const LIST: usize = 20;
@@ -30,30 +15,14 @@ const SCRATCH: usize = 258;
 // What a letter from a to r stands for as a number, or the sign 64 before it; q is one whose double is 6 in 32
 // bits, r the largest.
 const VALUES: [u32; 19] = [
-    0,
-    10,
-    11,
-    12,
-    13,
-    15,
-    31,
-    32,
-    33,
-    127,
-    128,
-    129,
-    255,
-    999,
-    1000,
-    10000,
-    10001,
-    2147483651,
+    0, 10, 11, 12, 13, 15, 31, 32, 33, 127, 128, 129, 255, 999, 1000, 10000, 10001, 2147483651,
     4294967295,
 ];
 
 // A session with its list, and the numbers that are set by letters: width, height and pitch; the entry, i and j;
 // the exit, x and y; the session's count, and how many edits are recorded; and how many bytes of the buffers for
 // the list (n) and for scratch are lent.
+#[derive(Clone, Copy)]
 struct Desk {
     session: Session,
     numbers: [u32; 32],
@@ -85,6 +54,7 @@ pub fn called(
 }
 
 // An edit's place, 1 for a bulge and 1 for left.
+#[derive(Clone, Copy)]
 struct Newest {
     place: u32,
     bulge: u32,
@@ -133,40 +103,41 @@ fn digest(s: Session) -> u32 {
     sum
 }
 
-fn print_list(list: [u8; LIST]) {
+fn print_list(rt: &impl Print, list: [u8; LIST]) -> io::Result<()> {
     let mut numbers = [0u32; LIST];
     let mut i = 0;
     while i < LIST {
         numbers[i] = wide(list[i]);
         i += 1;
     }
-    row(&numbers, b"\n");
+    row(rt, &numbers, b"\n")
 }
 
 // The line of a call, behind its pairs.
-fn print_call(v: CellsValues, s: Session, altered: bool, list: [u8; LIST], scratch: &[u8]) {
-    text(b"= ");
+fn print_call(
+    rt: &impl Print,
+    v: CellsValues,
+    s: Session,
+    altered: bool,
+    list: [u8; LIST],
+    scratch: &[u8],
+) -> io::Result<()> {
+    text(rt, b"= ")?;
     let e = newest_of(s);
     let zeros = count(scratch, 0);
     let kept = count(scratch, 255);
     row(
+        rt,
         &[
-            v.refusal,
-            v.cells.0,
-            s.count.0,
-            s.recorded,
-            e.place,
-            e.bulge,
-            e.left,
-            zeros,
-            kept,
+            v.refusal, v.cells.0, s.count.0, s.recorded, e.place, e.bulge, e.left, zeros, kept,
         ],
         b": ",
-    );
-    print_list(list);
+    )?;
+    print_list(rt, list)?;
     if altered {
-        text(b"the session is altered\n");
+        text(rt, b"the session is altered\n")?;
     }
+    Ok(())
 }
 
 // ---- the letters
@@ -226,7 +197,7 @@ fn is_altered(v: CellsValues, before: Session, after: Session) -> bool {
 }
 
 // Calls, and prints a line.
-fn tried(d: Desk, c: Command) -> Desk {
+fn tried(rt: &impl Print, d: Desk, c: Command) -> io::Result<Desk> {
     let mut scratch = [255u8; SCRATCH];
     let mut list = d.list;
     let s = session_of(d);
@@ -242,13 +213,14 @@ fn tried(d: Desk, c: Command) -> Desk {
     let answer = done.answer;
     let v = cells_values(answer);
     print_call(
+        rt,
         v,
         done.session,
         is_altered(v, s, done.session),
         list,
         &scratch,
-    );
-    left_with(d, done.session, list)
+    )?;
+    Ok(left_with(d, done.session, list))
 }
 
 // What a character stands for: a digit for its number, a letter or a sign for one of the values.
@@ -300,23 +272,23 @@ pub fn command_of(letter: u8, k: u32) -> Command {
 }
 
 // Prints a pair, and does what it says.
-fn read_pair(d: Desk, a: u8, b: u8) -> Desk {
+fn read_pair(rt: &impl Print, d: Desk, a: u8, b: u8) -> io::Result<Desk> {
     let k = value_of(b);
-    text(&[a, b, b' ']);
+    text(rt, &[a, b, b' '])?;
     if b'a' <= a {
-        return set(d, a, k);
+        return Ok(set(d, a, k));
     }
     if b'L' <= a {
-        return tried(d, command_of(a, k));
+        return tried(rt, d, command_of(a, k));
     }
     if b'A' <= a {
-        return with_edit(d, a, k);
+        return Ok(with_edit(d, a, k));
     }
     let c = Cell {
         x: value_of(a),
         y: k,
     };
-    with_cell(d, c)
+    Ok(with_cell(d, c))
 }
 
 // A new session, before its first cell. All bytes of the list's buffer are 255.
@@ -339,22 +311,23 @@ pub fn character(lines: &[u8], at: usize) -> u8 {
 }
 
 // The pair that is number i from 0. The end of its line ends the session.
-fn read_next(p: Panel, d: Desk, lines: &[u8], i: u32) -> Desk {
+fn read_next(rt: &impl Print, p: Panel, d: Desk, lines: &[u8], i: u32) -> io::Result<Desk> {
     let at = (i % 65536 * 3) as usize;
-    let next = read_pair(d, character(lines, at), character(lines, at + 1));
+    let next = read_pair(rt, d, character(lines, at), character(lines, at + 1))?;
     if character(lines, at + 2) == b'\n' {
-        return fresh(p);
+        return Ok(fresh(p));
     }
-    next
+    Ok(next)
 }
 
 // Pairs of characters with one between: x and y of a cell; L or R and a place, a bulge; P and a place, a press;
 // T0, taking back; or what is set by hand. Each line starts from a new session.
-pub fn try_lines(width: u32, height: u32, lines: &[u8]) {
+pub fn try_lines(rt: &impl Print, width: u32, height: u32, lines: &[u8]) -> io::Result<()> {
     let p = panel_of(width, height, PITCH);
     let mut d = fresh(p);
     let n = (lines.len() / 3 % 65536) as u32;
     for i in 0..n {
-        d = read_next(p, d, lines, i);
+        d = read_next(rt, p, d, lines, i)?;
     }
+    Ok(())
 }

@@ -1,36 +1,14 @@
 // Edits made up by a fixed sequence, on small panels, beside the plain way.
-use crate::desk::called;
-use crate::desk::character;
-use crate::desk::command_of;
-use crate::plain::Answer;
-use crate::plain::COUNT;
-use crate::plain::Plain;
-use crate::plain::answered;
-use crate::plain::build;
-use crate::plain::fits;
-use grid::Cell;
-use grid::Cells;
-use grid::Panel;
-use grid::area_of;
-use grid::cells_values;
-use grid::panel_of;
+use crate::desk::{called, character, command_of};
+use crate::plain::{Answer, COUNT, Plain, answered, build, fits};
+use grid::{Cell, Cells, Panel, area_of, cells_values, panel_of};
 use judge::judge;
-use session::Edited;
-use session::Session;
-use session::new_session;
+use session::{Edited, Session, new_session};
+use std::io;
 use trial::PITCH;
-use trial::cells::Order;
-use trial::cells::cell_at;
-use trial::cells::count;
-use trial::cells::put;
-use trial::cells::same;
-use trial::numbers::add;
-use trial::numbers::at_most;
-use trial::numbers::below;
-use trial::numbers::made_up;
-use trial::numbers::pick;
-use trial::print::row;
-use trial::print::text;
+use trial::cells::{Order, cell_at, count, put, same};
+use trial::numbers::{add, at_most, below, made_up, pick};
+use trial::print::{row, text};
 
 // How many runs there are, of how many calls.
 const RUNS: u32 = 16;
@@ -49,6 +27,7 @@ const ROWS: usize = 13668;
 const DIFFERENT: u32 = 7;
 
 // A session with its list, the plain way beside it, and the tally.
+#[derive(Clone, Copy)]
 struct Both {
     session: Session,
     list: [u8; LIST],
@@ -261,13 +240,14 @@ fn order_of(code: u32) -> Order {
     }
 }
 
-pub fn run() {
+pub fn run(rt: &impl Print) -> io::Result<()> {
     let mut tally = [0u32; 8];
     for code in 0..RUNS {
         tally = try_run(code, order_of(code), tally);
     }
     text(
+        rt,
         b"made up: bulges left and right, presses, takings back; refused by 22, 23, 5; different\n",
-    );
-    row(&tally, b"\n");
+    )?;
+    row(rt, &tally, b"\n")
 }

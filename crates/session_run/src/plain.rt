@@ -1,13 +1,9 @@
 // What edits must do, by the words of the request: each edit builds a new list behind the one that it found, so
 // that taking back is going back to that one. A command is L or R for a bulge, P for a press or T for taking back,
 // and a place.
-use grid::Cell;
-use grid::Panel;
+use grid::{Cell, Panel};
 use std::num::wrapping_sub_u32;
-use trial::cells::cell_at;
-use trial::cells::on;
-use trial::cells::put;
-use trial::cells::same;
+use trial::cells::{cell_at, on, put, same};
 use trial::numbers::add;
 
 // A list has a row of 34 pairs of bytes: up to 30 cells, zeros behind, and from pair 32 how many cells there are.
@@ -22,6 +18,7 @@ const KEPT: u32 = 32;
 
 // Where the row of the list begins, and how many cells it has; how many the lent buffer has room for; how many
 // edits may be taken back.
+#[derive(Clone, Copy)]
 pub struct Plain {
     pub row: u32,
     pub cells: u32,
@@ -30,6 +27,7 @@ pub struct Plain {
 }
 
 // The refusal, 0 for none, with what is left.
+#[derive(Clone, Copy)]
 pub struct Answer {
     pub refusal: u32,
     pub plain: Plain,

@@ -1,18 +1,20 @@
 // The plans as code: each function gives the plan of its name in the crate plan (specs/Plan.antt).
+#![tactic(auto)]
+
+ghost use Rattle.std.specs.Prelude.{◌≡◌, ◌-◌, ◌≤◌};
+ghost use Rattle.plan.specs.declared.Plan.TheVariants.{One};
+ghost use Rattle.plan.specs.Leg.{cell, forth};
+ghost use Rattle.plan.specs.Plan.{split, bridge, wrap, round, zigzag, middle};
+ghost use Rattle.plan.specs.Small.{SmallOrder};
+
 use crate::motions::less;
 use grid::Cell;
-use plan::Leg;
-use plan::Plan;
-ghost use mathlib.Core.Path.{_≡_};
-ghost use Prim.Native.Nat.{_-_, _≤_};
-ghost use Rattle·plan.specs.declared.Plan.the-variants.{One};
-ghost use Rattle·plan.specs.Leg.{cell, forth};
-ghost use Rattle·plan.specs.Plan.{split, bridge, wrap, round, zigzag, middle};
-ghost use Rattle·plan.specs.Small.{SmallOrder};
+use plan::{Leg, Plan};
 
 pub mod motions;
 
 // How a plan is moved: turned, or mirrored so that x, or y, becomes the number less it.
+#[derive(Clone, Copy)]
 pub enum Motion {
     Turn,
     MirrorX(u32),
@@ -21,16 +23,17 @@ pub enum Motion {
 
 // A corner track by itself.
 pub fn alone(a: Cell, b: Cell, t: Cell, back: bool) -> Plan
-    ensures { λ r. ⌜ r ≡ One (record { a = a; b = b; t = t; back = back }) ⌝ }
+    ensures { result ≡ One (record { a = a; b = b; t = t; back = back }) }
 {
     Plan::One(Leg { a, b, t, back })
 }
 
 // Two blocks, columns 1 to c and c + 1 to m, joined in row j, which is 1 or n.
+#[tactic(auto, unfolding(plan::specs::Plan::split))]
 pub fn split(m: u32, n: u32, s: Cell, t: Cell, c: u32, j: u32) -> Plan
-    requires { ⌜ n ≤ 128 ⌝ }
-    requires { ⌜ c ≤ 130 ⌝ }
-    ensures { λ r. ⌜ r ≡ split m n s t c j ⌝ }
+    requires n_bound { n ≤ 128 }
+    requires c_bound { c ≤ 130 }
+    ensures { result ≡ split m n s t c j }
 {
     let far = less(n + 1, j);
     Plan::Two(
@@ -50,9 +53,10 @@ pub fn split(m: u32, n: u32, s: Cell, t: Cell, c: u32, j: u32) -> Plan
 }
 
 // The rows from 3 on split after column c, joined by rows 1 and 2.
+#[tactic(auto, unfolding(plan::specs::Plan::bridge))]
 pub fn bridge(m: u32, n: u32, s: Cell, t: Cell, c: u32) -> Plan
-    requires { ⌜ c ≤ 130 ⌝ }
-    ensures { λ r. ⌜ r ≡ bridge m n s t c ⌝ }
+    requires { c ≤ 130 }
+    ensures { result ≡ bridge m n s t c }
 {
     Plan::Three(
         Leg {
@@ -77,9 +81,10 @@ pub fn bridge(m: u32, n: u32, s: Cell, t: Cell, c: u32) -> Plan
 }
 
 // Once around t, the right neighbour of s.
+#[tactic(auto, unfolding(plan::specs::Plan::wrap))]
 pub fn wrap(m: u32, n: u32, s: Cell, t: Cell) -> Plan
-    requires { ⌜ SmallOrder m n s t ⌝ }
-    ensures { λ r. ⌜ r ≡ wrap m n s t ⌝ }
+    requires { SmallOrder m n s t }
+    ensures { result ≡ wrap m n s t }
 {
     let x = s.x;
     let y = s.y;
@@ -119,8 +124,9 @@ pub fn wrap(m: u32, n: u32, s: Cell, t: Cell) -> Plan
 }
 
 // Three rows: the columns from x to far, entered in row r and left in row q.
+#[tactic(auto, unfolding(plan::specs::Plan::round))]
 pub fn round(x: u32, far: u32, r: u32, q: u32) -> Leg
-    ensures { λ g. ⌜ g ≡ round x far r q ⌝ }
+    ensures { result ≡ round x far r q }
 {
     if r == 2 {
         return columns(x, far, q, r, true);
@@ -130,7 +136,7 @@ pub fn round(x: u32, far: u32, r: u32, q: u32) -> Leg
 
 // The leg in the columns from x to far, its corner in row r and its target in row q of column x.
 fn columns(x: u32, far: u32, r: u32, q: u32, back: bool) -> Leg
-    ensures { λ g. ⌜ g ≡ record { a = cell x r; b = cell far (4 - r); t = cell x q; back = back } ⌝ }
+    ensures { result ≡ record { a = cell x r; b = cell far (4 - r); t = cell x q; back = back } }
 {
     let opposite = less(4, r);
     Leg {
@@ -146,7 +152,7 @@ fn columns(x: u32, far: u32, r: u32, q: u32, back: bool) -> Leg
 
 // A line of a row, from column x to column far.
 fn row(x: u32, far: u32, y: u32) -> Leg
-    ensures { λ g. ⌜ g ≡ forth (cell x y) (cell far y) (cell far y) ⌝ }
+    ensures { result ≡ forth (cell x y) (cell far y) (cell far y) }
 {
     Leg {
         a: Cell { x, y },
@@ -158,9 +164,10 @@ fn row(x: u32, far: u32, y: u32) -> Leg
 
 // Three rows, all different: along s's row, around on the right, back in the row r, around on the
 // left, along t's row.
+#[tactic(auto, unfolding(plan::specs::Plan::zigzag))]
 pub fn zigzag(m: u32, s: Cell, t: Cell, r: u32) -> Plan
-    requires { ⌜ SmallOrder m 3 s t ⌝ }
-    ensures { λ p. ⌜ p ≡ zigzag m s t r ⌝ }
+    requires { SmallOrder m 3 s t }
+    ensures { result ≡ zigzag m s t r }
 {
     Plan::Five(
         row(s.x, t.x, s.y),
@@ -172,8 +179,9 @@ pub fn zigzag(m: u32, s: Cell, t: Cell, r: u32) -> Plan
 }
 
 // Three rows: two blocks joined in row 2.
+#[tactic(auto, unfolding(plan::specs::Plan::middle))]
 pub fn middle(m: u32, s: Cell, t: Cell) -> Plan
-    ensures { λ r. ⌜ r ≡ middle m s t ⌝ }
+    ensures { result ≡ middle m s t }
 {
     Plan::Two(
         Leg {

@@ -1,24 +1,22 @@
 // Plans turned, mirrored and walked the other way.
+ghost use Rattle.std.specs.Prelude.{◌≡◌, ◌-◌};
+ghost use Rattle.plan.specs.Leg.{moved_leg, moved_plan, reversed_leg, reversed_plan};
+ghost use Rattle.shapes.specs.Motion.{moved_cell};
+ghost use Rattle.plan.specs.declared.Plan.TheVariants.{Two, Three, Five};
+
 use crate::Motion;
-use grid::Cell;
-use grid::turn_cell;
-use plan::Leg;
-use plan::Plan;
-ghost use mathlib.Core.Path.{_≡_};
-ghost use Prim.Native.Nat.{_-_};
-ghost use Rattle·plan.specs.Leg.{movedLeg, movedPlan, reversedLeg, reversedPlan};
-ghost use Rattle·shapes·specs.specs.Motion.{movedCell};
-ghost use Rattle·plan.specs.declared.Plan.the-variants.{Two, Three, Five};
+use grid::{Cell, turn_cell};
+use plan::{Leg, Plan};
 
 // a - b, or 0
 pub fn less(a: u32, b: u32) -> u32
-    ensures { λ r. ⌜ r ≡ a - b ⌝ }
+    ensures { result ≡ a - b }
 {
     if a < b { 0 } else { a - b }
 }
 
 pub fn move_cell(k: Motion, c: Cell) -> Cell
-    ensures { λ r. ⌜ r ≡ movedCell k c ⌝ }
+    ensures { result ≡ moved_cell k c }
 {
     match k {
         Motion::Turn => turn_cell(c),
@@ -34,7 +32,7 @@ pub fn move_cell(k: Motion, c: Cell) -> Cell
 }
 
 pub fn move_leg(k: Motion, g: Leg) -> Leg
-    ensures { λ r. ⌜ r ≡ movedLeg (movedCell k) g ⌝ }
+    ensures { result ≡ moved_leg (moved_cell k) g }
 {
     Leg {
         a: move_cell(k, g.a),
@@ -45,19 +43,19 @@ pub fn move_leg(k: Motion, g: Leg) -> Leg
 }
 
 fn move_two(k: Motion, g: Leg, h: Leg) -> Plan
-    ensures { λ r. ⌜ r ≡ movedPlan (movedCell k) (Two g h) ⌝ }
+    ensures { result ≡ moved_plan (moved_cell k) (Two g h) }
 {
     Plan::Two(move_leg(k, g), move_leg(k, h))
 }
 
 fn move_three(k: Motion, g: Leg, h: Leg, i: Leg) -> Plan
-    ensures { λ r. ⌜ r ≡ movedPlan (movedCell k) (Three g h i) ⌝ }
+    ensures { result ≡ moved_plan (moved_cell k) (Three g h i) }
 {
     Plan::Three(move_leg(k, g), move_leg(k, h), move_leg(k, i))
 }
 
 fn move_five(k: Motion, g: Leg, h: Leg, i: Leg, j: Leg, l: Leg) -> Plan
-    ensures { λ r. ⌜ r ≡ movedPlan (movedCell k) (Five g h i j l) ⌝ }
+    ensures { result ≡ moved_plan (moved_cell k) (Five g h i j l) }
 {
     Plan::Five(
         move_leg(k, g),
@@ -69,7 +67,7 @@ fn move_five(k: Motion, g: Leg, h: Leg, i: Leg, j: Leg, l: Leg) -> Plan
 }
 
 pub fn move_plan(k: Motion, p: Plan) -> Plan
-    ensures { λ r. ⌜ r ≡ movedPlan (movedCell k) p ⌝ }
+    ensures { result ≡ moved_plan (moved_cell k) p }
 {
     match p {
         Plan::One(g) => Plan::One(move_leg(k, g)),
@@ -80,7 +78,7 @@ pub fn move_plan(k: Motion, p: Plan) -> Plan
 }
 
 pub fn reverse_leg(g: Leg) -> Leg
-    ensures { λ r. ⌜ r ≡ reversedLeg g ⌝ }
+    ensures { result ≡ reversed_leg g }
 {
     let a = g.a;
     let b = g.b;
@@ -94,19 +92,19 @@ pub fn reverse_leg(g: Leg) -> Leg
 }
 
 fn reverse_two(g: Leg, h: Leg) -> Plan
-    ensures { λ r. ⌜ r ≡ reversedPlan (Two g h) ⌝ }
+    ensures { result ≡ reversed_plan (Two g h) }
 {
     Plan::Two(reverse_leg(h), reverse_leg(g))
 }
 
 fn reverse_three(g: Leg, h: Leg, i: Leg) -> Plan
-    ensures { λ r. ⌜ r ≡ reversedPlan (Three g h i) ⌝ }
+    ensures { result ≡ reversed_plan (Three g h i) }
 {
     Plan::Three(reverse_leg(i), reverse_leg(h), reverse_leg(g))
 }
 
 fn reverse_five(g: Leg, h: Leg, i: Leg, j: Leg, k: Leg) -> Plan
-    ensures { λ r. ⌜ r ≡ reversedPlan (Five g h i j k) ⌝ }
+    ensures { result ≡ reversed_plan (Five g h i j k) }
 {
     Plan::Five(
         reverse_leg(k),
@@ -118,7 +116,7 @@ fn reverse_five(g: Leg, h: Leg, i: Leg, j: Leg, k: Leg) -> Plan
 }
 
 pub fn reverse_plan(p: Plan) -> Plan
-    ensures { λ r. ⌜ r ≡ reversedPlan p ⌝ }
+    ensures { result ≡ reversed_plan p }
 {
     match p {
         Plan::One(g) => Plan::One(reverse_leg(g)),

@@ -3,25 +3,18 @@
 // wanted count Exit's cell, against a plain scan of what the search found. Prints, for each class, the
 // number of pairs and the sum of their counts; how many pairs were wrong; how often Exit was to give a
 // cell, how often none, and how often it answered otherwise.
+#![tactic(auto)]
+
 use bound::bound_values;
 use exit::ExitAnswer;
-use grid::Cell;
-use grid::Cells;
-use grid::Panel;
-use grid::cells_values;
-use grid::number_of;
-use grid::panel_of;
+use grid::{Cell, Cells, Panel, cells_values, number_of, panel_of};
+use std::io;
 use trial::PITCH;
-use trial::cells::Order;
-use trial::cells::Tally;
-use trial::cells::is_track;
-use trial::cells::same;
-use trial::cells::tallied;
-use trial::print::named;
-use trial::print::tally;
-use trial::print::text;
+use trial::cells::{Order, Tally, is_track, same, tallied};
+use trial::print::{named, tally, text};
 
 // Pairs and cells for each class, and the wrong pairs; and how Exit answered.
+#[derive(Clone, Copy)]
 struct Totals {
     pairs: [u32; 7],
     cells: [u32; 7],
@@ -271,26 +264,26 @@ fn all_panels() -> Totals {
     t
 }
 
-fn print_class(t: Totals, class: usize) {
+fn print_class(rt: &impl Print, t: Totals, class: usize) -> io::Result<()> {
     if 7 <= class {
-        return;
+        return Ok(());
     }
-    named(b"class ", (class % 7) as u32);
-    named(b": pairs ", t.pairs[class]);
-    named(b", cells ", t.cells[class]);
-    text(b"\n");
+    named(rt, b"class ", (class % 7) as u32)?;
+    named(rt, b": pairs ", t.pairs[class])?;
+    named(rt, b", cells ", t.cells[class])?;
+    text(rt, b"\n")
 }
 
-fn main() {
+fn main(rt: HostRuntime) -> io::Result<()> {
     let t = all_panels();
-    print_class(t, 1);
-    print_class(t, 2);
-    print_class(t, 3);
-    print_class(t, 4);
-    print_class(t, 5);
-    print_class(t, 6);
-    named(b"wrong ", t.wrong);
-    text(b"\n");
-    text(b"exits: ");
-    tally(t.exits);
+    print_class(&rt, t, 1)?;
+    print_class(&rt, t, 2)?;
+    print_class(&rt, t, 3)?;
+    print_class(&rt, t, 4)?;
+    print_class(&rt, t, 5)?;
+    print_class(&rt, t, 6)?;
+    named(&rt, b"wrong ", t.wrong)?;
+    text(&rt, b"\n")?;
+    text(&rt, b"exits: ")?;
+    tally(&rt, t.exits)
 }

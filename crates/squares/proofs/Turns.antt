@@ -1,30 +1,35 @@
 -- One turn of the loop over the list: the cell behind the one at a byte, and the corners behind it; at the end none is left.
-use Prim.Native.Nat.{ℕ, _+_, _≤_, _<_}
+use Prim.Native.Nat.{ℕ, ◌+◌, ◌≤◌, ◌<◌}
 use native.Mathlib.Omega.{arith}
-use mathlib.Core.Path.{_≡_, sym, ap, _∙_}
-use mathlib.Core.Bool.{cond}
-use mathlib.Core.List.{List, _∷_}
+use mathlib.Core.Path.{◌≡◌, sym, ap, ◌∙◌}
+use mathlib.Core.Bool.{Bool, cond}
+use mathlib.Core.List.{List, ◌∷◌}
 use lib.ListN.{length, drop, length-drop}
-use Rattle·grid.specs.declared.Cell.{Cell}
-use Rattle·grid.specs.Bytes.{cellsIn}
-use Rattle·list.specs.List.{cellAt}
-use Rattle·list.proofs.Cells.{cells-next, length-cells}
-use Rattle·squares·specs.specs.Squares.{cornerBetween, corners}
-use Rattle·squares·proofs.proofs.Counted.{corners-few}
+use Rattle.grid.specs.declared.Cell.{Cell}
+use Rattle.grid.specs.Bytes.{cells_in}
+use Rattle.list.specs.List.{cell_at}
+use Rattle.list.proofs.Cells.{cells_next, length_cells}
+use Rattle.squares.specs.Squares.{corner_between, corners}
+use Rattle.squares.proofs.Counted.{corners_few}
 
 module _ (b : List ℕ) (i : ℕ) where
-  pub corner-turn : i + 5 < length b
-      → corners (cellsIn (drop i b)) ≡ cond (cornerBetween (cellAt b i) (cellAt b (i + 4))) 1 0 + corners (cellsIn (drop (i + 2) b))
-  corner-turn h =
-      ap corners (cells-next b i (omega arith) ∙ ap (λ (k : List Cell). cellAt b i ∷ k) behind)
-      ∙ ap (λ (k : List Cell). cond (cornerBetween (cellAt b i) (cellAt b (i + 4))) 1 0 + corners k) (sym behind)
+  pub corner_turn : i + 5 < length b
+      → corners (cells_in (drop i b)) ≡ cond (corner_between (cell_at b i) (cell_at b (i + 4))) 1 0 + corners (cells_in (drop (i + 2) b))
+  corner_turn h =
+      ap corners (cells_next b i (omega arith) ∙ ap (λ (k : List Cell). cell_at b i ∷ k) behind)
+      ∙ ap (λ (k : List Cell). cond (corner_between (cell_at b i) (cell_at b (i + 4))) 1 0 + corners k) (sym behind)
     where
-      behind : cellsIn (drop (i + 2) b) ≡ cellAt b (i + 2) ∷ cellAt b (i + 4) ∷ cellsIn (drop (i + 4 + 2) b)
+      behind : cells_in (drop (i + 2) b) ≡ cell_at b (i + 2) ∷ cell_at b (i + 4) ∷ cells_in (drop (i + 4 + 2) b)
       behind =
           let four : i + 2 + 2 ≡ i + 4 = omega arith in
-          cells-next b (i + 2) (omega arith)
-          ∙ ap (λ (k : ℕ). cellAt b (i + 2) ∷ cellsIn (drop k b)) four
-          ∙ ap (λ (k : List Cell). cellAt b (i + 2) ∷ k) (cells-next b (i + 4) (omega arith))
+          cells_next b (i + 2) (omega arith)
+          ∙ ap (λ (k : ℕ). cell_at b (i + 2) ∷ cells_in (drop k b)) four
+          ∙ ap (λ (k : List Cell). cell_at b (i + 2) ∷ k) (cells_next b (i + 4) (omega arith))
 
-  pub corner-end : length b ≤ i + 5 → corners (cellsIn (drop i b)) ≡ 0
-  corner-end h = omega (arith, corners-few (cellsIn (drop i b)), length-cells (drop i b), length-drop i b)
+  -- the same by a test that says whether that cell is a corner
+  pub turn_counted : (r : Bool) → i + 5 < length b → r ≡ corner_between (cell_at b i) (cell_at b (i + 4))
+      → corners (cells_in (drop i b)) ≡ cond r 1 0 + corners (cells_in (drop (i + 2) b))
+  turn_counted r h e = corner_turn h ∙ ap (λ (t : Bool). cond t 1 0 + corners (cells_in (drop (i + 2) b))) (sym e)
+
+  pub corner_end : length b ≤ i + 5 → corners (cells_in (drop i b)) ≡ 0
+  corner_end h = omega (arith, corners_few (cells_in (drop i b)), length_cells (drop i b), length-drop i b)

@@ -1,15 +1,17 @@
 // The corners of a list of cells, and its squares.
+#![tactic(auto)]
+
+ghost use Rattle.std.specs.Prelude.{◌≡◌, ◌≤◌, length};
+ghost use Rattle.grid.specs.Bytes.{cells_in};
+ghost use Rattle.squares.specs.Squares.{corner_between, corners, squares};
+
 use grid::Cell;
 use list::cell_at;
-ghost use mathlib.Core.Path.{_≡_};
-ghost use Prim.Native.Nat.{_≤_};
-ghost use lib.ListN.{length};
-ghost use Rattle·grid.specs.Bytes.{cellsIn};
-ghost use Rattle·squares·specs.specs.Squares.{cornerBetween, corners, squares};
 
 // Whether the cell between these two is a corner.
+#[tactic(auto, unfolding(crate::specs::Squares::corner_between))]
 pub fn corner_between(before: Cell, after: Cell) -> bool
-    ensures { λ r. ⌜ r ≡ cornerBetween before after ⌝ }
+    ensures { result ≡ corner_between before after }
 {
     if before.x == after.x {
         return false;
@@ -19,8 +21,8 @@ pub fn corner_between(before: Cell, after: Cell) -> bool
 
 // The number of corners of a list of at most 16,384 cells.
 pub fn corners_of(list: &[u8]) -> u32
-    requires { ⌜ length (now list) ≤ 32768 ⌝ }
-    ensures { λ r. ⌜ r ≡ corners (cellsIn (now (list .entry))) ⌝ }
+    requires { length list.now ≤ 32768 }
+    ensures { result ≡ corners (cells_in list.now) }
 {
     let mut corners = 0;
     let mut i = 0;
@@ -35,8 +37,8 @@ pub fn corners_of(list: &[u8]) -> u32
 
 // The squares of a list of at most 16,384 cells, in hundredths: 56 for a corner, 100 for every other cell.
 pub fn squares_of(list: &[u8]) -> u32
-    requires { ⌜ length (now list) ≤ 32768 ⌝ }
-    ensures { λ r. ⌜ r ≡ squares (cellsIn (now (list .entry))) ⌝ }
+    requires { length list.now ≤ 32768 }
+    ensures { result ≡ squares (cells_in list.now) }
 {
     let cells = (list.len() / 2) as u32;
     let corners = corners_of(list);

@@ -1,13 +1,13 @@
 // The step letters of a record: the letter of a step and the step of a letter, and the letters of a list.
-use grid::Cell;
-use grid::Refusal;
+#![tactic(auto)]
+
+ghost use Rattle.std.specs.Prelude.{◌≡◌, ◌≤◌, ◌+◌, length};
+ghost use Rattle.grid.specs.Panel.{OnPanel};
+ghost use Rattle.grid.specs.Bytes.{cells_in};
+ghost use Rattle.step_letters.specs.Letters.{letter, steps_of, step_by, largest_panel, with_letters};
+
+use grid::{Cell, Refusal};
 use list::cell_at;
-ghost use mathlib.Core.Path.{_≡_};
-ghost use Prim.Native.Nat.{_≤_, _+_};
-ghost use lib.ListN.{length};
-ghost use Rattle·grid.specs.Panel.{OnPanel};
-ghost use Rattle·grid.specs.Bytes.{cellsIn};
-ghost use Rattle·step_letters·specs.specs.Letters.{letter, stepsOf, stepBy, largestPanel, withLetters};
 
 // The letters: up, right, down, left.
 pub const NORTH: u8 = 0x4E;
@@ -19,13 +19,15 @@ pub const SOUTH: u8 = 0x53;
 pub const WEST: u8 = 0x57;
 
 // Where a letter leads.
+#[derive(Clone, Copy)]
 pub enum Stepped {
     Refused(Refusal),
     To(Cell),
 }
 
+#[tactic(auto, unfolding(crate::specs::Letters::letter))]
 fn letter_of(a: Cell, b: Cell) -> u8
-    ensures { λ r. ⌜ r ≡ letter a b ⌝ }
+    ensures { result ≡ letter a b }
 {
     if b.y < a.y {
         return NORTH;
@@ -41,8 +43,8 @@ fn letter_of(a: Cell, b: Cell) -> u8
 
 // The letters of a list, into the buffer from a place on.
 pub fn write_letters(list: &[u8], out: &mut [u8], from: usize)
-    requires { ⌜ from + stepsOf (cellsIn (now list)) ≤ length (now out) ⌝ }
-    ensures { λ _. ⌜ now (out .exit) ≡ withLetters from (cellsIn (now (list .entry))) (now (out .entry)) ⌝ }
+    requires { from + steps_of (cells_in list.now) ≤ length out.old }
+    ensures { out.new ≡ with_letters from (cells_in list.now) out.old }
 {
     let mut i = 0;
     let mut at = from;
@@ -54,9 +56,10 @@ pub fn write_letters(list: &[u8], out: &mut [u8], from: usize)
 }
 
 // Four letters lead to a cell, every other byte is refused.
+#[tactic(auto, unfolding(crate::specs::Letters::known, crate::specs::Letters::stepped))]
 pub fn step_by(c: Cell, letter: u8) -> Stepped
-    requires { ⌜ OnPanel largestPanel c ⌝ }
-    ensures { λ r. ⌜ r ≡ stepBy c letter ⌝ }
+    requires { OnPanel largest_panel c }
+    ensures { result ≡ step_by c letter }
 {
     match letter {
         NORTH => Stepped::To(Cell { x: c.x, y: c.y - 1 }),

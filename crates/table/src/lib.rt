@@ -1,18 +1,17 @@
 // The 3 by 3 panel: its longest tracks stand in a table, and a row of it is placed on the panel for
 // two terminals.
-use grid::Cell;
-use grid::turn_cell;
-ghost use mathlib.Core.Path.{_≡_};
-ghost use mathlib.Core.List.{_++_};
-ghost use Prim.Native.Nat.{ℕ, _≤_, _<_, _*_};
-ghost use lib.ListN.{length, drop};
-ghost use Rattle·grid.specs.Panel.{panel};
-ghost use Rattle·grid.specs.Bytes.{bytes};
-ghost use Rattle·line.specs.Line.{line};
-ghost use Rattle·list.specs.List.{withCells};
-ghost use Rattle·table·specs.specs.Order.{ReadyOrder};
-ghost use Rattle·table·specs.specs.Table.{entryAt, rowSize, rowCell, turnIf, mirror, mirrorCell, place, position, placedCell};
-ghost use Rattle·table·specs.specs.Table.{UpToFour, twos, toMirror, toTurn, rowOf, placingFrom, placing, tabled};
+#![tactic(auto)]
+
+ghost use Rattle.std.specs.Prelude.{◌≡◌, ◌++◌, ℕ, ◌≤◌, ◌<◌, ◌*◌, length, drop};
+ghost use Rattle.grid.specs.Panel.{panel};
+ghost use Rattle.grid.specs.Bytes.{bytes};
+ghost use Rattle.line.specs.Line.{line};
+ghost use Rattle.list.specs.List.{with_cells};
+ghost use Rattle.table.specs.Order.{ReadyOrder};
+ghost use Rattle.table.specs.Table.{entry_at, row_size, row_cell, turn_if, mirror, mirror_cell, place, position, placed_cell};
+ghost use Rattle.table.specs.Table.{UpToFour, twos, to_mirror, to_turn, row_of, placing_from, placing, tabled};
+
+use grid::{Cell, turn_cell};
 
 // A row for each pair of terminals up to turning, mirroring and exchanging: the number of cells,
 // then x and y of each.
@@ -29,6 +28,7 @@ const ROWS: [[u8; 19]; 8] = [
 
 // How a row is placed on the panel: turned, then mirrored in x (`across`) and in y (`down`), and
 // walked from its end where `back` is set.
+#[derive(Clone, Copy)]
 pub struct Placing {
     pub row: usize,
     pub turn: bool,
@@ -38,18 +38,18 @@ pub struct Placing {
 }
 
 fn entry(k: usize, i: usize) -> u8
-    requires { ⌜ k < 8 ⌝ }
-    requires { ⌜ i < 19 ⌝ }
-    ensures { λ r. ⌜ r ≡ entryAt k i ⌝ }
+    requires k_bound { k < 8 }
+    requires i_bound { i < 19 }
+    ensures { result ≡ entry_at k i }
 {
     ROWS[k][i]
 }
 
 // Cell j of row k.
 fn row_cell(k: usize, j: usize) -> Cell
-    requires { ⌜ k < 8 ⌝ }
-    requires { ⌜ j < 9 ⌝ }
-    ensures { λ r. ⌜ r ≡ rowCell k j ⌝ }
+    requires k_bound { k < 8 }
+    requires j_bound { j < 9 }
+    ensures { result ≡ row_cell k j }
 {
     let x = entry(k, 2 * j + 1);
     let y = entry(k, 2 * j + 2);
@@ -62,13 +62,13 @@ fn row_cell(k: usize, j: usize) -> Cell
 // ---- cells turned and mirrored
 
 fn turn_if(on: bool, c: Cell) -> Cell
-    ensures { λ r. ⌜ r ≡ turnIf on c ⌝ }
+    ensures { result ≡ turn_if on c }
 {
     if on { turn_cell(c) } else { c }
 }
 
 fn mirror_number(on: bool, a: u32) -> u32
-    ensures { λ r. ⌜ r ≡ mirror on a ⌝ }
+    ensures { result ≡ mirror on a }
 {
     if on {
         if 4 < a {
@@ -80,7 +80,7 @@ fn mirror_number(on: bool, a: u32) -> u32
 }
 
 fn mirror_cell(across: bool, down: bool, c: Cell) -> Cell
-    ensures { λ r. ⌜ r ≡ mirrorCell across down c ⌝ }
+    ensures { result ≡ mirror_cell across down c }
 {
     let x = mirror_number(across, c.x);
     let y = mirror_number(down, c.y);
@@ -89,7 +89,7 @@ fn mirror_cell(across: bool, down: bool, c: Cell) -> Cell
 
 // A cell of a row as it is placed.
 fn place_cell(p: Placing, c: Cell) -> Cell
-    ensures { λ r. ⌜ r ≡ place p c ⌝ }
+    ensures { result ≡ place p c }
 {
     mirror_cell(p.across, p.down, turn_if(p.turn, c))
 }
@@ -97,7 +97,7 @@ fn place_cell(p: Placing, c: Cell) -> Cell
 // ---- which row, and how it is placed
 
 fn count_twos(c: Cell) -> u32
-    ensures { λ r. ⌜ r ≡ twos c ⌝ }
+    ensures { result ≡ twos c }
 {
     if c.x == 2 {
         if c.y == 2 {
@@ -112,7 +112,7 @@ fn count_twos(c: Cell) -> u32
 }
 
 fn is_mirrored(a: u32, b: u32) -> bool
-    ensures { λ r. ⌜ r ≡ toMirror a b ⌝ }
+    ensures { result ≡ to_mirror a b }
 {
     if a == 2 {
         return b == 3;
@@ -121,7 +121,7 @@ fn is_mirrored(a: u32, b: u32) -> bool
 }
 
 fn is_turned(a: Cell, b: Cell) -> bool
-    ensures { λ r. ⌜ r ≡ toTurn a b ⌝ }
+    ensures { result ≡ to_turn a b }
 {
     if a.x == a.y {
         return b.x < b.y;
@@ -130,8 +130,8 @@ fn is_turned(a: Cell, b: Cell) -> bool
 }
 
 fn row_of(a: Cell, b: Cell) -> usize
-    requires { ⌜ UpToFour b ⌝ }
-    ensures { λ r. ⌜ r ≡ rowOf a b ⌝ }
+    requires { UpToFour b }
+    ensures { result ≡ row_of a b }
 {
     if a.x == 1 {
         let k = 2 * b.x + b.y;
@@ -144,8 +144,8 @@ fn row_of(a: Cell, b: Cell) -> usize
 }
 
 fn placing_from(a: Cell, b: Cell, back: bool) -> Placing
-    requires { ⌜ UpToFour b ⌝ }
-    ensures { λ r. ⌜ r ≡ placingFrom a b back ⌝ }
+    requires { UpToFour b }
+    ensures { result ≡ placing_from a b back }
 {
     let across = is_mirrored(a.x, b.x);
     let down = is_mirrored(a.y, b.y);
@@ -162,8 +162,8 @@ fn placing_from(a: Cell, b: Cell, back: bool) -> Placing
 }
 
 fn placing_of(s: Cell, t: Cell) -> Placing
-    requires { ⌜ UpToFour s × UpToFour t ⌝ }
-    ensures { λ r. ⌜ r ≡ placing s t ⌝ }
+    requires { UpToFour s × UpToFour t }
+    ensures { result ≡ placing s t }
 {
     if count_twos(t) < count_twos(s) {
         return placing_from(t, s, true);
@@ -174,8 +174,8 @@ fn placing_of(s: Cell, t: Cell) -> Placing
 // ---- the row's cells, written as they are placed
 
 fn position_of(back: bool, n: usize, i: usize) -> usize
-    requires { ⌜ i < n ⌝ }
-    ensures { λ r. ⌜ r ≡ position back n i ⌝ }
+    requires { i < n }
+    ensures { result ≡ position back n i }
 {
     if back {
         return n - (i + 1);
@@ -185,11 +185,11 @@ fn position_of(back: bool, n: usize, i: usize) -> usize
 
 // Writes the n cells of a row, as it is placed.
 fn write_row(p: Placing, n: usize, buf: &mut [u8])
-    requires { ⌜ p .row < 8 ⌝ }
-    requires { ⌜ n ≡ rowSize (p .row) ⌝ }
-    requires { ⌜ n ≤ 9 ⌝ }
-    requires { ⌜ 2 * n ≤ length (now buf) ⌝ }
-    ensures { λ _. ⌜ now (buf .exit) ≡ bytes (line (placedCell p) n) ++ drop (2 * n) (now (buf .entry)) ⌝ }
+    requires row_bound { p.row < 8 }
+    requires n_value { n ≡ row_size p.row }
+    requires n_bound { n ≤ 9 }
+    requires n_in_bounds { 2 * n ≤ length buf.old }
+    ensures { buf.new ≡ bytes (line (placed_cell p) n) ++ drop (2 * n) buf.old }
 {
     for i in 0..n {
         let j = position_of(p.back, n, i);
@@ -201,8 +201,8 @@ fn write_row(p: Placing, n: usize, buf: &mut [u8])
 
 // Draws the table's track of 3 by 3 cells, which serves every pitch.
 pub fn draw_small(s: Cell, t: Cell, buf: &mut [u8])
-    requires { ⌜ ((pitch : ℕ) → ReadyOrder (panel 3 3 pitch) s t (now buf)) ⌝ }
-    ensures { λ _. ⌜ now (buf .exit) ≡ withCells (tabled s t) (now (buf .entry)) ⌝ }
+    requires { (pitch : ℕ) → ReadyOrder (panel 3 3 pitch) s t buf.old }
+    ensures { buf.new ≡ with_cells (tabled s t) buf.old }
 {
     let placed = placing_of(s, t);
     let row = placed.row;

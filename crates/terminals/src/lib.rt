@@ -1,22 +1,19 @@
 // The tests on the terminals that the choice of a plan goes by: each function gives what the definition of its
 // name in the crate plan (specs/Plan.antt) does.
-use cases::is_black;
-use cases::is_end;
-use cases::is_odd;
-use grid::Cell;
-use grid::same_cell;
-ghost use mathlib.Core.Path.{_≡_};
-ghost use mathlib.Core.Bool.{not, cond, _&&_, _||_};
-ghost use Prim.Native.Nat.{_≤_, _+_};
-ghost use lib.Dec.{eqb, leb};
-ghost use Rattle·grid.specs.Panel.{black};
-ghost use Rattle·count.specs.Count.{odd};
-ghost use Rattle·plan.specs.Plan.{differ, critical, free, steep, corner, crossing};
-ghost use Rattle·plan.specs.Small.{SmallCells};
+#![tactic(auto)]
+
+ghost use Rattle.std.specs.Prelude.{◌≡◌, not, cond, ◌&&◌, ◌||◌, ◌≤◌, ◌+◌, eqb, leb};
+ghost use Rattle.grid.specs.Panel.{black};
+ghost use Rattle.count.specs.Count.{odd};
+ghost use Rattle.plan.specs.Plan.{differ, critical, free, steep, corner, crossing};
+ghost use Rattle.plan.specs.Small.{SmallCells};
+
+use cases::{is_black, is_end, is_odd};
+use grid::{Cell, same_cell};
 
 // Whether two cells differ in colour.
 pub fn colours_differ(a: Cell, b: Cell) -> bool
-    ensures { λ r. ⌜ r ≡ differ (black a) (black b) ⌝ }
+    ensures { result ≡ differ (black a) (black b) }
 {
     if is_black(a) {
         return !is_black(b);
@@ -25,7 +22,7 @@ pub fn colours_differ(a: Cell, b: Cell) -> bool
 }
 
 pub fn is_critical(m: u32, s: Cell, t: Cell) -> bool
-    ensures { λ r. ⌜ r ≡ critical m s t ⌝ }
+    ensures { result ≡ critical m s t }
 {
     if is_odd(m) {
         return false;
@@ -37,8 +34,8 @@ pub fn is_critical(m: u32, s: Cell, t: Cell) -> bool
 }
 
 pub fn is_free(c: u32, j: u32, s: Cell, t: Cell) -> bool
-    requires { ⌜ c ≤ 130 ⌝ }
-    ensures { λ r. ⌜ r ≡ free c j s t ⌝ }
+    requires { c ≤ 130 }
+    ensures { result ≡ free c j s t }
 {
     if same_cell(Cell { x: c, y: j }, s) {
         return false;
@@ -47,8 +44,8 @@ pub fn is_free(c: u32, j: u32, s: Cell, t: Cell) -> bool
 }
 
 pub fn is_steep(s: Cell, t: Cell) -> bool
-    requires { ⌜ SmallCells s t ⌝ }
-    ensures { λ r. ⌜ r ≡ steep s t ⌝ }
+    requires { SmallCells s t }
+    ensures { result ≡ steep s t }
 {
     if t.x + s.y < s.x + t.y {
         return true;
@@ -58,8 +55,8 @@ pub fn is_steep(s: Cell, t: Cell) -> bool
 
 // Whether s is in an even column and t in the next.
 pub fn even_and_beside(s: Cell, t: Cell) -> bool
-    requires { ⌜ s .x ≤ 130 ⌝ }
-    ensures { λ r. ⌜ r ≡ (not (odd (s .x)) && eqb (s .x + 1) (t .x)) ⌝ }
+    requires { s.x ≤ 130 }
+    ensures { result ≡ (not (odd s.x) && eqb (s.x + 1) t.x) }
 {
     if is_odd(s.x) {
         return false;
@@ -68,7 +65,7 @@ pub fn even_and_beside(s: Cell, t: Cell) -> bool
 }
 
 pub fn is_corner(m: u32, n: u32, c: Cell) -> bool
-    ensures { λ r. ⌜ r ≡ corner m n c ⌝ }
+    ensures { result ≡ corner m n c }
 {
     if is_end(m, c.x) {
         return is_end(n, c.y);
@@ -77,7 +74,7 @@ pub fn is_corner(m: u32, n: u32, c: Cell) -> bool
 }
 
 pub fn even_and_differ(n: u32, s: Cell, t: Cell) -> bool
-    ensures { λ r. ⌜ r ≡ (not (odd n) && differ (black s) (black t)) ⌝ }
+    ensures { result ≡ (not (odd n) && differ (black s) (black t)) }
 {
     if is_odd(n) {
         return false;
@@ -87,7 +84,7 @@ pub fn even_and_differ(n: u32, s: Cell, t: Cell) -> bool
 
 // The case that is bridged or wrapped: n odd, m even, s black, t white.
 pub fn odd_and_critical(m: u32, n: u32, s: Cell, t: Cell) -> bool
-    ensures { λ r. ⌜ r ≡ (odd n && critical m s t) ⌝ }
+    ensures { result ≡ (odd n && critical m s t) }
 {
     if is_odd(n) {
         return is_critical(m, s, t);
@@ -97,8 +94,8 @@ pub fn odd_and_critical(m: u32, n: u32, s: Cell, t: Cell) -> bool
 
 // Whether t is in the next column to s, which is an odd one.
 pub fn beside_and_odd(s: Cell, t: Cell) -> bool
-    requires { ⌜ s .x ≤ 130 ⌝ }
-    ensures { λ r. ⌜ r ≡ (eqb (s .x + 1) (t .x) && odd (s .x)) ⌝ }
+    requires { s.x ≤ 130 }
+    ensures { result ≡ (eqb (s.x + 1) t.x && odd s.x) }
 {
     if s.x + 1 == t.x {
         return is_odd(s.x);
@@ -108,7 +105,7 @@ pub fn beside_and_odd(s: Cell, t: Cell) -> bool
 
 // Whether a is at most b, and c at most d.
 pub fn both_at_most(a: u32, b: u32, c: u32, d: u32) -> bool
-    ensures { λ r. ⌜ r ≡ (leb a b && leb c d) ⌝ }
+    ensures { result ≡ (leb a b && leb c d) }
 {
     if a <= b {
         return c <= d;
@@ -118,8 +115,8 @@ pub fn both_at_most(a: u32, b: u32, c: u32, d: u32) -> bool
 
 // Whether a wrap is mirrored in y.
 pub fn wraps_below(n: u32, s: Cell) -> bool
-    requires { ⌜ s .y ≤ 130 ⌝ }
-    ensures { λ r. ⌜ r ≡ cond (odd n) (eqb (s .y + 1) n) (odd (s .y)) ⌝ }
+    requires { s.y ≤ 130 }
+    ensures { result ≡ cond (odd n) (eqb (s.y + 1) n) (odd s.y) }
 {
     if is_odd(n) {
         return s.y + 1 == n;
@@ -128,9 +125,10 @@ pub fn wraps_below(n: u32, s: Cell) -> bool
 }
 
 // The row that a split after column c crosses in.
+#[tactic(auto, unfolding(plan::specs::Plan::crossing))]
 pub fn crossing(n: u32, s: Cell, t: Cell, c: u32) -> u32
-    requires { ⌜ c ≤ 130 ⌝ }
-    ensures { λ r. ⌜ r ≡ crossing n s t c ⌝ }
+    requires { c ≤ 130 }
+    ensures { result ≡ crossing n s t c }
 {
     if even_and_differ(n, s, t) {
         if colours_differ(Cell { x: c, y: 1 }, s) {

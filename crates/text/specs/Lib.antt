@@ -3,3 +3,4 @@ pub mod Front
 pub mod Decimal
 pub mod Field
 pub mod Put
+pub mod Part

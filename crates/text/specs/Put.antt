@@ -1,8 +1,5 @@
 -- Text put into a buffer.
-use Prim.Native.Nat.{ℕ, _+_}
-use mathlib.Core.Path.{_≡_}
-use mathlib.Core.List.{List, _++_}
-use lib.ListN.{length, take, drop}
+use Rattle.std.specs.Prelude.{ℕ, ◌+◌, ◌≡◌, List, ◌++◌, length, take, drop}
 
 -- a buffer with a text put at a place of it
 unfoldable pub put : List ℕ → ℕ → List ℕ → List ℕ

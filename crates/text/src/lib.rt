@@ -1,18 +1,13 @@
 // Numbers in base ten and other text: read from bytes, and put into a buffer.
+#![tactic(auto)]
+
 mod read;
 mod write;
 
-pub use read::bytes_from;
-pub use read::read_field;
-pub use read::text_at;
-pub use write::count_digits;
-pub use write::digit_of;
-pub use write::digits_of;
-pub use write::put_byte;
-pub use write::put_bytes;
-pub use write::put_decimal;
-pub use write::put_field;
-pub use write::put_two;
+pub use read::{bytes_from, read_field, text_at};
+pub use write::{
+    count_digits, digit_of, digits_of, put_byte, put_bytes, put_decimal, put_field, put_two,
+};
 
 // The first and the last digit, the byte between two numbers, and the byte behind a line.
 pub const ZERO: u8 = b'0';
@@ -27,6 +22,7 @@ pub const LINE_FEED: u8 = b'\n';
 pub const LARGEST_NUMBER: u64 = 4294967295;
 
 // A number that was read, and the position behind the byte that ends it; or another form.
+#[derive(Clone, Copy)]
 pub enum Number {
     Bad,
     Until(u32, usize),

@@ -1,24 +1,21 @@
 // Reads a number in base ten and the byte that ends it.
-use crate::LARGEST_NUMBER;
-use crate::NINE;
-use crate::Number;
-use crate::ZERO;
-ghost use mathlib.Core.Path.{_≡_};
-ghost use lib.ListN.{length, drop};
-ghost use Rattle·text·specs.specs.Front.{begins};
-ghost use Rattle·text·specs.specs.Decimal.{isDigit};
-ghost use Rattle·text·specs.specs.Field.{moreDigits, ended, field, parsed};
-ghost use Rattle·text·specs.specs.Field.Parsed.{value};
+ghost use Rattle.std.specs.Prelude.{◌≡◌, length, drop};
+ghost use Rattle.text.specs.Front.{begins};
+ghost use Rattle.text.specs.Decimal.{is_digit};
+ghost use Rattle.text.specs.Field.{more_digits, ended, field, parsed};
+ghost use Rattle.text.specs.Field.Parsed.{value};
+
+use crate::{LARGEST_NUMBER, NINE, Number, ZERO};
 
 fn is_digit(b: u8) -> bool
-    ensures { λ r. ⌜ r ≡ isDigit b ⌝ }
+    ensures { result ≡ is_digit b }
 {
     if ZERO <= b { b <= NINE } else { false }
 }
 
 // The number v, if it ends here: the byte `end` stands at i.
 fn read_end(input: &[u8], v: u32, i: usize, end: u8) -> Number
-    ensures { λ r. ⌜ parsed (now (input .entry)) r ≡ ended end (value v (drop i (now (input .entry)))) ⌝ }
+    ensures { parsed input.now result ≡ ended end (value v (drop i input.now)) }
 {
     if input.len() <= i {
         return Number::Bad;
@@ -32,7 +29,7 @@ fn read_end(input: &[u8], v: u32, i: usize, end: u8) -> Number
 // The number that begins with v and goes on with the digits from `from` on. It stops where the
 // number is too large: more digits do not make it less.
 fn read_digits(input: &[u8], v: u32, from: usize, end: u8) -> Number
-    ensures { λ r. ⌜ parsed (now (input .entry)) r ≡ ended end (moreDigits v (drop from (now (input .entry)))) ⌝ }
+    ensures { parsed input.now result ≡ ended end (more_digits v (drop from input.now)) }
 {
     let mut sum = v as u64;
     let mut i = from;
@@ -52,7 +49,7 @@ fn read_digits(input: &[u8], v: u32, from: usize, end: u8) -> Number
 
 // A number at `from`, and the byte `end` behind it.
 pub fn read_field(input: &[u8], from: usize, end: u8) -> Number
-    ensures { λ r. ⌜ parsed (now (input .entry)) r ≡ field end (drop from (now (input .entry))) ⌝ }
+    ensures { parsed input.now result ≡ field end (drop from input.now) }
 {
     if input.len() <= from {
         return Number::Bad;
@@ -69,7 +66,7 @@ pub fn read_field(input: &[u8], from: usize, end: u8) -> Number
 
 // How many bytes of the input are from a place on.
 pub fn bytes_from(input: &[u8], at: usize) -> usize
-    ensures { λ r. ⌜ r ≡ length (drop at (now (input .entry))) ⌝ }
+    ensures { result ≡ length (drop at input.now) }
 {
     if input.len() <= at {
         return 0;
@@ -79,7 +76,7 @@ pub fn bytes_from(input: &[u8], at: usize) -> usize
 
 // Whether a text stands at a place of the input.
 pub fn text_at(text: &[u8], input: &[u8], at: usize) -> bool
-    ensures { λ r. ⌜ r ≡ begins (now (text .entry)) (drop at (now (input .entry))) ⌝ }
+    ensures { result ≡ begins text.now (drop at input.now) }
 {
     if bytes_from(input, at) < text.len() {
         return false;

@@ -1,34 +1,31 @@
 // Puts text into a buffer, each part behind the one before, and gives the place behind it.
-use crate::BLANK;
-use crate::ZERO;
-ghost use mathlib.Core.Path.{_≡_};
-ghost use mathlib.Core.List.{[], _∷_};
-ghost use Prim.Native.Nat.{_≤_, _<_, _+_, _-_};
-ghost use lib.ListN.{length};
-ghost use Rattle·grid.specs.Bytes.{PartOf};
-ghost use Rattle·text·specs.specs.Decimal.{digit, decimal};
-ghost use Rattle·text·specs.specs.Field.{blank, fieldOf};
-ghost use Rattle·text·specs.specs.Put.{Put};
+ghost use Rattle.std.specs.Prelude.{◌≡◌, [], ◌∷◌, ◌≤◌, ◌<◌, ◌+◌, ◌-◌, length};
+ghost use Rattle.text.specs.Part.{MutPartOf};
+ghost use Rattle.text.specs.Decimal.{digit, decimal};
+ghost use Rattle.text.specs.Field.{blank, field_of};
+ghost use Rattle.text.specs.Put.{Put};
+
+use crate::{BLANK, ZERO};
 
 // The byte of a digit.
 pub fn digit_of(d: u32) -> u8
-    requires { ⌜ d < 10 ⌝ }
-    ensures { λ r. ⌜ r ≡ digit d ⌝ }
+    requires { d < 10 }
+    ensures { result ≡ digit d }
 {
     ZERO + d as u8
 }
 
 pub fn put_byte(b: u8, out: &mut [u8], at: usize) -> usize
-    requires { ⌜ at + 1 ≤ length (now out) ⌝ }
-    ensures { λ r. ⌜ Put (now (out .entry)) at (b ∷ []) (now (out .exit)) r ⌝ }
+    requires { at + 1 ≤ length out.old }
+    ensures { Put out.old at (b ∷ []) out.new result }
 {
     out[at] = b;
     at + 1
 }
 
 pub fn put_bytes(text: &[u8], out: &mut [u8], at: usize) -> usize
-    requires { ⌜ at + length (now text) ≤ length (now out) ⌝ }
-    ensures { λ r. ⌜ Put (now (out .entry)) at (now (text .entry)) (now (out .exit)) r ⌝ }
+    requires { at + length text.now ≤ length out.old }
+    ensures { Put out.old at text.now out.new result }
 {
     let mut i = 0;
     while i < text.len() {
@@ -40,8 +37,8 @@ pub fn put_bytes(text: &[u8], out: &mut [u8], at: usize) -> usize
 
 // All digits but the last, and the last.
 pub fn put_decimal(n: u32, out: &mut [u8], at: usize) -> usize
-    requires { ⌜ at + length (decimal n) ≤ length (now out) ⌝ }
-    ensures { λ r. ⌜ Put (now (out .entry)) at (decimal n) (now (out .exit)) r ⌝ }
+    requires { at + length (decimal n) ≤ length out.old }
+    ensures { Put out.old at (decimal n) out.new result }
 {
     if n < 10 {
         return put_byte(digit_of(n), out, at);
@@ -52,8 +49,8 @@ pub fn put_decimal(n: u32, out: &mut [u8], at: usize) -> usize
 
 // The digits of a number, made from the last one on: the part of scratch that holds them, up to its end.
 pub fn digits_of<'a>(n: u32, scratch: &'a mut [u8]) -> &'a mut [u8]
-    requires { ⌜ length (decimal n) ≤ length (now scratch) ⌝ }
-    ensures { λ r. ⌜ PartOf (scratch .entry) (length (now (scratch .entry)) - length (decimal n)) (decimal n) r ⌝ }
+    requires { length (decimal n) ≤ length scratch.old }
+    ensures { MutPartOf scratch.entry (length scratch.old - length (decimal n)) (decimal n) result }
 {
     let room = scratch.len();
     let mut at = room;
@@ -70,7 +67,7 @@ pub fn digits_of<'a>(n: u32, scratch: &'a mut [u8]) -> &'a mut [u8]
 
 // How many digits a number has.
 pub fn count_digits(n: u32) -> usize
-    ensures { λ r. ⌜ r ≡ length (decimal n) ⌝ }
+    ensures { result ≡ length (decimal n) }
 {
     let mut count = 1;
     let mut rest = n;
@@ -83,8 +80,8 @@ pub fn count_digits(n: u32) -> usize
 
 // A number and the byte `end` behind it.
 pub fn put_field(n: u32, end: u8, out: &mut [u8], at: usize) -> usize
-    requires { ⌜ at + length (fieldOf n end []) ≤ length (now out) ⌝ }
-    ensures { λ r. ⌜ Put (now (out .entry)) at (fieldOf n end []) (now (out .exit)) r ⌝ }
+    requires { at + length (field_of n end []) ≤ length out.old }
+    ensures { Put out.old at (field_of n end []) out.new result }
 {
     let next = put_decimal(n, out, at);
     put_byte(end, out, next)
@@ -92,8 +89,8 @@ pub fn put_field(n: u32, end: u8, out: &mut [u8], at: usize) -> usize
 
 // Two numbers, a blank between and the byte `end` behind.
 pub fn put_two(a: u32, b: u32, end: u8, out: &mut [u8], at: usize) -> usize
-    requires { ⌜ at + length (fieldOf a blank (fieldOf b end [])) ≤ length (now out) ⌝ }
-    ensures { λ r. ⌜ Put (now (out .entry)) at (fieldOf a blank (fieldOf b end [])) (now (out .exit)) r ⌝ }
+    requires { at + length (field_of a blank (field_of b end [])) ≤ length out.old }
+    ensures { Put out.old at (field_of a blank (field_of b end [])) out.new result }
 {
     let next = put_field(a, BLANK, out, at);
     put_field(b, end, out, next)

@@ -1,7 +1,7 @@
 // Lists of cells in buffers: made, and looked at plainly, apart from the router's own code.
-use grid::Cell;
-use grid::Panel;
+use grid::{Cell, Panel};
 
+#[derive(Clone, Copy)]
 pub struct Order {
     pub panel: Panel,
     pub entry: Cell,
@@ -211,6 +211,7 @@ pub fn spread(buf: &mut [u8]) {
 // ---- searches for a cell
 
 // How often a search was to give a cell, how often none, and how often it answered otherwise.
+#[derive(Clone, Copy)]
 pub struct Tally {
     pub given: u32,
     pub none: u32,

@@ -1,13 +1,14 @@
 // Small steps with numbers, and the generator of made-up ones.
+ghost use Rattle.std.specs.Prelude.{◌≤◌};
+
 use std::num::wrapping_add_u32;
-ghost use Prim.Native.Nat.{_≤_};
 
 pub fn add(a: u32, b: u32) -> u32 {
     wrapping_add_u32(a, b)
 }
 
 pub fn at_most(a: usize, most: usize) -> usize
-    ensures { λ r. ⌜ r ≤ most ⌝ }
+    ensures { result ≤ most }
 {
     if a <= most { a } else { most }
 }

@@ -1,12 +1,10 @@
 // What Probe must give, the plain way: each probe is searched by itself in the whole list.
-use crate::cells::cell_at;
-use crate::cells::cells_in;
-use crate::cells::same;
-use crate::cells::wide;
+use crate::cells::{cell_at, cells_in, same, wide};
 use grid::Cell;
 use std::num::wrapping_add_u32;
 
 // The numbers of Probe's sheet.
+#[derive(Clone, Copy)]
 pub struct Sheet {
     pub refusal: u32,
     pub positions: [u32; 64],

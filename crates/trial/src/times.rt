@@ -1,7 +1,8 @@
 // Turns of calls, timed by the processor's clock. The times go to standard error, so that standard output is
 // the same in every run.
-use libc::STDERR_FILENO;
+use std::io;
 use std::num::wrapping_sub_u64;
+use std::time::CpuClock;
 
 // How many turns are timed, and how many microseconds one is to take at least; how often its calls are
 // doubled for that.
@@ -12,23 +13,27 @@ const LEAST: u64 = 2000;
 pub const DOUBLED: u32 = 16;
 
 // How long a turn took, and a sum over what it gave, so that none of it may be left out.
+#[derive(Clone, Copy)]
 pub struct Turn {
     pub micros: u64,
     pub sum: u32,
 }
 
-pub fn micros() -> u64 {
-    let k = libc::clock();
-    if k < 0 {
-        return 0;
+// The processor's time so far, or 0 where the clock can't be read.
+pub fn micros(rt: &impl CpuClock) -> u64 {
+    match rt.process_cpu_time() {
+        Ok(t) => {
+            let whole = t.as_secs().wrapping_mul(1000000);
+            whole.wrapping_add(u64::from(t.subsec_micros()))
+        }
+        Err(_) => 0,
     }
-    k as u64
 }
 
 // The turn that began at `start` and ends now.
-pub fn turn_from(start: u64, sum: u32) -> Turn {
+pub fn turn_from(rt: &impl CpuClock, start: u64, sum: u32) -> Turn {
     Turn {
-        micros: wrapping_sub_u64(micros(), start),
+        micros: wrapping_sub_u64(micros(rt), start),
         sum,
     }
 }
@@ -53,14 +58,16 @@ pub fn each(t: Turn, calls: u32) -> u64 {
     t.micros % 1000000000 * 10000 / (calls as u64)
 }
 
-pub fn say(s: &[u8]) {
-    io::write_all(STDERR_FILENO, s);
+// ASCII bytes to standard error, whose handle prints characters.
+pub fn say(rt: &impl Eprint, s: &[u8]) -> io::Result<()> {
+    for b in s {
+        let character = char::from(*b);
+        eprint!(rt; "{character}")?;
+    }
+    Ok(())
 }
 
 // The time of a call, and the sum of its turn.
-pub fn say_time(time: u64, sum: u32) {
-    io::print_decimal(STDERR_FILENO, time);
-    say(b" (sum ");
-    io::print_decimal(STDERR_FILENO, sum as u64);
-    say(b")");
+pub fn say_time(rt: &impl Eprint, time: u64, sum: u32) -> io::Result<()> {
+    eprint!(rt; "{time} (sum {sum})")
 }

@@ -1,0 +1,14 @@
+-- A good call draws the corner track to a neighbour of its first cell, a longest closed track.
+use borrow.Author.Rules.{rules}
+use mathlib.Core.Path.{sym, ◌∙◌}
+use native.Mathlib.Omega.{arith}
+use Rattle.grid.proofs.Facts.{beside}
+use Rattle.ring.proofs.Closed.{ready, drawn}
+use Rattle.ring.proofs.ring.Goals as goal
+
+pub corner_track-requires : goal.corner_track-requires
+corner_track-requires c = ready c.args.p _ (sym c.check_ring-c.ensures ∙ c.in_default.is) _ (search rules) (beside (omega arith))
+
+pub returns : goal.returns
+returns c =
+    drawn c.args.p _ (sym c.check_ring-c.ensures ∙ c.in_default.is) _ (search rules) (beside (omega arith)) c.ring_count.ensures c.corner_track.ensures.1
