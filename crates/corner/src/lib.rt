@@ -10,7 +10,7 @@ ghost use Rattle.corner.specs.Cells.{one_line, chosen, place, lines_off, first_l
 ghost use Rattle.corner.specs.Peel.{Measured, Open, Sides, FirstSides};
 ghost use Rattle.corner.specs.Drawn.{InBytes, Ready, written};
 
-use grid::{Cell, Cells, distance, same_cell};
+use grid::{Cell, Cells, distance};
 use line::draw_sweep;
 
 // k steps from p towards q.
@@ -32,13 +32,7 @@ fn turn(k: u32, p: u32, q: u32) -> u32
 fn one_line(a: Cell, b: Cell, t: Cell) -> bool
     ensures { result ≡ one_line a b t }
 {
-    if a.x == b.x {
-        return true;
-    }
-    if a.y == b.y {
-        return true;
-    }
-    same_cell(a, t)
+    a.x == b.x || a.y == b.y || a == t
 }
 
 // A rectangle of w columns and h rows, and a target dx columns and dy rows from its corner.
