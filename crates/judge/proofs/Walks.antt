@@ -1,5 +1,6 @@
 -- What is known along the walk, at the start, after each cell and at its end; and that what it keeps decides the check of the whole list,
 -- since no later cell changes that one is off the panel.
+use Rattle.std.specs.Prelude.{Err}
 use Prim.Native.Nat.{ℕ, ◌+◌, ◌≤◌, ◌<◌}
 use native.Mathlib.Omega.{arith}
 use mathlib.Core.Path.{◌≡◌, refl, sym, ap, ◌∙◌}
@@ -12,8 +13,7 @@ use borrow.Author.Tests.{eqb-true}
 use Rattle.grid.specs.declared.Panel.{Panel}
 use Rattle.grid.specs.declared.Cell.{Cell}
 use Rattle.grid.specs.declared.Refusal.TheVariants.{CellOff}
-use Rattle.grid.specs.declared.Check.{Check}
-use Rattle.grid.specs.declared.Check.TheVariants.{Refused}
+use Rattle.grid.specs.Check.{Check}
 use Rattle.grid.specs.Panel.{area}
 use Rattle.grid.specs.Bytes.{cells_in}
 use Rattle.grid.proofs.Tests.{after_refused, expect_no}
@@ -101,7 +101,7 @@ decided p s t l {k = k} {new} {r} w d = by_off (eqb k.off 0) refl
     taken_check : r ≡ cells_check p s t w.taken
     taken_check = d.told p s w.taken new w.stands
 
-    refused : (m : List Cell) → all_on p m ≡ false → Refused CellOff ≡ cells_check p s t m
+    refused : (m : List Cell) → all_on p m ≡ false → Err CellOff ≡ cells_check p s t m
     refused m f = after_refused _ (sym (expect_no _ _ f))
 
     by_off : (b : Bool) → eqb k.off 0 ≡ b → r ≡ cells_check p s t l

@@ -3,7 +3,7 @@
 use Rattle.std.specs.Prelude.{ℕ, ◌≡◌, List, [], ◌++◌, drop}
 use Rattle.grid.specs.declared.Panel.{Panel}
 use Rattle.grid.specs.declared.Cell.{Cell}
-use Rattle.grid.specs.declared.Check.{Check}
+use Rattle.grid.specs.Check.{Check}
 use Rattle.grid.specs.Panel.{area}
 use Rattle.judge_walk.specs.declared.Kept.{Kept}
 use Rattle.judge_walk.specs.Walk.{Stands}

@@ -6,7 +6,7 @@ ghost use Rattle.std.specs.Prelude.{◌+◌, ◌<◌, ◌^◌, ◌≡◌, true};
 ghost use Rattle.grid.specs.Panel.{good_sides};
 ghost use Rattle.judge_walk.specs.Walk.{Noted, StandsForSome, Takes, Begins};
 
-use grid::{Cell, Panel, same_cell};
+use grid::{Cell, Panel};
 use list::squared_distance;
 use scratch::place_of;
 
@@ -73,7 +73,7 @@ pub fn take_cell(p: Panel, entry: Cell, k: Kept, c: Cell, scratch: &mut [u8]) ->
     next = noted(next, c, scratch[at]);
     scratch[at] = 1;
     if k.bytes == 0 {
-        next.begins = same_cell(c, entry);
+        next.begins = c == entry;
         return next;
     }
     // Some bit is set unless the distance is 1.

@@ -1,5 +1,6 @@
 -- The promise, test by test: where 20 is met, where Judge refuses, where a probe is off the panel, and where all is good; and what Judge's
 -- answer says then of the list and of scratch.
+use Rattle.std.specs.Prelude.{Result, Ok, Err}
 use Prim.Native.Nat.{ℕ, ◌*◌, ◌≤◌}
 use native.Mathlib.Omega.{arith}
 use mathlib.Core.Path.{◌≡◌, refl, sym, ap, ◌∙◌}
@@ -13,10 +14,7 @@ use Rattle.grid.specs.declared.Cell.{Cell}
 use Rattle.grid.specs.declared.Cells.{Cells}
 use Rattle.grid.specs.declared.Refusal.{Refusal}
 use Rattle.grid.specs.declared.Refusal.TheVariants.{CellOff, WrongEnds, ProbeBytes}
-use Rattle.grid.specs.declared.Check.{Check}
-use Rattle.grid.specs.declared.Check.TheVariants.{Good, Refused}
-use Rattle.grid.specs.declared.CellsAnswer.{CellsAnswer}
-use Rattle.grid.specs.declared.CellsAnswer.TheVariants as judged
+use Rattle.grid.specs.Check.{Check}
 use Rattle.grid.specs.Panel.{panel, cell, dist, apart}
 use Rattle.grid.specs.Bytes.{cells_in}
 use Rattle.grid.proofs.Answers.{check_behind, check_behind_lem}
@@ -45,26 +43,26 @@ pub bytes_shown : (few_probes 0 ≡ true) × (few_probes 128 ≡ true) × (few_p
 bytes_shown = (refl, refl, refl, refl)
 
 -- from (1, 1) to (2, 1) on a panel of 3 by 1: half a probe and a list that Judge refuses; such a list and a probe off the panel; that probe alone
-pub order_shown : (checked (1 ∷ 1 ∷ []) (4 ∷ []) ≡ Refused ProbeBytes) × (checked (1 ∷ 1 ∷ []) (4 ∷ 1 ∷ []) ≡ Refused WrongEnds)
-    × (checked (1 ∷ 1 ∷ 2 ∷ 1 ∷ []) (4 ∷ 1 ∷ []) ≡ Refused CellOff) × (checked (1 ∷ 1 ∷ 2 ∷ 1 ∷ []) (3 ∷ 1 ∷ []) ≡ Good)
+pub order_shown : (checked (1 ∷ 1 ∷ []) (4 ∷ []) ≡ Err ProbeBytes) × (checked (1 ∷ 1 ∷ []) (4 ∷ 1 ∷ []) ≡ Err WrongEnds)
+    × (checked (1 ∷ 1 ∷ 2 ∷ 1 ∷ []) (4 ∷ 1 ∷ []) ≡ Err CellOff) × (checked (1 ∷ 1 ∷ 2 ∷ 1 ∷ []) (3 ∷ 1 ∷ []) ≡ (Ok tt))
 unfolding apart dist
 order_shown = (refl, refl, refl, refl)
 
 -- ---- what Judge's answer says
 
-module _ (p : Panel) (s t : Cell) (list old : List ℕ) {new : List ℕ} {j : CellsAnswer} (g : Judges p s t list old new j) where
+module _ (p : Panel) (s t : Cell) (list old : List ℕ) {new : List ℕ} {j : Result Cells Refusal} (g : Judges p s t list old new j) where
   is_check : check_behind j ≡ judge_check p s t list (length old)
   is_check = check_behind_lem _ _ g.gives.answers
 
   -- where it accepts
-  module _ {k : Cells} (f : j ≡ judged.Given k) where
-    good : judge_check p s t list (length old) ≡ Good
+  module _ {k : Cells} (f : j ≡ Ok k) where
+    good : judge_check p s t list (length old) ≡ (Ok tt)
     good = sym is_check ∙ ap check_behind f
 
-    sizes_good : sizes_check p s t (length list) (length old) ≡ Good
+    sizes_good : sizes_check p s t (length list) (length old) ≡ (Ok tt)
     sizes_good = after_passed (sizes_check p s t (length list) (length old)) _ good
 
-    cells_good : cells_check p s t (cells_in list) ≡ Good
+    cells_good : cells_check p s t (cells_in list) ≡ (Ok tt)
     cells_good = after_rest (sizes_check p s t (length list) (length old)) _ good
 
     sizes : Sized p s t (length list) (length old)
@@ -101,27 +99,27 @@ module _ (p : Panel) (s t : Cell) (list probes old : List ℕ) where
       → a ≡ sheet (probe_check p s t list probes (length old)) q l
   told e f = e ∙ ap (λ (z : Check). sheet z q l) f
 
-  pub too_many : few_probes (length probes) ≡ false → {a : ProbeSheet} → a ≡ sheet (Refused ProbeBytes) [] [] → Probes p s t list probes old old a
+  pub too_many : few_probes (length probes) ≡ false → {a : ProbeSheet} → a ≡ sheet (Err ProbeBytes) [] [] → Probes p s t list probes old old a
   too_many n e = record { answers = told e (expect_no _ _ n); scratch = cond_no _ _ n refl }
 
-  module _ (m : few_probes (length probes) ≡ true) {new : List ℕ} {j : CellsAnswer} (g : Judges p s t list old new j) where
+  module _ (m : few_probes (length probes) ≡ true) {new : List ℕ} {j : Result Cells Refusal} (g : Judges p s t list old new j) where
     left : new ≡ probe_scratch p s t list probes old
     left = cond_yes _ old m g.scratch
 
-    pub judge_refused : {r : Refusal} → j ≡ judged.Refused r → {a : ProbeSheet} → a ≡ sheet (Refused r) [] [] → Probes p s t list probes old new a
+    pub judge_refused : {r : Refusal} → j ≡ Err r → {a : ProbeSheet} → a ≡ sheet (Err r) [] [] → Probes p s t list probes old new a
     judge_refused f e = record {
       answers = told e (expect_yes _ _ m (after_refused _ (sym (is_check p s t list old g) ∙ ap check_behind f)));
       scratch = left;
     }
 
-    module _ {k : Cells} (f : j ≡ judged.Given k) where
-      pub probe_off : all_on p q ≡ false → {a : ProbeSheet} → a ≡ sheet (Refused CellOff) [] [] → Probes p s t list probes old new a
+    module _ {k : Cells} (f : j ≡ Ok k) where
+      pub probe_off : all_on p q ≡ false → {a : ProbeSheet} → a ≡ sheet (Err CellOff) [] [] → Probes p s t list probes old new a
       probe_off n e = record {
         answers = told e (expect_yes _ _ m (after_good _ (good p s t list old g f) (expect_no _ _ n)));
         scratch = left;
       }
 
-      pub all_good : all_on p q ≡ true → {last : List ℕ} → last ≡ new → {a : ProbeSheet} → a ≡ sheet Good q l → Probes p s t list probes old last a
+      pub all_good : all_on p q ≡ true → {last : List ℕ} → last ≡ new → {a : ProbeSheet} → a ≡ sheet (Ok tt) q l → Probes p s t list probes old last a
       all_good o h e = record {
         answers = told e (expect_yes _ _ m (after_good _ (good p s t list old g f) (expect_yes _ _ o refl)));
         scratch = h ∙ left;

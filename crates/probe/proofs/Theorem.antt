@@ -1,5 +1,6 @@
 -- What a sheet says of a probe where nothing is refused, in the words of tracks: the position given is the only place of its cell on the track,
 -- and a missed probe's nearest cell is the earliest of the nearest.
+use Rattle.std.specs.Prelude.{Ok}
 use Prim.Native.Nat.{ℕ, suc, ◌≤◌, ◌<◌}
 use native.Mathlib.Omega.{arith}
 use mathlib.Core.Path.{◌≡◌, refl, sym, ap, subst⁻¹, ◌∙◌}
@@ -10,8 +11,7 @@ use lib.ListN.{length, get_or, length-map}
 use borrow.Author.Tests.{eq-eqb, ne_eqb}
 use Rattle.grid.specs.declared.Panel.{Panel}
 use Rattle.grid.specs.declared.Cell.{Cell}
-use Rattle.grid.specs.declared.Check.{Check}
-use Rattle.grid.specs.declared.Check.TheVariants.{Good}
+use Rattle.grid.specs.Check.{Check}
 use Rattle.grid.specs.Panel.{cell}
 use Rattle.grid.specs.Track.{Track}
 use Rattle.grid.specs.Bytes.{cells_in}
@@ -29,7 +29,7 @@ use Rattle.probe_walk.proofs.Sheets.{placed_nth, placed_unused}
 use Rattle.probe.specs.declared.ProbeSheet.{ProbeSheet}
 use Rattle.probe.specs.Probe.{few_probes, probe_check, sheet, probe_of}
 
-module _ (p : Panel) (s t : Cell) (list probes : List ℕ) (room : ℕ) (good : probe_check p s t list probes room ≡ Good) where
+module _ (p : Panel) (s t : Cell) (list probes : List ℕ) (room : ℕ) (good : probe_check p s t list probes room ≡ (Ok tt)) where
   abbrev q : List Cell
   q = cells_in probes
 
@@ -39,7 +39,7 @@ module _ (p : Panel) (s t : Cell) (list probes : List ℕ) (room : ℕ) (good : 
   abbrev r : ProbeSheet
   r = probe_of p s t list probes room
 
-  is_given : r ≡ sheet Good q l
+  is_given : r ≡ sheet (Ok tt) q l
   is_given = ap (λ (c : Check). sheet c q l) good
 
   tests : TrackTests p s t l

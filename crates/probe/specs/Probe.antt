@@ -1,10 +1,10 @@
 -- Document 02, R-8, "Probe sheet": what the call answers and what it leaves in scratch, for every input.
+use Rattle.std.specs.Prelude.{Ok}
 use Rattle.std.specs.Prelude.{ℕ, ◌*◌, ◌%◌, ◌≡◌, Bool, cond, ◌&&◌, List, leb, eqb, length, replicate}
 use Rattle.grid.specs.declared.Panel.{Panel}
 use Rattle.grid.specs.declared.Cell.{Cell}
 use Rattle.grid.specs.declared.Refusal.TheVariants.{CellOff, ProbeBytes}
-use Rattle.grid.specs.declared.Check.{Check}
-use Rattle.grid.specs.declared.Check.TheVariants.{Good}
+use Rattle.grid.specs.Check.{Check}
 use Rattle.grid.specs.Panel.{cell}
 use Rattle.grid.specs.Check.{expect, after, answer}
 use Rattle.grid.specs.Answer.{refusal_number, given}
@@ -23,7 +23,7 @@ abbrev pub probe_check : Panel → Cell → Cell → List ℕ → List ℕ → �
 probe_check p s t list probes room =
     expect (few_probes (length probes)) ProbeBytes
     (after (judge_check p s t list room)
-    (expect (all_on p (cells_in probes)) CellOff Good))
+    (expect (all_on p (cells_in probes)) CellOff (Ok tt)))
 
 -- the sheet behind a check: of probes on a list of cells, all 0 where it refuses
 abbrev pub sheet : Check → List Cell → List Cell → ProbeSheet

@@ -42,7 +42,7 @@ returns-then-k-eq0 c =
     let o : OnPanel c.args.p c.args.c = record { left = c.if-c-lt1.false; right = c.if-p-c.false; top = c.if-c-lt1-2.false; bottom = c.if-p-c-2.false } in
     takes_on _ _ _ c.if-k-ne0.false o c.place_of-at.ensures
     (record { off = m.off; twice = m.twice; last = m.last; bytes = m.bytes })
-    (first _ _ _ m.jump c.same_cell.ensures c.if-k-eq0.true)
+    (first _ _ _ m.jump c.eq.ensures c.if-k-eq0.true)
 
 pub returns : goal.returns
 returns c =
