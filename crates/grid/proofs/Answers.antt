@@ -37,7 +37,7 @@ gives_bytes c k e = record {
 
 -- an answer that is none of the refusals is the one behind a good check
 pub behind_good {ℓ} : {A : Type ℓ} (c : Check) (f : Refusal → A) (a z : A) → ((r : Refusal) → f r ≢ z)
-    → answer c f a ≡ z → (c ≡ (Ok tt)) × (a ≡ z)
+    → answer c f a ≡ z → (c ≡ Ok tt) × (a ≡ z)
 behind_good (Ok tt) f a z n e = (refl, e)
 behind_good (Err r) f a z n e = absurd (n r e)
 
@@ -53,7 +53,7 @@ check_behind_lem c n e = ap check_behind e ∙ go c
     go (Ok tt) = refl
     go (Err r) = refl
 
-pub cells_good : (c : Check) (n : ℕ) (k : Cells) → cells_answer c n ≡ Ok k → (c ≡ (Ok tt)) × (n ≡ k.0)
+pub cells_good : (c : Check) (n : ℕ) (k : Cells) → cells_answer c n ≡ Ok k → (c ≡ Ok tt) × (n ≡ k.0)
 cells_good c n k e =
     let (g, h) = behind_good c Err (Ok (record { 0 = n })) (Ok k) (λ r q. clash (cc)) e in
     (g, ap (λ (a : Result Cells Refusal). (cells_values a).cells.0) h)

@@ -20,37 +20,37 @@ IsFine (Err r) = ⊥
 pub not_good {ℓ} : {A : Type ℓ} {r : Refusal} → ◌≡◌ {A = Check} (Err r) (Ok tt) → A
 not_good e = absurd (subst IsFine (sym e) tt)
 
-pub expect_passed : (b : Bool) (r : Refusal) (k : Check) → expect b r k ≡ (Ok tt) → b ≡ true
+pub expect_passed : (b : Bool) (r : Refusal) (k : Check) → expect b r k ≡ Ok tt → b ≡ true
 expect_passed true r k e = refl
 expect_passed false r k e = not_good e
 
-pub expect_rest : (b : Bool) (r : Refusal) (k : Check) → expect b r k ≡ (Ok tt) → k ≡ (Ok tt)
+pub expect_rest : (b : Bool) (r : Refusal) (k : Check) → expect b r k ≡ Ok tt → k ≡ Ok tt
 expect_rest true r k e = e
 expect_rest false r k e = not_good e
 
-pub after_passed : (c k : Check) → after c k ≡ (Ok tt) → c ≡ (Ok tt)
+pub after_passed : (c k : Check) → after c k ≡ Ok tt → c ≡ Ok tt
 after_passed (Ok tt) k e = refl
 after_passed (Err r) k e = not_good e
 
-pub after_rest : (c k : Check) → after c k ≡ (Ok tt) → k ≡ (Ok tt)
+pub after_rest : (c k : Check) → after c k ≡ Ok tt → k ≡ Ok tt
 after_rest (Ok tt) k e = e
 after_rest (Err r) k e = not_good e
 
 -- both tests of a panel, as one
-pub panel_passed : (p : Panel) → check_panel p ≡ (Ok tt) → good_panel p ≡ true
+pub panel_passed : (p : Panel) → check_panel p ≡ Ok tt → good_panel p ≡ true
 panel_passed p e =
     let pitch = expect (good_pitch p) Pitch (Ok tt) in
     and_both (expect_passed (good_sides p) Side pitch e) (expect_passed (good_pitch p) Pitch (Ok tt) (expect_rest (good_sides p) Side pitch e))
 
-pub panel_passes : (p : Panel) → good_panel p ≡ true → check_panel p ≡ (Ok tt)
+pub panel_passes : (p : Panel) → good_panel p ≡ true → check_panel p ≡ Ok tt
 panel_passes p e =
     let (s, q) = and_parts (good_sides p) (good_pitch p) e in
     sym (expect_yes _ _ s (expect_yes _ _ q refl))
 
-pub good_panel_lem : (p : Panel) → check_panel p ≡ (Ok tt) → GoodPanel p
+pub good_panel_lem : (p : Panel) → check_panel p ≡ Ok tt → GoodPanel p
 good_panel_lem p e = good p (panel_passed p e)
 
-pub good_entry : (p : Panel) (s : Cell) → check_entry p s ≡ (Ok tt) → GoodPanel p × OnPanel p s
+pub good_entry : (p : Panel) (s : Cell) → check_entry p s ≡ Ok tt → GoodPanel p × OnPanel p s
 good_entry p s e =
     let here = expect (on_panel p s) EntryOff (Ok tt) in
     (good_panel_lem p (after_passed (check_panel p) here e), on p s (expect_passed (on_panel p s) EntryOff (Ok tt) (after_rest (check_panel p) here e)))
@@ -61,7 +61,7 @@ pub record GoodOrder (p : Panel) (s t : Cell) : Type 0 where
   pub entry : OnPanel p s
   pub exit : OnPanel p t
 
-pub good_order : (p : Panel) (s t : Cell) → check_order p s t ≡ (Ok tt) → GoodOrder p s t
+pub good_order : (p : Panel) (s t : Cell) → check_order p s t ≡ Ok tt → GoodOrder p s t
 good_order p s t e =
     let here = expect (on_panel p t) ExitOff (Ok tt) in
     let front = good_entry p s (after_passed (check_entry p s) here e) in

@@ -16,9 +16,6 @@ and_no b e = subst⁻¹ (λ (x : Bool). false ≡ (x && b)) e refl
 pub or_yes : {a : Bool} (b : Bool) → a ≡ true → true ≡ (a || b)
 or_yes b e = subst⁻¹ (λ (x : Bool). true ≡ (x || b)) e refl
 
-pub or_no : {a : Bool} (b : Bool) {r : Bool} → a ≡ false → r ≡ b → r ≡ (a || b)
-or_no b {r} e f = subst⁻¹ (λ (x : Bool). r ≡ (x || b)) e f
-
 -- what holds of both branches holds of the choice
 pub both_branches {ℓ} : {A : Type ℓ} (P : A → Type 0) (b : Bool) (x y : A) → (b ≡ true → P x) → (b ≡ false → P y) → P (cond b x y)
 both_branches P true x y f g = f refl
@@ -31,7 +28,7 @@ module _ {ℓ} {A : Type ℓ} where
   pub cond_no : {b : Bool} (x y : A) {z : A} → b ≡ false → z ≡ y → z ≡ cond b x y
   cond_no x y {z} e f = subst⁻¹ (λ (c : Bool). z ≡ cond c x y) e f
 
-  pub answer_good : {c : Check} (f : Refusal → A) (a : A) {z : A} → c ≡ (Ok tt) → z ≡ a → z ≡ answer c f a
+  pub answer_good : {c : Check} (f : Refusal → A) (a : A) {z : A} → c ≡ Ok tt → z ≡ a → z ≡ answer c f a
   answer_good f a {z} e h = subst⁻¹ (λ (c : Check). z ≡ answer c f a) e h
 
   pub answer_refused : {c : Check} {r : Refusal} (f : Refusal → A) (a : A) → c ≡ Err r → f r ≡ answer c f a
@@ -43,7 +40,7 @@ expect_yes r k {z} e f = subst⁻¹ (λ (c : Bool). z ≡ expect c r k) e f
 pub expect_no : {b : Bool} (r : Refusal) (k : Check) → b ≡ false → Err r ≡ expect b r k
 expect_no r k e = subst⁻¹ (λ (c : Bool). Err r ≡ expect c r k) e refl
 
-pub after_good : {c : Check} (k : Check) {z : Check} → c ≡ (Ok tt) → z ≡ k → z ≡ after c k
+pub after_good : {c : Check} (k : Check) {z : Check} → c ≡ Ok tt → z ≡ k → z ≡ after c k
 after_good k {z} e f = subst⁻¹ (λ (c : Check). z ≡ after c k) e f
 
 pub after_refused : {c : Check} {r : Refusal} (k : Check) → c ≡ Err r → Err r ≡ after c k

@@ -6,9 +6,9 @@ use Rattle.grid.specs.declared.Refusal.TheVariants.{StepCount}
 use Rattle.grid.specs.Panel.{panel, dist, apart}
 use Rattle.list.specs.Check.{check_list}
 
-pub counts_shown : (check_list (panel 1 1 4000) (1 ∷ 1 ∷ []) ≡ (Ok tt))
-    × (check_list (panel 2 1 4000) (2 ∷ 1 ∷ []) ≡ (Ok tt))
-    × (check_list (panel 2 1 4000) (1 ∷ 1 ∷ 2 ∷ 1 ∷ []) ≡ (Ok tt))
+pub counts_shown : (check_list (panel 1 1 4000) (1 ∷ 1 ∷ []) ≡ Ok tt)
+    × (check_list (panel 2 1 4000) (2 ∷ 1 ∷ []) ≡ Ok tt)
+    × (check_list (panel 2 1 4000) (1 ∷ 1 ∷ 2 ∷ 1 ∷ []) ≡ Ok tt)
     × (check_list (panel 2 1 4000) (1 ∷ 1 ∷ 2 ∷ 1 ∷ 1 ∷ 1 ∷ []) ≡ Err StepCount)
 unfolding apart dist
 counts_shown = (refl, refl, refl, refl)
