@@ -28,23 +28,14 @@ pub fn is_odd(k: u32) -> bool
 pub fn is_end(k: u32, a: u32) -> bool
     ensures { result ≡ is_end k a }
 {
-    if a == 1 {
-        return true;
-    }
-    a == k
+    a == 1 || a == k
 }
 
 #[tactic(auto, unfolding(count::specs::Count::f1))]
 pub fn is_f1(p: Panel, s: Cell, t: Cell) -> bool
     ensures { result ≡ f1 p s t }
 {
-    if p.height != 1 {
-        return false;
-    }
-    if is_end(p.width, s.x) {
-        return !is_end(p.width, t.x);
-    }
-    true
+    p.height == 1 && !(is_end(p.width, s.x) && is_end(p.width, t.x))
 }
 
 #[tactic(auto, unfolding(count::specs::Count::f2))]
@@ -52,16 +43,7 @@ pub fn is_f2(p: Panel, s: Cell, t: Cell) -> bool
     requires { s.x ≤ max_side }
     ensures { result ≡ f2 p s t }
 {
-    if p.height != 2 {
-        return false;
-    }
-    if s.x == t.x {
-        return true;
-    }
-    if s.x + 1 == t.x {
-        return s.y != t.y;
-    }
-    false
+    p.height == 2 && (s.x == t.x || s.x + 1 == t.x && s.y != t.y)
 }
 
 // The cells on one side of the terminals in two rows, or on the other, whichever is more.
@@ -77,10 +59,7 @@ pub fn f2_count(p: Panel, s: Cell, t: Cell) -> u32
 fn black_to_white(s: Cell, t: Cell) -> bool
     ensures { result ≡ (black s && not (black t)) }
 {
-    if is_black(s) {
-        return !is_black(t);
-    }
-    false
+    is_black(s) && !is_black(t)
 }
 
 // The x differ by 2 or more, or by 1 with both in row 2.
@@ -88,16 +67,7 @@ fn f3_apart(s: Cell, t: Cell) -> bool
     requires { s.x ≤ max_side }
     ensures { result ≡ f3_apart s t }
 {
-    if s.x + 2 <= t.x {
-        return true;
-    }
-    if s.x + 1 != t.x {
-        return false;
-    }
-    if s.y != 2 {
-        return false;
-    }
-    t.y == 2
+    s.x + 2 <= t.x || s.x + 1 == t.x && s.y == 2 && t.y == 2
 }
 
 #[tactic(auto, unfolding(count::specs::Count::f3))]
@@ -105,16 +75,7 @@ pub fn is_f3(p: Panel, s: Cell, t: Cell) -> bool
     requires { s.x ≤ max_side }
     ensures { result ≡ f3 p s t }
 {
-    if p.height != 3 {
-        return false;
-    }
-    if is_odd(p.width) {
-        return false;
-    }
-    if !black_to_white(s, t) {
-        return false;
-    }
-    f3_apart(s, t)
+    p.height == 3 && !is_odd(p.width) && black_to_white(s, t) && f3_apart(s, t)
 }
 
 // The cells lost to the colours: if mn is odd one for each black terminal, else one if both are alike.

@@ -10,7 +10,7 @@ ghost use Rattle.cases.specs.Placed.{Placed};
 
 use cases::{by_colour, f2_count, is_f1, is_f2, is_f3};
 use count::ClassCount;
-use grid::{Cell, Cells, Panel, area_of, same_cell, turn_cell, turn_panel};
+use grid::{Cell, Cells, Panel, area_of, turn_cell, turn_panel};
 
 fn decide(p: Panel, s: Cell, t: Cell) -> ClassCount
     requires placed { Placed p s t }
@@ -98,7 +98,7 @@ pub fn order_class_count(p: Panel, s: Cell, t: Cell) -> ClassCount
     requires on_panel_2 { OnPanel p t }
     ensures { result ≡ order_class_count p s t }
 {
-    if same_cell(s, t) {
+    if s == t {
         return ClassCount {
             class: 6,
             count: Cells(1),

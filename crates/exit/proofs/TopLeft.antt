@@ -1,5 +1,6 @@
 -- On a panel with more than three rows and more than three columns Exit gives one of the first three cells of the top row, where the colours
 -- allow the wanted count.
+use Rattle.std.specs.Prelude.{Ok}
 use Prim.Native.Nat.{ℕ, ◌*◌, ◌/◌, ◌%◌, ◌≤◌, ◌<◌}
 use mathlib.Core.Path.{◌≡◌, refl, sym, ap, ◌∙◌, subst, subst⁻¹}
 use mathlib.Core.Logic.{◌≢◌, inl, inr}
@@ -10,7 +11,6 @@ use borrow.Author.Tests.{eqb-true}
 use Rattle.grid.specs.declared.Panel.{Panel}
 use Rattle.grid.specs.declared.Cell.{Cell}
 use Rattle.grid.specs.declared.Cells.{Cells}
-use Rattle.grid.specs.declared.Check.TheVariants.{Good}
 use Rattle.grid.specs.Check.{check_entry}
 use Rattle.grid.specs.Panel.{OnPanel, area, black, cell}
 use Rattle.grid.proofs.Facts.{ne_x}
@@ -18,7 +18,6 @@ use Rattle.count.specs.declared.ClassCount.{ClassCount}
 use Rattle.count.specs.Count.{odd}
 use Rattle.count.specs.ByColour.{coloured, by_colour}
 use Rattle.count.proofs.Laws.{class_by_colour}
-use Rattle.exit.specs.declared.ExitAnswer.TheVariants.{Given}
 use Rattle.exit.specs.declared.Search.{Search}
 use Rattle.exit.specs.declared.Search.TheVariants.{At, Nothing}
 use Rattle.exit.specs.Exit.{fits, first_fit, exit_of}
@@ -48,11 +47,11 @@ module _ (p : Panel) (s : Cell) (w : Cells) where
 -- Exit gives one of the first three cells of the top row
 pub record TopLeft (p : Panel) (s : Cell) (w : Cells) : Type 0 where
   pub c : Cell
-  pub given : exit_of p s w ≡ Given c
+  pub given : exit_of p s w ≡ Ok c
   pub top : c.y ≡ 1
   pub left : c.x ≤ 3
 
-module _ (p : Panel) (s : Cell) (w : Cells) (g : check_entry p s ≡ Good) (wide : 3 < p.width) (high : 3 < p.height) where
+module _ (p : Panel) (s : Cell) (w : Cells) (g : check_entry p s ≡ (Ok tt)) (wide : 3 < p.width) (high : 3 < p.height) where
   -- cell x of the top row fits, by the colours
   near : (x : ℕ) → 1 ≤ x → x ≤ 3 → s ≢ cell x 1 → {o b : Bool} → odd (area p) ≡ o → black s ≡ b
       → w.0 ≤ (coloured (area p) o b (black (cell x 1))).count.0 → TopLeft p s w
