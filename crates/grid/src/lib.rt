@@ -151,7 +151,7 @@ pub fn steps_of(cells: Cells) -> Steps
 fn between(low: u32, high: u32, a: u32) -> bool
     ensures { result ≡ between low high a }
 {
-    low <= a && a <= high
+    (low..=high).contains(&a)
 }
 
 // The one way that a panel is made.
@@ -182,7 +182,7 @@ pub fn turn_cell(c: Cell) -> Cell
 pub fn distance(a: u32, b: u32) -> u32
     ensures { result ≡ dist a b }
 {
-    if a <= b { b - a } else { a - b }
+    a.abs_diff(b)
 }
 
 fn good_sides(p: Panel) -> bool
