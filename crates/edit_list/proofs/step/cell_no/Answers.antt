@@ -4,7 +4,7 @@ use Prim.Native.Nat.{◌-◌, ◌*◌}
 use mathlib.Core.Path.{◌∙◌}
 use Rattle.list.proofs.Cells.{cell_bytes}
 use Rattle.list.proofs.Indexed.{two_bytes, cell_index}
-use Rattle.edit_list.proofs.cell_no.Goals as goal
+use Rattle.edit_list.proofs.step.cell_no.Goals as goal
 
 pub overflow_mul-place : goal.overflow_mul-place
 overflow_mul-place c = let a = c.args in omega (arith, two_bytes a.list.now (a.place - 1) (omega arith))
