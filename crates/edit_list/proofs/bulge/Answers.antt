@@ -1,6 +1,6 @@
 -- The cells of the detour are found, the cells behind the place slide up, and the detour goes into the gap.
 use native.Mathlib.Omega.{arith}
-use Prim.Native.Nat.{ℕ, ◌+◌, ◌-◌, ◌*◌, ◌≤◌}
+use Prim.Native.Nat.{ℕ, ◌+◌, ◌*◌, ◌≤◌}
 use mathlib.Core.Path.{◌≡◌, subst⁻¹, ◌∙◌}
 use mathlib.Core.List.{List, [], ◌∷◌}
 use lib.ListN.{length}
@@ -23,8 +23,7 @@ copy_within-requires-clause-dest_in_bounds c =
     let a = c.args in
     let can = c.requires.can in
     let within = step_within a.list.now a.cells a.e (omega (arith, c.requires.held)) can.panel can.can c.requires.kind in
-    let fits : 2 * a.e.place + 4 + (2 * a.cells - 2 * a.e.place) ≤ length a.list.now = omega (arith, within, c.requires.held) in
-    fits
+    omega (arith, within, c.requires.held)
 
 -- what was found beside the ends of the step is the detour's cell
 found : (side : Side) (l : List Cell) (k : ℕ) {s : Side} {a b c d r : Cell} → a ≡ cell_no l k → b ≡ cell_no l (k + 1) → s ≡ side → c ≡ d

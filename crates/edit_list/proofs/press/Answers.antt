@@ -1,7 +1,5 @@
 -- The cells behind the detour slide down over it, and what they leave behind is cleared.
 use native.Mathlib.Omega.{arith}
-use Prim.Native.Nat.{◌+◌, ◌-◌, ◌*◌, ◌≤◌}
-use lib.ListN.{length}
 use Rattle.edit_list.proofs.Made.{detour_within, press_made}
 use Rattle.edit_list.proofs.press.Goals as goal
 
@@ -13,9 +11,8 @@ copy_within-requires-clause-start_le_end c =
 pub copy_within-requires-clause-dest_in_bounds : goal.copy_within-requires-clause-dest_in_bounds
 copy_within-requires-clause-dest_in_bounds c =
     let a = c.args in
-    let fits : 2 * a.e.place + (2 * a.cells - (2 * a.e.place + 4)) ≤ length a.list.now =
-    omega (arith, detour_within a.list.now a.cells a.e c.requires.held c.requires.can.panel c.requires.can.can c.requires.kind, c.requires.held) in
-    fits
+    let within = detour_within a.list.now a.cells a.e c.requires.held c.requires.can.panel c.requires.can.can c.requires.kind in
+    omega (arith, within, c.requires.held)
 
 pub overflow_sub-cells : goal.overflow_sub-cells
 overflow_sub-cells c =
