@@ -5,14 +5,13 @@
 ghost use Rattle.std.specs.Prelude.{◌≡◌, true, ◌≤◌, length};
 ghost use Rattle.grid.specs.Panel.{good_sides, area};
 ghost use Rattle.grid.specs.Bytes.{cells_in};
-ghost use Rattle.list.specs.List.{whole_cells};
 ghost use Rattle.scratch.specs.Scratch.{cleared, Clean};
 ghost use Rattle.judge.specs.Judge.{sizes_check, cells_check, Judges};
 ghost use Rattle.judge.specs.Walk.{Decides, Walked};
 
 use grid::{Cell, Cells, Order, Panel, Refusal, area_of, ensure};
 use judge_walk::{Kept, start, take_cell};
-use list::{cell_at, whole_cells};
+use list::{pairs, whole_cells};
 use scratch::clear;
 
 // The refusals that are tested before any cell is looked at.
@@ -28,32 +27,25 @@ fn check_sizes(o: Order, bytes: usize, room: usize) -> Result<(), Refusal>
 fn verdict(exit: Cell, kept: Kept) -> Result<(), Refusal>
     ensures { Decides exit kept result }
 {
-    let last = Cell {
-        x: kept.x,
-        y: kept.y,
-    };
-    ensure(kept.off == 0, Refusal::CellOff)?;
+    ensure(kept.on, Refusal::CellOff)?;
     ensure(kept.jump == 0, Refusal::NotNeighbours)?;
-    ensure(kept.twice == 0, Refusal::Repeated)?;
-    ensure(kept.begins && last == exit, Refusal::WrongEnds)
+    ensure(kept.once, Refusal::Repeated)?;
+    ensure(kept.begins && kept.last == exit, Refusal::WrongEnds)
 }
 
 // Walks the list in clean scratch. Only a cell off the panel ends the walk: 7 is tested before all
 // else, so that no later cell changes it, while a later 7 comes before an 8, and an 8 before a 9.
-fn walk(p: Panel, entry: Cell, list: &[u8], scratch: &mut [u8]) -> Kept
-    requires good { good_sides p ≡ true }
-    requires whole { whole_cells (length list.now) ≡ true }
-    requires clean { Clean p scratch.old }
-    ensures { Walked p entry (cells_in list.now) scratch.old result scratch.new }
+fn walk(o: Order, list: &[u8], scratch: &mut [u8]) -> Kept
+    requires good { good_sides o.panel ≡ true }
+    requires clean { Clean o.panel scratch.old }
+    ensures { Walked o.panel o.entry (cells_in list.now) scratch.old result scratch.new }
 {
     let mut k = start();
-    let mut at = 0;
-    while at < list.len() {
-        k = take_cell(p, entry, k, cell_at(list, at), scratch);
-        if k.off != 0 {
+    for &pair in pairs(list) {
+        k = take_cell(o, k, Cell::from(pair), scratch);
+        if !k.on {
             return k;
         }
-        at = k.bytes;
     }
     k
 }
@@ -61,14 +53,13 @@ fn walk(p: Panel, entry: Cell, list: &[u8], scratch: &mut [u8]) -> Kept
 // The refusals of the cells. Scratch is lent dirty and left clean, whichever test fails.
 fn check_cells(o: Order, list: &[u8], scratch: &mut [u8]) -> Result<(), Refusal>
     requires good { good_sides o.panel ≡ true }
-    requires whole { whole_cells (length list.now) ≡ true }
     requires room { area o.panel ≤ length scratch.old }
     ensures told { result ≡ cells_check o.panel o.entry o.exit (cells_in list.now) }
     ensures left { scratch.new ≡ cleared o.panel scratch.old }
 {
     clear(o.panel, scratch); // whatever was lent
     // Told before clearing, so that the kept numbers need not outlast it (docs/PERFORMANCE.md).
-    let told = verdict(o.exit, walk(o.panel, o.entry, list, scratch));
+    let told = verdict(o.exit, walk(o, list, scratch));
     clear(o.panel, scratch);
     told
 }

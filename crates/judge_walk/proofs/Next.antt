@@ -72,29 +72,29 @@ last_in_bytes {p} g d (c ∷ l) b e =
     last_in_bytes g c l (in_bytes g (on p c here)) there
 
 pub kept_in_bytes : {p : Panel} {s : Cell} {l : List Cell} {k : Kept} {marks : List ℕ}
-    → GoodSides p → Stands p s l k marks → k.off ≡ 0 → InBytes (cell k.x k.y)
+    → GoodSides p → Stands p s l k marks → k.on ≡ true → InBytes k.last
 kept_in_bytes {l = l} g z f =
-    let e = sym z.off ∙ eq-eqb _ _ f in
-    subst⁻¹ InBytes (z.on e).last (last_in_bytes g (cell 0 0) l (record { across = omega arith; down = omega arith }) e)
+    let e = sym z.on ∙ f in
+    subst⁻¹ InBytes (z.kept e).last (last_in_bytes g (cell 0 0) l (record { across = omega arith; down = omega arith }) e)
 
 -- ---- the start
 
 pub stands_none : (p : Panel) (s : Cell) {marks : List ℕ} → Clean p marks
-    → Stands p s [] (record { off = 0; jump = 0; twice = 0; begins = false; x = 0; y = 0; bytes = 0 }) marks
+    → Stands p s [] (record { on = true; jump = 0; once = true; begins = false; last = cell 0 0; bytes = 0 }) marks
 stands_none p s {marks} k = record {
   room = k.room;
   bytes = refl;
-  off = refl;
-  on = λ _. record { jump = refl; twice = refl; begins = refl; last = refl; marked = λ c o. unmarked_clean marks o k };
+  on = refl;
+  kept = λ _. record { jump = refl; once = refl; begins = refl; last = refl; marked = λ c o. unmarked_clean marks o k };
 }
 
 -- ---- the step
 
 -- r is what is kept behind k of a cell of the panel whose place held mark
 pub record Moved (k : Kept) (c : Cell) (mark : ℕ) (r : Kept) : Type 0 where
-  pub off : r.off ≡ k.off
-  pub twice : eqb r.twice 0 ≡ (eqb k.twice 0 && eqb mark 0)
-  pub last : cell r.x r.y ≡ c
+  pub on : r.on ≡ k.on
+  pub once : r.once ≡ (k.once && eqb mark 0)
+  pub last : r.last ≡ c
   pub bytes : r.bytes ≡ k.bytes + 2
 
 -- what r keeps of the steps and of the first cell, with c behind the list l
@@ -110,14 +110,14 @@ behind_on p l c = all_on_append p l (c ∷ []) ∙ ap (λ (b : Bool). all_on p l
 
 module _ (p : Panel) (s c : Cell) {k r : Kept} {marks : List ℕ} where
   -- the list is off the panel, or c puts it off
-  pub takes_off : r.off ≢ 0 → r.bytes ≡ k.bytes + 2 → ((l : List Cell) → Stands p s l k marks → (all_on p l && on_panel p c) ≡ false)
+  pub takes_off : r.on ≡ false → r.bytes ≡ k.bytes + 2 → ((l : List Cell) → Stands p s l k marks → (all_on p l && on_panel p c) ≡ false)
       → Takes p s k c marks r marks
   takes_off o b e = record {
     next = λ l z. record {
       room = z.room;
       bytes = omega (arith, b, z.bytes, length_behind l c);
-      off = ne_eqb _ _ o ∙ sym (behind_on p l c ∙ e l z);
-      on = λ a. absurd (true≢false (sym a ∙ behind_on p l c ∙ e l z));
+      on = o ∙ sym (behind_on p l c ∙ e l z);
+      kept = λ a. absurd (true≢false (sym a ∙ behind_on p l c ∙ e l z));
     };
     rest = refl;
   }
@@ -128,7 +128,7 @@ module _ (p : Panel) (s c : Cell) {k r : Kept} {marks : List ℕ} where
   first j b e [] n z = record { jump = ap (λ (i : ℕ). eqb i 0) j ∙ z.jump; begins = b }
   first j b e (d ∷ l) n z = absurd (omega arith)
 
-  pub later : eqb r.jump 0 ≡ (eqb k.jump 0 && neighbours (cell k.x k.y) c) → r.begins ≡ k.begins → k.bytes ≢ 0
+  pub later : eqb r.jump 0 ≡ (eqb k.jump 0 && neighbours k.last c) → r.begins ≡ k.begins → k.bytes ≢ 0
       → (l : List Cell) → k.bytes ≡ 2 * length l → KeptOn p s l k marks → Steps s c l r
   later j b e [] n z = absurd (e n)
   later j b e (d ∷ l) n z = record {
@@ -137,16 +137,16 @@ module _ (p : Panel) (s c : Cell) {k r : Kept} {marks : List ℕ} where
   }
 
   -- a cell of the panel is marked
-  module _ {at : ℕ} (f : k.off ≡ 0) (o : OnPanel p c) (e : at ≡ place p c) (m : Moved k c (get_or marks at 0) r)
+  module _ {at : ℕ} (f : k.on ≡ true) (o : OnPanel p c) (e : at ≡ place p c) (m : Moved k c (get_or marks at 0) r)
       (steps : (l : List Cell) → k.bytes ≡ 2 * length l → KeptOn p s l k marks → Steps s c l r) where
     stands_on : (l : List Cell) → Stands p s l k marks → Stands p s (l ++ c ∷ []) r (set marks at 1)
     stands_on l z = record {
       room = omega (arith, z.room, length-set marks at 1);
       bytes = omega (arith, m.bytes, z.bytes, length_behind l c);
-      off = ap (λ (i : ℕ). eqb i 0) m.off ∙ z.off ∙ sym (behind_on p l c ∙ ap (λ (b : Bool). all_on p l && b) (is_on o) ∙ and-true (all_on p l));
-      on = λ _. record {
+      on = m.on ∙ z.on ∙ sym (behind_on p l c ∙ ap (λ (b : Bool). all_on p l && b) (is_on o) ∙ and-true (all_on p l));
+      kept = λ _. record {
         jump = (steps l z.bytes kept).jump;
-        twice = m.twice ∙ (λ i. kept.twice i && met i) ∙ sym (none_twice_behind l c);
+        once = m.once ∙ (λ i. kept.once i && met i) ∙ sym (none_twice_behind l c);
         begins = (steps l z.bytes kept).begins;
         last = m.last ∙ sym (last_behind (cell 0 0) l c);
         marked = λ d q. ap (λ (j : ℕ). unmarked p (set marks j 1) d) e ∙ unmarked_set marks o z.room q
@@ -156,7 +156,7 @@ module _ (p : Panel) (s c : Cell) {k r : Kept} {marks : List ℕ} where
     }
       where
         kept : KeptOn p s l k marks
-        kept = z.on (sym z.off ∙ eq-eqb _ _ f)
+        kept = z.kept (sym z.on ∙ f)
 
         met : eqb (get_or marks at 0) 0 ≡ not (among c l)
         met = ap (λ (j : ℕ). eqb (get_or marks j 0) 0) e ∙ kept.marked c o
