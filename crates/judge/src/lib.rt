@@ -28,7 +28,7 @@ fn verdict(exit: Cell, kept: Kept) -> Result<(), Refusal>
     ensures { Decides exit kept result }
 {
     ensure(kept.on, Refusal::CellOff)?;
-    ensure(kept.jump == 0, Refusal::NotNeighbours)?;
+    ensure(kept.steps, Refusal::NotNeighbours)?;
     ensure(kept.once, Refusal::Repeated)?;
     ensure(kept.begins && kept.last == exit, Refusal::WrongEnds)
 }

@@ -24,33 +24,6 @@ use Rattle.scratch.proofs.Marks.{unmarked_clean, unmarked_set}
 use Rattle.judge_walk.specs.declared.Kept.{Kept}
 use Rattle.judge_walk.specs.Walk.{starts, KeptOn, Stands, Takes}
 
--- ---- bits
-
--- two numbers ored are 0 exactly if both are
-pub or_zero : (a b : ℕ) → eqb (bit_or a b) 0 ≡ (eqb a 0 && eqb b 0)
-or_zero a b = by_first (eqb a 0) refl
-  where
-    by_first : (r : Bool) → eqb a 0 ≡ r → eqb (bit_or a b) 0 ≡ (r && eqb b 0)
-    by_first true e = ap (λ (k : ℕ). eqb (bit_or k b) 0) (eqb-true a 0 e) ∙ ap (λ (k : ℕ). eqb k 0) (or_zero_l b)
-    by_first false e =
-        let n : a ≢ 0 = eqb-false a 0 e in
-        ne_eqb (bit_or a b) 0 (omega (arith, n, or_add_and a b, and_le_r a b))
-
--- a number has the bits of 1 exactly if it is 1
-xor_one : (n : ℕ) → eqb (bit_xor n 1) 0 ≡ eqb n 1
-xor_one n = by_one (eqb n 1) refl
-  where
-    by_one : (r : Bool) → eqb n 1 ≡ r → eqb (bit_xor n 1) 0 ≡ r
-    by_one true e = ap (λ (k : ℕ). eqb (bit_xor k 1) 0) (eqb-true n 1 e)
-    by_one false e =
-        let d : n ≢ 1 = eqb-false n 1 e in
-        ne_eqb (bit_xor n 1) 0 (omega (arith, d, xor_add_and n 1, and_le_r n 1))
-
-pub step_kept : (j : ℕ) (a b : Cell) → eqb (bit_or j (bit_xor (squared_distance a b) 1)) 0 ≡ (eqb j 0 && neighbours a b)
-step_kept j a b =
-    or_zero j (bit_xor (squared_distance a b) 1)
-    ∙ ap (λ (r : Bool). eqb j 0 && r) (xor_one (squared_distance a b) ∙ step_by_squares a b)
-
 not_or : (a b : Bool) → not (a || b) ≡ (not a && not b)
 not_or true b = refl
 not_or false b = refl
@@ -80,12 +53,12 @@ kept_in_bytes {l = l} g z f =
 -- ---- the start
 
 pub stands_none : (p : Panel) (s : Cell) {marks : List ℕ} → Clean p marks
-    → Stands p s [] (record { on = true; jump = 0; once = true; begins = false; last = cell 0 0; bytes = 0 }) marks
+    → Stands p s [] (record { on = true; steps = true; once = true; begins = false; last = cell 0 0; bytes = 0 }) marks
 stands_none p s {marks} k = record {
   room = k.room;
   bytes = refl;
   on = refl;
-  kept = λ _. record { jump = refl; once = refl; begins = refl; last = refl; marked = λ c o. unmarked_clean marks o k };
+  kept = λ _. record { steps = refl; once = refl; begins = refl; last = refl; marked = λ c o. unmarked_clean marks o k };
 }
 
 -- ---- the step
@@ -99,7 +72,7 @@ pub record Moved (k : Kept) (c : Cell) (mark : ℕ) (r : Kept) : Type 0 where
 
 -- what r keeps of the steps and of the first cell, with c behind the list l
 pub record Steps (s c : Cell) (l : List Cell) (r : Kept) : Type 0 where
-  pub jump : eqb r.jump 0 ≡ all_steps (l ++ c ∷ [])
+  pub steps : r.steps ≡ all_steps (l ++ c ∷ [])
   pub begins : r.begins ≡ starts s (l ++ c ∷ [])
 
 length_behind : (l : List Cell) (c : Cell) → length (l ++ c ∷ []) ≡ length l + 1
@@ -123,16 +96,16 @@ module _ (p : Panel) (s c : Cell) {k r : Kept} {marks : List ℕ} where
   }
 
   -- c is the first cell, or it follows the last one
-  pub first : r.jump ≡ k.jump → r.begins ≡ same_cell c s → k.bytes ≡ 0
+  pub first : r.steps ≡ k.steps → r.begins ≡ same_cell c s → k.bytes ≡ 0
       → (l : List Cell) → k.bytes ≡ 2 * length l → KeptOn p s l k marks → Steps s c l r
-  first j b e [] n z = record { jump = ap (λ (i : ℕ). eqb i 0) j ∙ z.jump; begins = b }
+  first j b e [] n z = record { steps = j ∙ z.steps; begins = b }
   first j b e (d ∷ l) n z = absurd (omega arith)
 
-  pub later : eqb r.jump 0 ≡ (eqb k.jump 0 && neighbours k.last c) → r.begins ≡ k.begins → k.bytes ≢ 0
+  pub later : r.steps ≡ (k.steps && neighbours k.last c) → r.begins ≡ k.begins → k.bytes ≢ 0
       → (l : List Cell) → k.bytes ≡ 2 * length l → KeptOn p s l k marks → Steps s c l r
   later j b e [] n z = absurd (e n)
   later j b e (d ∷ l) n z = record {
-    jump = j ∙ (λ i. z.jump i && neighbours (z.last i) c) ∙ sym (steps_behind d l c);
+    steps = j ∙ (λ i. z.steps i && neighbours (z.last i) c) ∙ sym (steps_behind d l c);
     begins = b ∙ z.begins;
   }
 
@@ -145,7 +118,7 @@ module _ (p : Panel) (s c : Cell) {k r : Kept} {marks : List ℕ} where
       bytes = omega (arith, m.bytes, z.bytes, length_behind l c);
       on = m.on ∙ z.on ∙ sym (behind_on p l c ∙ ap (λ (b : Bool). all_on p l && b) (is_on o) ∙ and-true (all_on p l));
       kept = λ _. record {
-        jump = (steps l z.bytes kept).jump;
+        steps = (steps l z.bytes kept).steps;
         once = m.once ∙ (λ i. kept.once i && met i) ∙ sym (none_twice_behind l c);
         begins = (steps l z.bytes kept).begins;
         last = m.last ∙ sym (last_behind (cell 0 0) l c);

@@ -1,6 +1,6 @@
 -- Document 02, R-3: what Judge keeps of the cells that it has passed. The kept numbers and the scratch stand for a list of cells; whatever
 -- list that is, they and the next cell say what stands for the list with that cell behind it, with no look back into the list.
-use Rattle.std.specs.Prelude.{ℕ, ◌*◌, ◌≤◌, ◌≡◌, Bool, true, false, not, List, [], ◌∷◌, ◌++◌, eqb, length, drop}
+use Rattle.std.specs.Prelude.{ℕ, ◌*◌, ◌≤◌, ◌≡◌, Bool, true, false, not, List, [], ◌∷◌, ◌++◌, length, drop}
 use Rattle.grid.specs.declared.Panel.{Panel}
 use Rattle.grid.specs.declared.Cell.{Cell}
 use Rattle.grid.specs.Panel.{cell, area, OnPanel, same_cell}
@@ -16,7 +16,7 @@ starts s (c ∷ l) = same_cell c s
 -- what is kept of a list whose cells are all on the panel: the tests of its steps, of repeats and of the first cell; the last cell, (0, 0)
 -- where there is none; and of each cell of the panel whether it stands in the list, which is so where its place in scratch is not 0
 pub record KeptOn (p : Panel) (s : Cell) (l : List Cell) (k : Kept) (marks : List ℕ) : Type 0 where
-  pub jump : eqb k.jump 0 ≡ all_steps l
+  pub steps : k.steps ≡ all_steps l
   pub once : k.once ≡ none_twice l
   pub begins : k.begins ≡ starts s l
   pub last : k.last ≡ last_from (cell 0 0) l

@@ -6,8 +6,8 @@ ghost use Rattle.std.specs.Prelude.{◌+◌, ◌<◌, ◌^◌, ◌≡◌, true};
 ghost use Rattle.grid.specs.Panel.{good_sides};
 ghost use Rattle.judge_walk.specs.Walk.{StandsForSome, Takes, Begins};
 
-use grid::{Cell, Order};
-use list::squared_distance;
+use grid::{Cell, Order, on_panel};
+use list::adjacent;
 use scratch::place_of;
 
 // The kept numbers of a list of cells.
@@ -15,8 +15,8 @@ use scratch::place_of;
 pub struct Kept {
     // Every cell is on the panel.
     pub on: bool,
-    // Not 0 where some two successive cells are not neighbours.
-    pub jump: u32,
+    // Each two successive cells are neighbours.
+    pub steps: bool,
     // No cell stands twice.
     pub once: bool,
     // The first cell is the entry.
@@ -33,7 +33,7 @@ pub fn start() -> Kept
 {
     Kept {
         on: true,
-        jump: 0,
+        steps: true,
         once: true,
         begins: false,
         last: Cell { x: 0, y: 0 },
@@ -50,8 +50,7 @@ pub fn take_cell(o: Order, k: Kept, c: Cell, scratch: &mut [u8]) -> Kept
 {
     let p = o.panel;
     let bytes = k.bytes + 2;
-    // The panel's test written out: by a call of on_panel the walk is slower (docs/PERFORMANCE.md).
-    if !k.on || c.x < 1 || p.width < c.x || c.y < 1 || p.height < c.y {
+    if !k.on || !on_panel(p, c) {
         return Kept {
             on: false,
             bytes,
@@ -59,7 +58,7 @@ pub fn take_cell(o: Order, k: Kept, c: Cell, scratch: &mut [u8]) -> Kept
         };
     }
     let at = place_of(p, c);
-    // The mark is kept without a branch. After a jump marks no longer matter; to ask would cost more.
+    // Both tests are kept without a branch. After a jump marks no longer matter; to ask would cost more.
     let once = k.once & (scratch[at] == 0);
     scratch[at] = 1;
     if k.bytes == 0 {
@@ -71,10 +70,8 @@ pub fn take_cell(o: Order, k: Kept, c: Cell, scratch: &mut [u8]) -> Kept
             ..k
         };
     }
-    // Some bit is set unless the distance is 1.
-    let jump = k.jump | (squared_distance(k.last, c) ^ 1);
     Kept {
-        jump,
+        steps: k.steps & adjacent(k.last, c),
         once,
         last: c,
         bytes,
