@@ -30,7 +30,7 @@ fn verdict(exit: Cell, kept: Kept) -> Result<(), Refusal>
     ensure(kept.on, Refusal::CellOff)?;
     ensure(kept.steps, Refusal::NotNeighbours)?;
     ensure(kept.once, Refusal::Repeated)?;
-    ensure(kept.begins && kept.last == exit, Refusal::WrongEnds)
+    ensure(kept.begins && kept.last == Some(exit), Refusal::WrongEnds)
 }
 
 // Walks the list in clean scratch. Only a cell off the panel ends the walk: 7 is tested before all

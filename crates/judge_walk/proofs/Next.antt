@@ -3,36 +3,29 @@
 use Prim.Native.Nat.{ℕ, ◌+◌, ◌*◌}
 use native.Mathlib.Omega.{arith}
 use mathlib.Core.Path.{◌≡◌, refl, sym, ap, subst⁻¹, ◌∙◌}
-use mathlib.Core.Logic.{◌≢◌}
 use mathlib.Core.Bool.{Bool, true, false, not, ◌&&◌, ◌||◌, and-true, true≢false}
 use mathlib.Core.List.{List, [], ◌∷◌, ◌++◌}
-use lib.Bits.{bit_or, bit_xor, or_zero_l, or_add_and, and_le_r, xor_add_and}
 use lib.Dec.{eqb}
 use lib.ListN.{length, get_or, set, length-append, length-set}
-use borrow.Author.Tests.{eqb-true, eqb-false, eq-eqb, ne_eqb}
+use Rattle.std.specs.Prelude.{None, Some}
 use Rattle.grid.specs.declared.Panel.{Panel}
 use Rattle.grid.specs.declared.Cell.{Cell}
-use Rattle.grid.specs.Panel.{cell, GoodSides, on_panel, OnPanel, same_cell, neighbours}
+use Rattle.grid.specs.Panel.{GoodSides, on_panel, OnPanel, same_cell, neighbours}
 use Rattle.grid.specs.Bytes.{InBytes}
-use Rattle.grid.proofs.Facts.{test_fails, and_parts, on, is_on}
-use Rattle.list.specs.List.{squared_distance, all_on, all_steps, among, last_from}
-use Rattle.list.proofs.Apart.{step_by_squares}
+use Rattle.grid.proofs.Facts.{and_parts, on, is_on}
+use Rattle.list.specs.List.{all_on, all_steps, among, last_from}
 use Rattle.list.proofs.Behind.{all_on_append, last_behind, steps_behind, among_behind, none_twice_behind}
 use Rattle.scratch.specs.Scratch.{place, unmarked, Clean}
 use Rattle.scratch.proofs.Places.{put_rest}
 use Rattle.scratch.proofs.Marks.{unmarked_clean, unmarked_set}
 use Rattle.judge_walk.specs.declared.Kept.{Kept}
-use Rattle.judge_walk.specs.Walk.{starts, KeptOn, Stands, Takes}
+use Rattle.judge_walk.specs.Walk.{starts, ends, KeptOn, Stands, Takes}
 
 not_or : (a b : Bool) → not (a || b) ≡ (not a && not b)
 not_or true b = refl
 not_or false b = refl
 
 -- ---- cells of the panel
-
--- a cell that cannot be on it
-pub is_off : (p : Panel) (c : Cell) → (OnPanel p c → ⊥) → on_panel p c ≡ false
-is_off p c n = test_fails (on_panel p c) (λ e. n (on p c e))
 
 -- they are in bytes, and so is the last cell that is kept
 pub in_bytes : {p : Panel} {c : Cell} → GoodSides p → OnPanel p c → InBytes c
@@ -44,16 +37,26 @@ last_in_bytes {p} g d (c ∷ l) b e =
     let (here, there) = and_parts (on_panel p c) (all_on p l) e in
     last_in_bytes g c l (in_bytes g (on p c here)) there
 
-pub kept_in_bytes : {p : Panel} {s : Cell} {l : List Cell} {k : Kept} {marks : List ℕ}
-    → GoodSides p → Stands p s l k marks → k.on ≡ true → InBytes k.last
-kept_in_bytes {l = l} g z f =
-    let e = sym z.on ∙ f in
-    subst⁻¹ InBytes (z.kept e).last (last_in_bytes g (cell 0 0) l (record { across = omega arith; down = omega arith }) e)
+pub kept_in_bytes : {p : Panel} {s c : Cell} {l : List Cell} {k : Kept} {marks : List ℕ}
+    → GoodSides p → Stands p s l k marks → k.on ≡ true → k.last ≡ Some c → InBytes c
+kept_in_bytes {p} {c = c} {l} g z f e = of l (sym z.on ∙ f) (sym e ∙ (z.kept (sym z.on ∙ f)).last)
+  where
+    of : (l : List Cell) → all_on p l ≡ true → Some c ≡ ends l → InBytes c
+    of [] a b = absurd (cc)
+    of (d ∷ l) a b =
+        let (here, there) = and_parts (on_panel p d) (all_on p l) a in
+        let same : c ≡ last_from d l = cc in
+        subst⁻¹ InBytes same (last_in_bytes g d l (in_bytes g (on p d here)) there)
+
+-- the last cell of a list with c behind it is c
+ends_behind : (l : List Cell) (c : Cell) → Some c ≡ ends (l ++ c ∷ [])
+ends_behind [] c = refl
+ends_behind (d ∷ l) c = ap Some (sym (last_behind d l c))
 
 -- ---- the start
 
 pub stands_none : (p : Panel) (s : Cell) {marks : List ℕ} → Clean p marks
-    → Stands p s [] (record { on = true; steps = true; once = true; begins = false; last = cell 0 0; bytes = 0 }) marks
+    → Stands p s [] (record { on = true; steps = true; once = true; begins = false; last = None; bytes = 0 }) marks
 stands_none p s {marks} k = record {
   room = k.room;
   bytes = refl;
@@ -67,7 +70,7 @@ stands_none p s {marks} k = record {
 pub record Moved (k : Kept) (c : Cell) (mark : ℕ) (r : Kept) : Type 0 where
   pub on : r.on ≡ k.on
   pub once : r.once ≡ (k.once && eqb mark 0)
-  pub last : r.last ≡ c
+  pub last : r.last ≡ Some c
   pub bytes : r.bytes ≡ k.bytes + 2
 
 -- what r keeps of the steps and of the first cell, with c behind the list l
@@ -96,32 +99,34 @@ module _ (p : Panel) (s c : Cell) {k r : Kept} {marks : List ℕ} where
   }
 
   -- c is the first cell, or it follows the last one
-  pub first : r.steps ≡ k.steps → r.begins ≡ same_cell c s → k.bytes ≡ 0
-      → (l : List Cell) → k.bytes ≡ 2 * length l → KeptOn p s l k marks → Steps s c l r
-  first j b e [] n z = record { steps = j ∙ z.steps; begins = b }
-  first j b e (d ∷ l) n z = absurd (omega arith)
+  pub first : r.steps ≡ k.steps → r.begins ≡ same_cell c s → k.last ≡ None → (l : List Cell) → KeptOn p s l k marks → Steps s c l r
+  first j b e [] z = record { steps = j ∙ z.steps; begins = b }
+  first j b e (d ∷ l) z = let last = z.last in absurd (cc)
 
-  pub later : r.steps ≡ (k.steps && neighbours k.last c) → r.begins ≡ k.begins → k.bytes ≢ 0
-      → (l : List Cell) → k.bytes ≡ 2 * length l → KeptOn p s l k marks → Steps s c l r
-  later j b e [] n z = absurd (e n)
-  later j b e (d ∷ l) n z = record {
-    steps = j ∙ (λ i. z.steps i && neighbours (z.last i) c) ∙ sym (steps_behind d l c);
-    begins = b ∙ z.begins;
-  }
+  pub later : {d : Cell} → r.steps ≡ (k.steps && neighbours d c) → r.begins ≡ k.begins → k.last ≡ Some d
+      → (l : List Cell) → KeptOn p s l k marks → Steps s c l r
+  later j b e [] z = let last = z.last in absurd (cc)
+  later {d} j b e (a ∷ l) z =
+      let last = z.last in
+      let same : d ≡ last_from a l = cc in
+      record {
+        steps = j ∙ (λ i. z.steps i && neighbours (same i) c) ∙ sym (steps_behind a l c);
+        begins = b ∙ z.begins;
+      }
 
   -- a cell of the panel is marked
   module _ {at : ℕ} (f : k.on ≡ true) (o : OnPanel p c) (e : at ≡ place p c) (m : Moved k c (get_or marks at 0) r)
-      (steps : (l : List Cell) → k.bytes ≡ 2 * length l → KeptOn p s l k marks → Steps s c l r) where
+      (steps : (l : List Cell) → KeptOn p s l k marks → Steps s c l r) where
     stands_on : (l : List Cell) → Stands p s l k marks → Stands p s (l ++ c ∷ []) r (set marks at 1)
     stands_on l z = record {
       room = omega (arith, z.room, length-set marks at 1);
       bytes = omega (arith, m.bytes, z.bytes, length_behind l c);
       on = m.on ∙ z.on ∙ sym (behind_on p l c ∙ ap (λ (b : Bool). all_on p l && b) (is_on o) ∙ and-true (all_on p l));
       kept = λ _. record {
-        steps = (steps l z.bytes kept).steps;
+        steps = (steps l kept).steps;
         once = m.once ∙ (λ i. kept.once i && met i) ∙ sym (none_twice_behind l c);
-        begins = (steps l z.bytes kept).begins;
-        last = m.last ∙ sym (last_behind (cell 0 0) l c);
+        begins = (steps l kept).begins;
+        last = m.last ∙ ends_behind l c;
         marked = λ d q. ap (λ (j : ℕ). unmarked p (set marks j 1) d) e ∙ unmarked_set marks o z.room q
             ∙ ap (λ (b : Bool). not (same_cell c d) && b) (kept.marked d q)
             ∙ sym (ap not (among_behind d l c) ∙ not_or (same_cell c d) (among d l));

@@ -21,8 +21,8 @@ pub struct Kept {
     pub once: bool,
     // The first cell is the entry.
     pub begins: bool,
-    // The last cell; (0, 0) where there is none.
-    pub last: Cell,
+    // The last cell, if there is one.
+    pub last: Option<Cell>,
     // The bytes of the list.
     pub bytes: usize,
 }
@@ -36,7 +36,7 @@ pub fn start() -> Kept
         steps: true,
         once: true,
         begins: false,
-        last: Cell { x: 0, y: 0 },
+        last: None,
         bytes: 0,
     }
 }
@@ -61,19 +61,19 @@ pub fn take_cell(o: Order, k: Kept, c: Cell, scratch: &mut [u8]) -> Kept
     // Both tests are kept without a branch. After a jump marks no longer matter; to ask would cost more.
     let once = k.once & (scratch[at] == 0);
     scratch[at] = 1;
-    if k.bytes == 0 {
+    let Some(last) = k.last else {
         return Kept {
             once,
             begins: c == o.entry,
-            last: c,
+            last: Some(c),
             bytes,
             ..k
         };
-    }
+    };
     Kept {
-        steps: k.steps & adjacent(k.last, c),
+        steps: k.steps & adjacent(last, c),
         once,
-        last: c,
+        last: Some(c),
         bytes,
         ..k
     }

@@ -3,6 +3,7 @@ use borrow.Author.Tests.{tests}
 use mathlib.Core.Path.{◌≡◌, refl, sym, ap, ◌∙◌}
 use mathlib.Core.Bool.{Bool, true, false, ◌&&◌, and-false}
 use mathlib.Core.List.{List}
+use Rattle.std.specs.Prelude.{None}
 use Rattle.std.proofs.Common.{rules}
 use Rattle.grid.specs.declared.Cell.{Cell}
 use Rattle.grid.specs.Panel.{on_panel, OnPanel}
@@ -38,20 +39,21 @@ bounds-scratch-at-2 c =
     let here : on_panel c.args.o.panel c.args.c ≡ true = search (rules, tests) in
     place_in (on c.args.o.panel c.args.c here) c.place_of-at.ensures c.requires.stands.stands.room
 
-pub returns-then-k-eq0 : goal.returns-then-k-eq0
-returns-then-k-eq0 c =
+pub returns-in_default : goal.returns-in_default
+returns-in_default c =
+    let none : c.args.k.last ≡ None = search (rules, tests) in
     let inside : c.args.k.on ≡ true = search (rules, tests) in
     let here : on_panel c.args.o.panel c.args.c ≡ true = search (rules, tests) in
     takes_on _ _ _ inside (on c.args.o.panel c.args.c here) c.place_of-at.ensures
     (record { on = refl; once = refl; last = refl; bytes = refl })
-    (first _ _ _ refl c.eq.ensures c.if-k-eq0.true)
+    (first _ _ _ refl c.eq.ensures none)
 
 pub adjacent-requires : goal.adjacent-requires
 adjacent-requires c =
     let g = sides c.args.o.panel c.requires.good in
     let inside : c.args.k.on ≡ true = search (rules, tests) in
     let here : on_panel c.args.o.panel c.args.c ≡ true = search (rules, tests) in
-    (kept_in_bytes g c.requires.stands.stands inside, in_bytes g (on c.args.o.panel c.args.c here))
+    (kept_in_bytes g c.requires.stands.stands inside c.in-Some.is, in_bytes g (on c.args.o.panel c.args.c here))
 
 pub returns : goal.returns
 returns c =
@@ -59,4 +61,4 @@ returns c =
     let here : on_panel c.args.o.panel c.args.c ≡ true = search (rules, tests) in
     takes_on _ _ _ inside (on c.args.o.panel c.args.c here) c.place_of-at.ensures
     (record { on = refl; once = refl; last = refl; bytes = refl })
-    (later _ _ _ (ap (λ (b : Bool). c.args.k.steps && b) c.adjacent.ensures) refl c.if-k-eq0.false)
+    (later _ _ _ (ap (λ (b : Bool). c.args.k.steps && b) c.adjacent.ensures) refl c.in-Some.is)
