@@ -1,6 +1,6 @@
 -- What stands for a list with a cell behind it, in each arm of the step. A cell off the panel is off whatever follows. A cell of the panel is
 -- looked up among the marks and marked, and becomes the last; its distance from the last one tells whether they are neighbours.
-use Prim.Native.Nat.{ℕ, ◌+◌, ◌*◌}
+use Prim.Native.Nat.{ℕ, ◌+◌}
 use native.Mathlib.Omega.{arith}
 use mathlib.Core.Path.{◌≡◌, refl, sym, ap, subst⁻¹, ◌∙◌}
 use mathlib.Core.Bool.{Bool, true, false, not, ◌&&◌, ◌||◌, and-true, true≢false}

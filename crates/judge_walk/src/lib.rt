@@ -41,40 +41,38 @@ pub fn start() -> Kept
     }
 }
 
-// Takes the next cell.
+// Takes the next cell. What is kept of it is kept without a branch: after a jump marks no longer
+// matter, but to ask would cost more.
 pub fn take_cell(o: Order, k: Kept, c: Cell, scratch: &mut [u8]) -> Kept
     requires good { good_sides o.panel ≡ true }
     requires stands { StandsForSome o.panel o.entry k scratch.old }
     requires fits { k.bytes + 2 < 2 ^ 64 }
     ensures { Takes o.panel o.entry k c scratch.old result scratch.new }
 {
-    let p = o.panel;
     let bytes = k.bytes + 2;
-    if !k.on || !on_panel(p, c) {
+    if !k.on || !on_panel(o.panel, c) {
         return Kept {
             on: false,
             bytes,
             ..k
         };
     }
-    let at = place_of(p, c);
-    // Both tests are kept without a branch. After a jump marks no longer matter; to ask would cost more.
-    let once = k.once & (scratch[at] == 0);
-    scratch[at] = 1;
-    let Some(last) = k.last else {
-        return Kept {
-            once,
-            begins: c == o.entry,
-            last: Some(c),
-            bytes,
-            ..k
-        };
-    };
-    Kept {
-        steps: k.steps & adjacent(last, c),
-        once,
+    let at = place_of(o.panel, c);
+    let next = Kept {
+        once: k.once & (scratch[at] == 0),
         last: Some(c),
         bytes,
         ..k
+    };
+    scratch[at] = 1;
+    match k.last {
+        None => Kept {
+            begins: c == o.entry,
+            ..next
+        },
+        Some(last) => Kept {
+            steps: k.steps & adjacent(last, c),
+            ..next
+        },
     }
 }

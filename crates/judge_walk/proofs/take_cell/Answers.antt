@@ -2,11 +2,8 @@
 use borrow.Author.Tests.{tests}
 use mathlib.Core.Path.{◌≡◌, refl, sym, ap, ◌∙◌}
 use mathlib.Core.Bool.{Bool, true, false, ◌&&◌, and-false}
-use mathlib.Core.List.{List}
-use Rattle.std.specs.Prelude.{None}
 use Rattle.std.proofs.Common.{rules}
-use Rattle.grid.specs.declared.Cell.{Cell}
-use Rattle.grid.specs.Panel.{on_panel, OnPanel}
+use Rattle.grid.specs.Panel.{on_panel}
 use Rattle.grid.proofs.Facts.{on, sides}
 use Rattle.list.specs.List.{all_on}
 use Rattle.scratch.proofs.Places.{place_in}
@@ -22,11 +19,11 @@ returns-then-not-k c =
     takes_off _ _ _ refl refl
     (λ l z. elim c.then-not-k.branch [
       | then-not-k-via-then-not-k w ↦
-        let off : k.on ≡ false = search (rules, tests) in
-        ap (λ (b : Bool). b && on_panel p cell) (sym z.on ∙ off)
+          let off : k.on ≡ false = search (rules, tests) in
+          ap (λ (b : Bool). b && on_panel p cell) (sym z.on ∙ off)
       | then-not-k-via-else-not-k+then-not-on_panel w ↦
-        let off : on_panel p cell ≡ false = search (rules, tests) in
-        ap (λ (b : Bool). all_on p l && b) off ∙ and-false (all_on p l)
+          let off : on_panel p cell ≡ false = search (rules, tests) in
+          ap (λ (b : Bool). all_on p l && b) off ∙ and-false (all_on p l)
     ])
 
 pub bounds-scratch-at : goal.bounds-scratch-at
@@ -39,14 +36,13 @@ bounds-scratch-at-2 c =
     let here : on_panel c.args.o.panel c.args.c ≡ true = search (rules, tests) in
     place_in (on c.args.o.panel c.args.c here) c.place_of-at.ensures c.requires.stands.stands.room
 
-pub returns-in_default : goal.returns-in_default
-returns-in_default c =
-    let none : c.args.k.last ≡ None = search (rules, tests) in
+pub returns-in-None : goal.returns-in-None
+returns-in-None c =
     let inside : c.args.k.on ≡ true = search (rules, tests) in
     let here : on_panel c.args.o.panel c.args.c ≡ true = search (rules, tests) in
     takes_on _ _ _ inside (on c.args.o.panel c.args.c here) c.place_of-at.ensures
     (record { on = refl; once = refl; last = refl; bytes = refl })
-    (first _ _ _ refl c.eq.ensures none)
+    (first _ _ _ refl c.eq.ensures c.in-None.is)
 
 pub adjacent-requires : goal.adjacent-requires
 adjacent-requires c =
@@ -55,8 +51,8 @@ adjacent-requires c =
     let here : on_panel c.args.o.panel c.args.c ≡ true = search (rules, tests) in
     (kept_in_bytes g c.requires.stands.stands inside c.in-Some.is, in_bytes g (on c.args.o.panel c.args.c here))
 
-pub returns : goal.returns
-returns c =
+pub returns-in-Some : goal.returns-in-Some
+returns-in-Some c =
     let inside : c.args.k.on ≡ true = search (rules, tests) in
     let here : on_panel c.args.o.panel c.args.c ≡ true = search (rules, tests) in
     takes_on _ _ _ inside (on c.args.o.panel c.args.c here) c.place_of-at.ensures
