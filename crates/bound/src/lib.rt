@@ -40,5 +40,5 @@ pub fn bound(o: Order) -> Result<ClassCount, Refusal>
     ensures { Bounds o.panel o.entry o.exit result }
 {
     o.check()?;
-    Ok(order_class_count(o.panel, o.entry, o.exit))
+    Ok(order_class_count(o))
 }

@@ -1,5 +1,6 @@
 // The cases of document 01's "Class and count", each by itself: F1, F2* and F3 are equated with the tests
-// of those names in the crate `count`; C2 without F3, C0 and C1 are one sum of colours.
+// of those names in the crate `count`; C2 without F3, C0 and C1 are one sum of colours. The terminals s and t
+// are the order's entry and exit.
 #![tactic(auto)]
 
 ghost use Rattle.std.specs.Prelude.{◌≡◌, cond, not, ◌&&◌, ◌≤◌, ◌+◌, ◌-◌, ◌%◌};
@@ -9,7 +10,7 @@ ghost use Rattle.count.specs.ByColour.{by_colour};
 ghost use Rattle.cases.specs.Placed.{Placed};
 
 use count::ClassCount;
-use grid::{Cell, Cells, Panel, area_of};
+use grid::{Cell, Cells, Order, area_of};
 
 // Whether a cell is black; the sum of any two coordinates may not fit, its parity does.
 pub fn is_black(c: Cell) -> bool
@@ -32,27 +33,29 @@ pub fn is_end(k: u32, a: u32) -> bool
 }
 
 #[tactic(auto, unfolding(count::specs::Count::f1))]
-pub fn is_f1(p: Panel, s: Cell, t: Cell) -> bool
-    ensures { result ≡ f1 p s t }
+pub fn is_f1(o: Order) -> bool
+    ensures { result ≡ f1 o.panel o.entry o.exit }
 {
-    p.height == 1 && !(is_end(p.width, s.x) && is_end(p.width, t.x))
+    let width = o.panel.width;
+    o.panel.height == 1 && !(is_end(width, o.entry.x) && is_end(width, o.exit.x))
 }
 
 #[tactic(auto, unfolding(count::specs::Count::f2))]
-pub fn is_f2(p: Panel, s: Cell, t: Cell) -> bool
-    requires { s.x ≤ max_side }
-    ensures { result ≡ f2 p s t }
+pub fn is_f2(o: Order) -> bool
+    requires { o.entry.x ≤ max_side }
+    ensures { result ≡ f2 o.panel o.entry o.exit }
 {
-    p.height == 2 && (s.x == t.x || s.x + 1 == t.x && s.y != t.y)
+    let (s, t) = (o.entry, o.exit);
+    o.panel.height == 2 && (s.x == t.x || s.x + 1 == t.x && s.y != t.y)
 }
 
 // The cells on one side of the terminals in two rows, or on the other, whichever is more.
-pub fn f2_count(p: Panel, s: Cell, t: Cell) -> u32
-    requires { Placed p s t }
-    ensures { result ≡ f2_count p.width (s.x + t.x) }
+pub fn f2_count(o: Order) -> u32
+    requires { Placed o.panel o.entry o.exit }
+    ensures { result ≡ f2_count o.panel.width (o.entry.x + o.exit.x) }
 {
-    let sum = s.x + t.x;
-    let rest = 2 * p.width - sum + 2;
+    let sum = o.entry.x + o.exit.x;
+    let rest = 2 * o.panel.width - sum + 2;
     if sum < rest { rest } else { sum }
 }
 
@@ -71,11 +74,14 @@ fn f3_apart(s: Cell, t: Cell) -> bool
 }
 
 #[tactic(auto, unfolding(count::specs::Count::f3))]
-pub fn is_f3(p: Panel, s: Cell, t: Cell) -> bool
-    requires { s.x ≤ max_side }
-    ensures { result ≡ f3 p s t }
+pub fn is_f3(o: Order) -> bool
+    requires { o.entry.x ≤ max_side }
+    ensures { result ≡ f3 o.panel o.entry o.exit }
 {
-    p.height == 3 && !is_odd(p.width) && black_to_white(s, t) && f3_apart(s, t)
+    o.panel.height == 3
+        && !is_odd(o.panel.width)
+        && black_to_white(o.entry, o.exit)
+        && f3_apart(o.entry, o.exit)
 }
 
 // The cells lost to the colours: if mn is odd one for each black terminal, else one if both are alike.
@@ -87,12 +93,12 @@ fn lost(area: u32, blacks: u32) -> u32
 
 // The classes 3, 4 and, F3 aside, 5 lose 0, 1 and 2 cells. A sum and no tests: on random orders a jump
 // by colour would be mispredicted half of the time.
-pub fn by_colour(p: Panel, s: Cell, t: Cell) -> ClassCount
-    requires { Placed p s t }
-    ensures { result ≡ by_colour p s t }
+pub fn by_colour(o: Order) -> ClassCount
+    requires { Placed o.panel o.entry o.exit }
+    ensures { result ≡ by_colour o.panel o.entry o.exit }
 {
-    let area = area_of(p) as u32;
-    let blacks = (s.x + s.y) % 2 + (t.x + t.y) % 2;
+    let area = area_of(o.panel) as u32;
+    let blacks = (o.entry.x + o.entry.y) % 2 + (o.exit.x + o.exit.y) % 2;
     let k = lost(area, blacks);
     ClassCount {
         class: 3 + k,
