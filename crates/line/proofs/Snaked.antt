@@ -1,13 +1,13 @@
 -- Lines there and back, drawn one behind another: what has been drawn, and the lines that are left from here on, are together the lines asked for.
-use Rattle.std.proofs.Common.{◌≡◌, ℕ, zero, suc, ◌+◌, ◌-◌, ◌*◌, ◌%◌, ◌<◌, ◌≤◌, List, [], ◌++◌, length, take, drop, sym, refl, ap, ◌∙◌, subst₂, append_assoc, append-nil, mul-le-mul, add_comm, mul-le-mul_left, mul-zero, mul-one, mul-suc, add-one, arith, length-append, length-drop}
+use Rattle.std.proofs.Common.{◌≡◌, ℕ, zero, suc, ◌+◌, ◌-◌, ◌*◌, ◌%◌, ◌<◌, ◌≤◌, List, [], ◌++◌, length, take, drop, sym, refl, ap, ◌∙◌, subst₂, append_assoc, append-nil, add_comm, mul-le-mul_left, mul-zero, mul-suc, add-one, arith, length-append, length-drop}
 use borrow.Rule.Slice.PartMut.{put_mid}
 use Rattle.grid.specs.declared.Cell.{Cell}
 use Rattle.grid.specs.Bytes.{bytes}
 use Rattle.grid.proofs.Bytes.{length_bytes}
 use Rattle.line.specs.Line.{line, numbered, snake}
-use Rattle.line.specs.Drawn.{ReadySnake, written}
+use Rattle.line.specs.Drawn.{written}
 use Rattle.line.proofs.Line.{length_line}
-use Rattle.line.proofs.Drawn.{part_behind, part_long, written_long}
+use Rattle.line.proofs.Drawn.{part_behind, part_long}
 
 -- the length of the lines
 pub length_snake : (f s r c n k : ℕ) → length (snake f s r c n k) ≡ n * k
@@ -16,13 +16,6 @@ length_snake f s r c n (suc k) =
     length-append (line (numbered f s) n) _
     ∙ (λ i. length_line (numbered f s) n i + length_snake ((f + s * (n - 1) + c) % 65536) r s c n k i)
     ∙ add_comm n (n * k) ∙ sym (mul-suc n k)
-
-pub snake_long : {f s r c n k : ℕ} {old new : List ℕ} → ReadySnake f s r c n k old → new ≡ written (snake f s r c n k) (n * k) old
-    → length new ≡ length old
-snake_long {f} {s} {r} {c} {n} {k} {old} a w = written_long (snake f s r c n k) old (length_snake f s r c n k) a.room w
-
-pub product : {way n : ℕ} → way ≤ 65535 → n ≤ 256 → way * (n - 1) ≤ 65535 * 255
-product {n = n} w h = let l : n - 1 ≤ 255 = omega arith in mul-le-mul w l
 
 -- i of k lines stand in the first `at` bytes; the next one begins at `from`
 pub record Snaked (f s r c n k : ℕ) (old new : List ℕ) (from way other at i : ℕ) : Type 0 where
@@ -33,14 +26,13 @@ pub record Snaked (f s r c n k : ℕ) (old new : List ℕ) (from way other at i 
   pub so_far : at ≡ 2 * (n * i)
   pub whole : snake f s r c n k ≡ cells ++ snake from way other c n left
   pub written : new ≡ bytes cells ++ drop at old
-  pub start : from ≤ 65535
 
 module _ {f s r c n k : ℕ} {old : List ℕ} where
   pub same_place : {new : List ℕ} {from way other at at' i i' : ℕ} → at ≡ at' → i ≡ i'
       → Snaked f s r c n k old new from way other at i → Snaked f s r c n k old new from way other at' i'
   same_place {new} {from} {way} {other} p q d = subst₂ (λ (at i : ℕ). Snaked f s r c n k old new from way other at i) p q d
 
-  module _ (ask : ReadySnake f s r c n k old) where
+  module _ (room_for : 2 * (n * k) ≤ length old) where
     pub none : Snaked f s r c n k old old f s r 0 0
     none = record {
       left = k;
@@ -50,7 +42,6 @@ module _ {f s r c n k : ℕ} {old : List ℕ} where
       so_far = ap (λ (j : ℕ). 2 * j) (sym (mul-zero n));
       whole = refl;
       written = refl;
-      start = ask.start;
     }
 
     module _ {new : List ℕ} {from way other at i : ℕ} (d : Snaked f s r c n k old new from way other at i) where
@@ -60,27 +51,17 @@ module _ {f s r c n k : ℕ} {old : List ℕ} where
       pub so_long : length new ≡ length old
       so_long =
           let l : n * i ≤ n * k = mul-le-mul_left n (omega (arith, d.turns)) in
-          let o = ask.room in
           ap length d.written ∙ length-append (bytes d.cells) (drop at old)
           ∙ omega (arith, length_bytes d.cells, length-drop at old, d.size, d.so_far)
 
       pub room : i < k → at + 2 * n ≤ length new
       room h =
           let l : n * (i + 1) ≤ n * k = mul-le-mul_left n (omega arith) in
-          let o = ask.room in
           omega (arith, one_more, so_long, d.so_far)
 
-      -- what the next line asks for, wherever it begins and whichever way it goes
-      pub ask_next : {x w : ℕ} → i < k → x ≤ 65535 → w ≤ 65535 → ReadySnake x w w c n 1 (take (length new - at) (drop at new))
-      ask_next h l w = let o = room h in let z = mul-one n in record {
-        start = l;
-        forth = w;
-        home = w;
-        beside = ask.beside;
-        some = ask.some;
-        most = ask.most;
-        room = omega (arith, part_long new at (omega arith));
-      }
+      -- what the next line asks for
+      pub fits : i < k → 2 * n ≤ length (take (length new - at) (drop at new))
+      fits h = let o = room h in omega (arith, part_long new at (omega arith))
 
       pub more : {next : ℕ} {part : List ℕ} → i < k → next ≡ (from + way * (n - 1) + c) % 65536
           → part ≡ written (line (numbered from way) n) n (take (length new - at) (drop at new))
@@ -101,7 +82,6 @@ module _ {f s r c n k : ℕ} {old : List ℕ} where
             so_far = omega (arith, one_more, d.so_far);
             whole = w ∙ sym (append_assoc d.cells this _) ∙ ap (λ (j : ℕ). (d.cells ++ this) ++ snake j other way c n left) (sym z);
             written = part_behind d.cells this old new part at n d.written d.size (let l = room h in omega arith) e;
-            start = omega arith;
           }
 
       -- all lines
