@@ -12,7 +12,7 @@ use Rattle.grid.specs.declared.Cells.{Cells}
 use Rattle.grid.specs.Panel.{panel, OnPanel, GoodSides}
 use Rattle.grid.proofs.Facts.{and_parts}
 use Rattle.grid.proofs.Sides.{sides_same, cell_same}
-use Rattle.grid.proofs.Tests.{cond_yes, cond_no}
+use Rattle.grid.proofs.Tests.{cond_no}
 use Rattle.list.specs.List.{with_cells}
 use Rattle.line.specs.Drawn.{InBytes, written}
 use Rattle.count.specs.Count.{count}
@@ -24,7 +24,6 @@ use Rattle.plan.specs.Plan.{plan_of}
 use Rattle.plan.specs.Drawing.{Each, Drawable, Room, Written}
 use Rattle.plan.proofs.Chain.{LegFrom, Chain, Plans, length_plan}
 use Rattle.plan.proofs.Wide.{plan_good}
-use Rattle.table.specs.Table.{tabled}
 use Rattle.table.specs.Order.{ReadyOrder}
 use Rattle.draw.specs.Track.{is_three, track_between}
 
@@ -56,9 +55,6 @@ module _ (m n : ℕ) (s t : Cell) (old : List ℕ) (e : is_three m n ≡ true) w
       let (w, h) = and_parts (eqb m 3) (eqb n 3) e in
       subst₂ (λ (m n : ℕ). ReadyOrder (panel m n q) s t old) (eqb-true m 3 w) (eqb-true n 3 h) (o q)
 
-  pub three_drawn : {new : List ℕ} → new ≡ with_cells (tabled s t) old → new ≡ with_cells (track_between m n s t) old
-  three_drawn w = w ∙ ap (λ (l : List Cell). with_cells l old) (cond_yes _ _ e refl)
-
 -- the plan that the code chooses for an order
 module _ {p : Panel} {s t : Cell} {old : List ℕ} (o : ReadyOrder p s t old) {q : Plan} (e : q ≡ plan_of p.width p.height s t) where
   chosen : Plans p s t (count p s t) q
@@ -72,10 +68,3 @@ module _ {p : Panel} {s t : Cell} {old : List ℕ} (o : ReadyOrder p s t old) {q
   plan_drawn n w =
       w.content ∙ ap (λ (k : ℕ). written (legs_cells (legs q)) k old) (chosen.size ∙ sym (length_plan chosen))
       ∙ ap (λ (q : Plan). with_cells (legs_cells (legs q)) old) e ∙ ap (λ (l : List Cell). with_cells l old) (cond_no _ _ n refl)
-
--- a plan by its variant
-pub room_of : {p q : Plan} {buf : List ℕ} → p ≡ q → Room (legs p) buf → Room (legs q) buf
-room_of {buf = buf} e r = subst (λ (k : Plan). Room (legs k) buf) e r
-
-pub written_of : {p q : Plan} {r : Cells} {old new : List ℕ} → p ≡ q → Written (legs q) r old new → Written (legs p) r old new
-written_of {r = r} {old = old} {new = new} e w = subst (λ (k : Plan). Written (legs k) r old new) (sym e) w

@@ -11,7 +11,7 @@ ghost use Rattle.table.specs.Order.{ReadyOrder};
 ghost use Rattle.draw.specs.Track.{is_three, track_between};
 ghost use Rattle.draw.specs.Draw.{Draws, draw_buffer};
 
-use grid::{Cell, Cells, CellsAnswer, Check, Panel, Refusal};
+use grid::{Cell, Cells, Order, Refusal, ensure};
 use legs::{draw_leg, draw_legs};
 use list::put_cell;
 use plan::Plan;
@@ -33,7 +33,7 @@ fn draw_plan(p: Plan, buf: &mut [u8]) -> Cells
 fn is_three(width: u32, height: u32) -> bool
     ensures { result ≡ is_three width height }
 {
-    if width == 3 { height == 3 } else { false }
+    width == 3 && height == 3
 }
 
 // Draws a longest track between two different cells, where there is room for it. Like all that
@@ -51,23 +51,17 @@ fn draw_longest(width: u32, height: u32, s: Cell, t: Cell, buf: &mut [u8])
 }
 
 // The call.
-pub fn draw(p: Panel, entry: Cell, exit: Cell, buf: &mut [u8]) -> CellsAnswer
-    ensures draws { Draws p entry exit buf.old buf.new result }
-    ensures cells { buf.new ≡ draw_buffer p entry exit buf.old }
+pub fn draw(o: Order, buf: &mut [u8]) -> Result<Cells, Refusal>
+    ensures draws { Draws o.panel o.entry o.exit buf.old buf.new result }
+    ensures cells { buf.new ≡ draw_buffer o.panel o.entry o.exit buf.old }
 {
-    let c = grid::check_order(p, entry, exit);
-    if let Check::Refused(r) = c {
-        return CellsAnswer::Refused(r);
+    o.check()?;
+    let cells = class::order_class_count(o.panel, o.entry, o.exit).count;
+    ensure(2 * (cells.0 as usize) <= buf.len(), Refusal::ShortBuffer)?;
+    if o.entry == o.exit {
+        put_cell(buf, 0, o.entry);
+    } else {
+        draw_longest(o.panel.width, o.panel.height, o.entry, o.exit, buf);
     }
-    let found = class::order_class_count(p, entry, exit);
-    let cells = found.count;
-    if buf.len() < 2 * (cells.0 as usize) {
-        return CellsAnswer::Refused(Refusal::ShortBuffer);
-    }
-    if grid::same_cell(entry, exit) {
-        put_cell(buf, 0, entry);
-        return CellsAnswer::Given(cells);
-    }
-    draw_longest(p.width, p.height, entry, exit, buf);
-    CellsAnswer::Given(cells)
+    Ok(cells)
 }
