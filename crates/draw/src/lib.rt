@@ -56,7 +56,7 @@ pub fn draw(o: Order, buf: &mut [u8]) -> Result<Cells, Refusal>
     ensures cells { buf.new ≡ draw_buffer o.panel o.entry o.exit buf.old }
 {
     o.check()?;
-    let cells = class::order_class_count(o.panel, o.entry, o.exit).count;
+    let cells = class::order_class_count(o).count;
     ensure(2 * (cells.0 as usize) <= buf.len(), Refusal::ShortBuffer)?;
     if o.entry == o.exit {
         put_cell(buf, 0, o.entry);
