@@ -5,7 +5,6 @@ use mathlib.Core.Bool.{Bool, cond}
 use mathlib.Core.List.{List, [], ◌∷◌, ◌++◌, append-nil, append_assoc, reverse}
 use native.Mathlib.Omega.{arith}
 use lib.ListN.{length, take, drop, get_or, length-append, take-append-drop}
-use lib.Seq.{take-take}
 use borrow.Rule.Slice.PartMut.{put_mid}
 use Rattle.grid.specs.declared.Cell.{Cell}
 use Rattle.grid.specs.declared.Cells.{Cells}
@@ -113,11 +112,9 @@ module _ (l k : List Leg) {old : List ℕ} (room : Room (l ++ k) old) where
         sum : 2 * r.0 + 2 * total k ≡ 2 * total (l ++ k)
         sum = omega (arith, w.count, total_append l k)
 
--- the first i legs of an array are drawn, then the next one, d standing for a leg that is not there
+-- the first i legs of a list are drawn, then the next one, d standing for a leg that is not there
 module _ (l : List Leg) {i : ℕ} (d : Leg) (there : i < length l) where
-  pub room_next : {n : ℕ} {old : List ℕ} → i < n → Room (take n l) old → Room (take i l ++ (get_or l i d ∷ [])) old
-  room_next {n} {old} more room =
-      let behind = drop (i + 1) (take n l) in
-      let whole = subst (λ (k : List Leg). Room k old) (sym (take-append-drop (i + 1) (take n l))) room in
-      subst (λ (k : List Leg). Room k old) (take-take (i + 1) n l (omega arith) ∙ take_next d l i there)
-      (room_first (take (i + 1) (take n l)) behind whole)
+  pub room_next : {old : List ℕ} → Room l old → Room (take i l ++ (get_or l i d ∷ [])) old
+  room_next {old} room =
+      let whole = subst (λ (k : List Leg). Room k old) (sym (take-append-drop (i + 1) l)) room in
+      subst (λ (k : List Leg). Room k old) (take_next d l i there) (room_first (take (i + 1) l) (drop (i + 1) l) whole)
