@@ -1,22 +1,21 @@
 -- What Draw answers and leaves, from what its tests showed and what was drawn.
-use Rattle.std.specs.Prelude.{Result, Ok, Err}
-use Prim.Native.Nat.{ℕ, ◌*◌, ◌≤◌, ◌<◌}
+use Rattle.std.specs.Prelude.{Result, Ok}
+use Prim.Native.Nat.{ℕ, ◌*◌, ◌≤◌}
 use mathlib.Core.Path.{◌≡◌, refl, sym, ap, ◌∙◌, subst}
 use mathlib.Core.Logic.{◌≢◌}
 use mathlib.Core.List.{List, [], ◌∷◌}
 use native.Mathlib.Omega.{arith}
 use lib.ListN.{length, set}
-use borrow.Author.Tests.{le-leb, lt-leb}
+use borrow.Author.Tests.{le-leb}
 use Rattle.grid.specs.declared.Panel.{Panel}
 use Rattle.grid.specs.declared.Cell.{Cell}
 use Rattle.grid.specs.declared.Cells.{Cells}
 use Rattle.grid.specs.declared.Refusal.{Refusal}
-use Rattle.grid.specs.declared.Refusal.TheVariants.{ShortBuffer}
 use Rattle.grid.specs.Panel.{OnPanel}
 use Rattle.grid.specs.Bytes.{front}
 use Rattle.grid.specs.Check.{check_order}
 use Rattle.grid.proofs.Facts.{eq_same, ne_same}
-use Rattle.grid.proofs.Tests.{cond_yes, cond_no, expect_yes, expect_no, after_good, answer_good, answer_refused}
+use Rattle.grid.proofs.Tests.{cond_yes, cond_no, expect_yes, after_good, answer_good}
 use Rattle.grid.proofs.Answers.{gives_cells}
 use Rattle.grid.proofs.Track.{one_cell}
 use Rattle.list.specs.List.{with_cells}
@@ -35,9 +34,6 @@ use Rattle.draw.proofs.Track.{drawn_track_lem, length_drawn}
 -- ---- the check
 
 module _ (p : Panel) (s t : Cell) (size : ℕ) where
-  pub too_short : {k : ℕ} → check_order p s t ≡ Ok tt → k ≡ order_count p s t → size < 2 * k → draw_check p s t size ≡ Err ShortBuffer
-  too_short e q h = sym (after_good _ e (expect_no _ _ (lt-leb (2 * order_count p s t) size (omega arith))))
-
   pub enough : {k : ℕ} → check_order p s t ≡ Ok tt → k ≡ order_count p s t → 2 * k ≤ size → draw_check p s t size ≡ Ok tt
   enough e q h = sym (after_good _ e (expect_yes _ _ (le-leb (2 * order_count p s t) size (omega arith)) refl))
 
@@ -77,9 +73,6 @@ abbrev Promised : Panel → Cell → Cell → List ℕ → List ℕ → Result C
 Promised p s t old new r = Draws p s t old new r × (new ≡ draw_buffer p s t old)
 
 module _ {p : Panel} {s t : Cell} {old new : List ℕ} where
-  pub refuses : {r : Refusal} → draw_check p s t (length old) ≡ Err r → new ≡ old → Promised p s t old new (Err r)
-  refuses e same = (record { gives = gives_cells _ _ (answer_refused _ _ e); leaves = same }, same ∙ answer_refused _ _ e)
-
   pub draws : {k : Cells} → draw_check p s t (length old) ≡ Ok tt → k.0 ≡ order_count p s t → OnPanel p s → OnPanel p t
       → new ≡ with_cells (drawn_track p.width p.height s t) old → Promised p s t old new (Ok k)
   draws e q os ot w = (

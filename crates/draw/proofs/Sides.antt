@@ -1,7 +1,7 @@
 -- Within its range the pitch changes neither what Draw promises, nor what it answers, nor the cells that it draws.
 use Rattle.std.specs.Prelude.{Result, Ok, Err}
-use Rattle.grid.specs.declared.Refusal.{Refusal}
 use Rattle.grid.specs.declared.Cells.{Cells}
+use Rattle.grid.specs.declared.Refusal.{Refusal}
 use Prim.Native.Nat.{ℕ, ◌*◌}
 use mathlib.Core.Path.{◌≡◌, sym, ap, ◌∙◌, subst₂}
 use mathlib.Core.Bool.{true}

@@ -1,13 +1,13 @@
 -- Document 01, "Operations", and document 02, R-10: Draw writes a longest track at the front of a lent buffer and gives its cell count, or refuses;
 -- the cells that the track leaves uncovered are known by class and colour.
-use Rattle.std.specs.Prelude.{Result, Ok, Err}
 use Rattle.grid.specs.declared.Cells.{Cells}
-use Rattle.std.specs.Prelude.{ℕ, ◌*◌, ◌≡◌, List, leb, length, drop}
 use Rattle.grid.specs.declared.Refusal.{Refusal}
+use Rattle.std.specs.Prelude.{ℕ, ◌*◌, ◌≡◌, ◌≤◌, List, Result, Ok, Err, leb, length, drop}
 use Rattle.grid.specs.declared.Panel.{Panel}
 use Rattle.grid.specs.declared.Cell.{Cell}
 use Rattle.grid.specs.Check.{Check}
 use Rattle.grid.specs.declared.Refusal.TheVariants.{ShortBuffer}
+use Rattle.grid.specs.Panel.{GoodSides, OnPanel}
 use Rattle.grid.specs.Bytes.{front}
 use Rattle.grid.specs.Check.{check_order, after, expect, answer}
 use Rattle.grid.specs.Answer.{GivesCells}
@@ -16,6 +16,13 @@ use Rattle.count.specs.Longest.{Longest}
 use Rattle.list.specs.List.{with_cells}
 use Rattle.cold.specs.Cold.{StaysCold}
 use Rattle.draw.specs.Track.{drawn_track}
+
+-- what the code that draws asks for: good sides, terminals on the panel, and room for the count's cells
+pub record Roomy (p : Panel) (s t : Cell) (buf : List ℕ) : Type 0 where
+  pub sides : GoodSides p
+  pub entry : OnPanel p s
+  pub exit : OnPanel p t
+  pub room : 2 * order_count p s t ≤ length buf
 
 -- refused as Bound, then 5: the buffer is shorter than 2 bytes for each cell of the count
 abbrev pub draw_check : Panel → Cell → Cell → ℕ → Check
