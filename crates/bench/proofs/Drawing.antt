@@ -1,4 +1,6 @@
 -- What Draw answers and leaves on the bench: for an order by its numbers, then as Checks.antt says it of the others.
+use Rattle.std.specs.Prelude.{Result, Ok, Err}
+use Rattle.grid.specs.declared.Cells.{Cells}
 use Prim.Native.Nat.{ℕ}
 use mathlib.Core.Path.{◌≡◌, refl, sym, ap, ◌∙◌}
 use mathlib.Core.List.{List, [], ◌∷◌}
@@ -6,10 +8,7 @@ use lib.ListN.{length}
 use Rattle.grid.specs.declared.Panel.{Panel}
 use Rattle.grid.specs.declared.Cell.{Cell}
 use Rattle.grid.specs.declared.Refusal.{Refusal}
-use Rattle.grid.specs.declared.Check.{Check}
-use Rattle.grid.specs.declared.Check.TheVariants.{Good, Refused}
-use Rattle.grid.specs.declared.CellsAnswer.{CellsAnswer}
-use Rattle.grid.specs.declared.CellsAnswer.TheVariants as cells
+use Rattle.grid.specs.Check.{Check}
 use Rattle.grid.specs.Panel.{panel, cell}
 use Rattle.grid.specs.Check.{answer}
 use Rattle.grid.proofs.Tests.{answer_refused}
@@ -30,20 +29,20 @@ drawn_shown = refl
 
 module _ (p : Panel) (s t : Cell) (old : List ℕ) where
   -- both promises of the call on the bench, and of the large call
-  abbrev OnBench : List ℕ → CellsAnswer → Type 0
+  abbrev OnBench : List ℕ → Result Cells Refusal → Type 0
   OnBench new a = BenchDraws p s t old new a × (new ≡ bench_buffer p s t old)
 
-  abbrev Large : List ℕ → CellsAnswer → Type 0
+  abbrev Large : List ℕ → Result Cells Refusal → Type 0
   Large new a = Draws p s t old new a × (new ≡ draw_buffer p s t old)
 
-  pub draw_passed : {new : List ℕ} {a : CellsAnswer} → check_bench p ≡ Good → Large new a → OnBench new a
+  pub draw_passed : {new : List ℕ} {a : Result Cells Refusal} → check_bench p ≡ Ok tt → Large new a → OnBench new a
   draw_passed e (d, w) =
       let c = draw_check p s t (length old) in (
         record { gives = cells_passed p c (order_count p s t) e d.gives; leaves = d.leaves },
         w ∙ ap (λ (c : Check). answer c (λ r. old) (with_cells (drawn_track p.width p.height s t) old)) (sym (passed p c e)),
       )
 
-  pub draw_refused : {new : List ℕ} {r : Refusal} → check_bench p ≡ Refused r → new ≡ old → OnBench new (cells.Refused r)
+  pub draw_refused : {new : List ℕ} {r : Refusal} → check_bench p ≡ Err r → new ≡ old → OnBench new (Err r)
   draw_refused e l =
       let c = draw_check p s t (length old) in
       (record { gives = cells_refused p c (order_count p s t) e; leaves = l }, l ∙ answer_refused _ _ (refused p c e))
