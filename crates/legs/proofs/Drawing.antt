@@ -1,8 +1,7 @@
 -- Legs drawn one after the other: a prefix is written, then the rest of the buffer is lent to the next drawing. One law serves every number of legs.
 use Prim.Native.Nat.{ℕ, ◌+◌, ◌-◌, ◌*◌, ◌≤◌, ◌<◌}
 use mathlib.Core.Path.{◌≡◌, refl, sym, ap, ◌∙◌, subst}
-use mathlib.Core.Bool.{Bool, cond}
-use mathlib.Core.List.{List, [], ◌∷◌, ◌++◌, append-nil, append_assoc, reverse}
+use mathlib.Core.List.{List, [], ◌∷◌, ◌++◌, append_assoc}
 use native.Mathlib.Omega.{arith}
 use lib.ListN.{length, take, drop, get_or, length-append, take-append-drop}
 use borrow.Rule.Slice.PartMut.{put_mid}
@@ -11,45 +10,17 @@ use Rattle.grid.specs.declared.Cells.{Cells}
 use Rattle.grid.specs.Bytes.{bytes}
 use Rattle.grid.proofs.Lists.{take_next}
 use Rattle.line.specs.Rectangle.{Inside}
-use Rattle.line.specs.Drawn.{written}
 use Rattle.line.proofs.Drawn.{part_behind, part_long, written_long}
-use Rattle.corner.specs.Cells.{corner_cells}
-use Rattle.corner.specs.Drawn.{Ready}
 use Rattle.corner.proofs.First.{track_most}
 use Rattle.plan.specs.declared.Leg.{Leg}
-use Rattle.plan.specs.Leg.{leg_count, total, leg_cells, legs_cells}
+use Rattle.plan.specs.Leg.{total, leg_cells, legs_cells}
 use Rattle.plan.specs.Drawing.{Each, Drawable, Room, Written}
 use Rattle.plan.proofs.Chain.{total_append, length_legs}
-
--- ---- one leg
-
-pub ready : {g : Leg} {buf : List ℕ} → Room (g ∷ []) buf → Ready g.a g.b g.t buf
-ready {g} r = elim r.each [
-  | Each.more d n ↦ record {
-    corner = d.corner;
-    opposite = d.opposite;
-    inside = d.inside;
-    room = let h = r.room in omega arith;
-  }
-]
-
--- walked back where b is set, else forth
-pub leg_written : (g : Leg) (b : Bool) {r : Cells} {old new : List ℕ} → g.back ≡ b → r.0 ≡ leg_count g
-    → new ≡ written (cond b (reverse (corner_cells g.a g.b g.t)) (corner_cells g.a g.b g.t)) (leg_count g) old → Written (g ∷ []) r old new
-leg_written g b {r} {old} e q w =
-    let l = corner_cells g.a g.b g.t in
-    let z : leg_count g ≡ leg_count g + 0 = omega arith in
-    record {
-      count = q ∙ z;
-      content = w ∙ (λ i. written (cond (sym e i) (reverse l) l) (z i) old) ∙ ap (λ (k : List Cell). written k (leg_count g + 0) old) (sym (append-nil (leg_cells g)));
-    }
 
 -- a leg's corners are bytes, so that its cells are at most 256 by 256
 legs_most : {l : List Leg} → Each Drawable l → total l ≤ 65536 * length l
 legs_most Each.none = omega arith
 legs_most (Each.more d e) = omega (arith, track_most d.corner d.opposite d.inside, legs_most e)
-
--- ---- legs after legs
 
 each_first : {P : Leg → Type 0} (l k : List Leg) → Each P (l ++ k) → Each P l
 each_first [] k e = Each.none

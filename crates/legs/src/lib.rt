@@ -10,7 +10,7 @@ use grid::Cells;
 use plan::Leg;
 
 // Gives the number of cells written.
-pub fn draw_leg(g: Leg, buf: &mut [u8]) -> Cells
+fn draw_leg(g: Leg, buf: &mut [u8]) -> Cells
     requires { Room (g ∷ []) buf.old }
     ensures { Written (g ∷ []) result buf.old buf.new }
 {
