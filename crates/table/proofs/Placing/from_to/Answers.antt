@@ -1,6 +1,6 @@
 -- Flags, mirrored cells and row are those of the definition.
 use Rattle.table.specs.Table.{placing_from}
-use Rattle.table.proofs.placing_from.Goals as goal
+use Rattle.table.proofs.Placing.from_to.Goals as goal
 
 pub returns : goal.returns
 unfolding placing_from
