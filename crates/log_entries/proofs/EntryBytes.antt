@@ -52,6 +52,10 @@ length_entries_of l = length-map l entry_of
 pub nth_entry_of : (l : List (List ℕ)) (i : ℕ) → nth_entry (entries_of l) i ≡ entry_of (get_or l i [])
 nth_entry_of l i = get_or-map entry_of l i []
 
+-- the tick of the bytes with the number i
+pub tick_there : (l : List (List ℕ)) (i : ℕ) {e : Entry} → e ≡ entry_of (get_or l i []) → e.tick ≡ (nth_entry (entries_of l) i).tick
+tick_there l i f = ap (λ (e : Entry). e.tick) (f ∙ sym (nth_entry_of l i))
+
 -- ---- the cells of a log
 
 pub length_cells_of : (l : List Entry) → length (cells_of l) ≡ length l
