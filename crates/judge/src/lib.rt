@@ -9,7 +9,7 @@ ghost use Rattle.scratch.specs.Scratch.{cleared, Clean};
 ghost use Rattle.judge.specs.Judge.{sizes_check, cells_check, Judges};
 ghost use Rattle.judge.specs.Walk.{Decides, Walked};
 
-use grid::{Cell, Cells, Order, Panel, Refusal, area_of, ensure};
+use grid::{Cell, Cells, Order, Refusal, area_of, ensure};
 use judge_walk::{Kept, start, take_cell};
 use list::{pairs, whole_cells};
 use scratch::clear;

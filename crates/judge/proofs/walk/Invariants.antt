@@ -1,5 +1,4 @@
 -- What is kept stands for the cells taken so far.
-use Prim.Native.Nat.{◌-◌}
 use Rattle.judge.proofs.Walks.{Walking}
 use Rattle.judge.proofs.walk.Given as goal
 
