@@ -1,42 +1,39 @@
 -- Document 02, R-5: Exit gives the first cell, reading rows from the top and each from the left, that is not the entry and to which some track has at
 -- least the wanted number of cells. A refusal gives 0 for all.
-use Rattle.std.specs.Prelude.{Result, Ok, Err}
-use Rattle.std.specs.Prelude.{ℕ, ◌≡◌, Bool, true, false, cond, not, ◌&&◌, List, [], ◌∷◌, leb}
+use Rattle.std.specs.Prelude.{ℕ, ◌≡◌, Bool, true, false, cond, not, ◌&&◌, List, [], ◌∷◌, leb, Option, Some, None, Result, Ok, Err}
 use Rattle.grid.specs.declared.Panel.{Panel}
 use Rattle.grid.specs.declared.Cell.{Cell}
 use Rattle.grid.specs.declared.Cells.{Cells}
+use Rattle.grid.specs.declared.Refusal.{Refusal}
 use Rattle.grid.specs.declared.Refusal.TheVariants.{NoExit}
-use Rattle.grid.specs.Check.{Check}
 use Rattle.grid.specs.Panel.{cell, same_cell}
 use Rattle.grid.specs.Reading.{reading}
 use Rattle.grid.specs.Refusal.{number}
-use Rattle.grid.specs.Check.{expect, after, check_entry, answer}
+use Rattle.grid.specs.Check.{Check, expect, after, check_entry, answer}
 use Rattle.grid.specs.Answer.{refusal_number}
 use Rattle.count.specs.Count.{count}
-use Rattle.exit.specs.declared.Search.{Search}
-use Rattle.exit.specs.declared.Search.TheVariants.{At, Nothing}
 
 -- not the entry, and the count of a track to it is at least the wanted one
 abbrev pub fits : Panel → Cell → Cells → Cell → Bool
 fits p s w c = not (same_cell s c) && leb w.0 (count p s c)
 
 -- whether a cell is found
-abbrev pub is_found : Search → Bool
-is_found (At c) = true
-is_found Nothing = false
+abbrev pub is_found : Option Cell → Bool
+is_found (Some c) = true
+is_found None = false
 
 -- the cell found, (0, 0) if none is
-abbrev pub cell_found : Search → Cell
-cell_found (At c) = c
-cell_found Nothing = cell 0 0
+abbrev pub cell_found : Option Cell → Cell
+cell_found (Some c) = c
+cell_found None = cell 0 0
 
 -- the first cell of the list that passes the test (find)
-abbrev pub first : (Cell → Bool) → List Cell → Search
-first f [] = Nothing
-first f (c ∷ l) = cond (f c) (At c) (first f l)
+abbrev pub first : (Cell → Bool) → List Cell → Option Cell
+first f [] = None
+first f (c ∷ l) = cond (f c) (Some c) (first f l)
 
 -- the first cell of the panel that fits
-abbrev pub first_fit : Panel → Cell → Cells → Search
+abbrev pub first_fit : Panel → Cell → Cells → Option Cell
 first_fit p s w = first (fits p s w) (reading p)
 
 -- 1; 18; 2; then 12, no cell fits
