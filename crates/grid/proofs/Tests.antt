@@ -7,9 +7,6 @@ use Rattle.grid.specs.declared.Refusal.{Refusal}
 use Rattle.grid.specs.Check.{Check}
 use Rattle.grid.specs.Check.{expect, after, answer}
 
-pub and_yes : {a : Bool} (b : Bool) {r : Bool} → a ≡ true → r ≡ b → r ≡ (a && b)
-and_yes b {r} e f = subst⁻¹ (λ (x : Bool). r ≡ (x && b)) e f
-
 pub and_no : {a : Bool} (b : Bool) → a ≡ false → false ≡ (a && b)
 and_no b e = subst⁻¹ (λ (x : Bool). false ≡ (x && b)) e refl
 
