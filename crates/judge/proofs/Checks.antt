@@ -96,24 +96,11 @@ count_small p s t list room e =
     let j = passed p s t (cells_in list) (after_rest sizes _ e) in
     omega (arith, tested_few p (cells_in list) j.on_panel_lem j.once, area_small z.ordered.panel.sides)
 
--- the promise, where the sizes are refused, where the cells are, and where all is good
-module _ (p : Panel) (s t : Cell) (list old : List ℕ) where
-  pub sizes_refused : {r : Refusal} → sizes_check p s t (length list) (length old) ≡ Err r → Judges p s t list old old (Err r)
-  sizes_refused e = record {
-    gives = gives_cells _ _ (answer_refused _ _ (sym (after_refused _ e)));
-    scratch = answer_refused _ _ e;
-  }
-
-  module _ (z : sizes_check p s t (length list) (length old) ≡ (Ok tt)) {new : List ℕ} (f : new ≡ cleared p old) where
-    pub cells_refused : {r : Refusal} → cells_check p s t (cells_in list) ≡ Err r → Judges p s t list old new (Err r)
-    cells_refused e = record {
-      gives = gives_cells _ _ (answer_refused _ _ (sym (after_good _ z (sym e))));
-      scratch = answer_good _ _ z f;
-    }
-
-    pub all_good : cells_check p s t (cells_in list) ≡ Ok tt → {k : ℕ} → k ≡ length (cells_in list)
-        → Judges p s t list old new (Ok (record { 0 = k }))
-    all_good e n = record {
-      gives = gives_cells _ _ (answer_good _ _ (sym (after_good _ z (sym e))) (ap (λ (k : ℕ). Ok (record { 0 = k })) n));
-      scratch = answer_good _ _ z f;
-    }
+-- the promise, where all is good
+pub all_good : (p : Panel) (s t : Cell) (list old : List ℕ) → sizes_check p s t (length list) (length old) ≡ Ok tt
+    → {new : List ℕ} → new ≡ cleared p old → cells_check p s t (cells_in list) ≡ Ok tt → {k : ℕ} → k ≡ length (cells_in list)
+    → Judges p s t list old new (Ok (record { 0 = k }))
+all_good p s t list old z f e n = record {
+  gives = gives_cells _ _ (answer_good _ _ (sym (after_good _ z (sym e))) (ap (λ (k : ℕ). Ok (record { 0 = k })) n));
+  scratch = answer_good _ _ z f;
+}

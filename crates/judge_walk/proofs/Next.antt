@@ -53,17 +53,6 @@ ends_behind : (l : List Cell) (c : Cell) → Some c ≡ ends (l ++ c ∷ [])
 ends_behind [] c = refl
 ends_behind (d ∷ l) c = ap Some (sym (last_behind d l c))
 
--- ---- the start
-
-pub stands_none : (p : Panel) (s : Cell) {marks : List ℕ} → Clean p marks
-    → Stands p s [] (record { on = true; steps = true; once = true; begins = false; last = None; bytes = 0 }) marks
-stands_none p s {marks} k = record {
-  room = k.room;
-  bytes = refl;
-  on = refl;
-  kept = λ _. record { steps = refl; once = refl; begins = refl; last = refl; marked = λ c o. unmarked_clean marks o k };
-}
-
 -- ---- the step
 
 -- r is what is kept behind k of a cell of the panel whose place held mark
