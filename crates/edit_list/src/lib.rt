@@ -115,7 +115,8 @@ fn put_detour(list: &mut [u8], at: usize, c: Cell, d: Cell)
     put_cell(list, at + 2, d);
 }
 
-// The bulge of a list of so many cells in front of the buffer, and zeros behind it.
+// The bulge of a list of so many cells in front of the buffer, and zeros behind it. The number goes beside the
+// buffer, since the list grows into what is behind it, and nothing here allocates.
 fn bulge(list: &mut [u8], cells: usize, e: Edit)
     requires kind { e.kind ≡ Bulge }
     requires held { 2 * (cells + 2) ≤ length list.old }

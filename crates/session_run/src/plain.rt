@@ -75,6 +75,7 @@ impl Way {
 
 // ---- drawings
 
+// The cells, and how many they are: nothing here allocates.
 #[derive(Clone, Copy, Debug, PartialEq, Eq)]
 pub struct Drawing {
     pub cells: [Cell; MOST],
