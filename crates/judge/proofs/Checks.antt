@@ -10,7 +10,6 @@ use lib.ListN.{length}
 use borrow.Author.Tests.{leb-true, le-leb}
 use Rattle.grid.specs.declared.Panel.{Panel}
 use Rattle.grid.specs.declared.Cell.{Cell}
-use Rattle.grid.specs.declared.Refusal.{Refusal}
 use Rattle.grid.specs.declared.Refusal.TheVariants.{CellOff, Repeated, WrongEnds}
 use Rattle.grid.specs.Check.{Check}
 use Rattle.grid.specs.Panel.{panel, cell, area, dist, apart}
@@ -19,7 +18,7 @@ use Rattle.grid.specs.Track.{Track}
 use Rattle.grid.specs.Bytes.{cells_in}
 use Rattle.grid.proofs.Answers.{gives_cells}
 use Rattle.grid.proofs.Facts.{area_small}
-use Rattle.grid.proofs.Tests.{expect_yes, after_good, after_refused, answer_good, answer_refused}
+use Rattle.grid.proofs.Tests.{expect_yes, after_good, answer_good}
 use Rattle.grid.proofs.Passed.{expect_passed, expect_rest, after_passed, after_rest, GoodOrder, good_order, is_order}
 use Rattle.list.specs.List.{whole_cells, none_twice, runs}
 use Rattle.list.specs.Check.{check_walk}

@@ -15,9 +15,9 @@ use Rattle.grid.specs.Bytes.{InBytes}
 use Rattle.grid.proofs.Facts.{and_parts, on, is_on}
 use Rattle.list.specs.List.{all_on, all_steps, among, last_from}
 use Rattle.list.proofs.Behind.{all_on_append, last_behind, steps_behind, among_behind, none_twice_behind}
-use Rattle.scratch.specs.Scratch.{place, unmarked, Clean}
+use Rattle.scratch.specs.Scratch.{place, unmarked}
 use Rattle.scratch.proofs.Places.{put_rest}
-use Rattle.scratch.proofs.Marks.{unmarked_clean, unmarked_set}
+use Rattle.scratch.proofs.Marks.{unmarked_set}
 use Rattle.judge_walk.specs.declared.Kept.{Kept}
 use Rattle.judge_walk.specs.Walk.{starts, ends, KeptOn, Stands, Takes}
 
