@@ -18,11 +18,11 @@ overflow_add-corners c =
 pub loop-i-preserved : goal.loop-i-preserved
 loop-i-preserved c =
     let is = c.corner_between.ensures ∙ ap₂ corner_between c.cell_at.ensures c.cell_at-in-loop-i.ensures in
-    let counted = corner_turn c.args.list.now c.loop-i.i c.corner_between.result c.loop-i.auto.i c.loop-i-test.true is in
+    let counted = corner_turn c.args.list.now c.loop-i.i c.corner_between.result (omega arith) (omega arith) is in
     elim c.if-corner_between.branch [
       | then-corner_between w ↦ omega (arith, counted, ap {B = ℕ} (λ (t : Bool). cond t 1 0) w.if-corner_between.true, w.corners-is)
       | else-corner_between w ↦ omega (arith, counted, ap {B = ℕ} (λ (t : Bool). cond t 1 0) w.if-corner_between.false, w.corners-is)
     ]
 
 pub returns : goal.returns
-returns c = omega (arith, corner_end c.args.list.now c.loop-i.i c.loop-i-test.false, c.loop-i.invariant)
+returns c = omega (arith, corner_end c.args.list.now c.loop-i.i (omega arith), c.loop-i.invariant)
