@@ -326,7 +326,8 @@ pub fn run(rt: &impl Print) -> io::Result<()> {
     named(rt, b", all found ", t.found)?;
     named(rt, b", some missed ", t.missed)?;
     text(rt, b"\n")?;
-    print_refused(rt, t.refused)?;
+    let refused = t.refused;
+    print_refused(rt, refused)?;
     named(rt, b"different ", t.different)?;
     text(rt, b"\n")
 }

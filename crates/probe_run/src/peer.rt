@@ -8,11 +8,15 @@ use trial::plain::{Sheet, blank, sheet_of};
 pub fn numbers_of(answer: Result<ProbeSheet, Refusal>) -> Sheet {
     match answer {
         Err(r) => blank(u32::from(r)),
-        Ok(sheet) => Sheet {
+        Ok(ProbeSheet {
+            positions,
+            nearest,
+            read,
+        }) => Sheet {
             refusal: 0,
-            positions: sheet.positions,
-            nearest: sheet.nearest,
-            read: sheet.read.0,
+            positions,
+            nearest,
+            read: read.0,
         },
     }
 }
