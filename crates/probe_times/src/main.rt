@@ -32,16 +32,16 @@ struct Case<'a> {
 fn numbers_of(answer: Result<ProbeSheet, Refusal>) -> Sheet {
     match answer {
         Err(r) => blank(u32::from(r)),
-        Ok(ProbeSheet {
-            positions,
-            nearest,
-            read,
-        }) => Sheet {
-            refusal: 0,
-            positions,
-            nearest,
-            read: read.0,
-        },
+        Ok(sheet) => {
+            let positions = sheet.positions;
+            let nearest = sheet.nearest;
+            Sheet {
+                refusal: 0,
+                positions,
+                nearest,
+                read: sheet.read.0,
+            }
+        }
     }
 }
 
