@@ -180,8 +180,8 @@ impl Rectangle {
         Cells(all - 1 + (all + (s.dx + s.dy)) % 2)
     }
 
-    #[inline(always)]
-    fn lines_off(self, along: Along, k: u32) -> Peeled
+    // The first k rows, or else columns, from the corner.
+    fn first_lines(self, along: Along, k: u32) -> Peeled
         requires { FirstLines along self.corner self.opposite k }
         ensures { result ≡ first_lines along self.corner self.opposite k }
     {
@@ -202,20 +202,7 @@ impl Rectangle {
         }
     }
 
-    // The first k rows, or else columns, from the corner. Each arm knows which, so that the compiler turns
-    // no cell by a test.
-    fn first_lines(self, along: Along, k: u32) -> Peeled
-        requires { FirstLines along self.corner self.opposite k }
-        ensures { result ≡ first_lines along self.corner self.opposite k }
-    {
-        match along {
-            Along::Rows => self.lines_off(Along::Rows, k),
-            Along::Columns => self.lines_off(Along::Columns, k),
-        }
-    }
-
     // The choice is made along the longer side, since few long lines are faster than many short ones.
-    #[inline(always)]
     fn peel(self) -> Peeled
         requires { one_line self.corner self.opposite self.target ≡ false }
         ensures lines { result ≡ peeled self.corner self.opposite self.target }

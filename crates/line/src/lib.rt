@@ -153,10 +153,5 @@ pub fn draw_sweep(along: Along, a: Cell, b: Cell, buf: &mut [u8])
     requires fact_3 { 2 * cells_between a b ≤ length buf.old }
     ensures { buf.new ≡ written (sweep along a b) (cells_between a b) buf.old }
 {
-    // Each arm knows its steps, which the compiler then does not choose by tests.
-    let lines = match along {
-        Along::Rows => Snake::of(Along::Rows, a, b),
-        Along::Columns => Snake::of(Along::Columns, a, b),
-    };
-    lines.draw(buf);
+    Snake::of(along, a, b).draw(buf);
 }

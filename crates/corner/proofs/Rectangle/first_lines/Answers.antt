@@ -1,7 +1,7 @@
 -- The lines of a rectangle in bytes are at most 256, of at most 256 cells.
 use native.Mathlib.Omega.{arith}
 use Rattle.corner.proofs.First.{line_small, lines_small}
-use Rattle.corner.proofs.Rectangle.lines_off.Goals as goal
+use Rattle.corner.proofs.Rectangle.first_lines.Goals as goal
 
 pub overflow_add-result : goal.overflow_add-result
 overflow_add-result c = rw (c.distance.ensures, c.seen-from.ensures, c.seen-to.ensures) (let s = line_small c.args.along c.args.self.fits in omega arith)
