@@ -20,12 +20,10 @@ use Rattle.grid.specs.Bytes.{cells_in}
 use Rattle.grid.proofs.Answers.{check_behind, check_behind_lem}
 use Rattle.grid.proofs.Facts.{and_parts, is_sides}
 use Rattle.grid.proofs.Passed.{after_passed, after_rest}
-use Rattle.grid.proofs.Tests.{cond_yes, expect_yes, after_good, after_refused, answer_good}
+use Rattle.grid.proofs.Tests.{cond_yes, expect_yes, after_good, after_refused}
 use Rattle.list.specs.List.{all_on}
 use Rattle.list.proofs.Cells.{length_cells}
 use Rattle.list.proofs.Whole.{whole}
-use Rattle.scratch.specs.Scratch.{Clean}
-use Rattle.scratch.proofs.Clean.{clean}
 use Rattle.judge.specs.Judge.{sizes_check, cells_check, judge_check, Judges}
 use Rattle.judge.proofs.Checks.{Sized, sized, passed, count_small}
 use Rattle.probe_walk.specs.Probes.{places}
@@ -70,9 +68,6 @@ module _ (p : Panel) (s t : Cell) (list old : List ℕ) {new : List ℕ} {j : Re
 
     pub some : 2 ≤ length list
     some = (whole (length list) sizes.whole).0
-
-    pub left_clean : Clean p new
-    left_clean = clean p old sizes.enough (g.scratch ∙ sym (answer_good _ _ sizes_good refl))
 
     pub searched : (probes : List ℕ) → few_probes (length probes) ≡ true → all_on p (cells_in probes) ≡ true → Searched p list probes
     searched probes m o =

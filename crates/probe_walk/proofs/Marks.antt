@@ -6,7 +6,7 @@ use mathlib.Core.Bool.{Bool, true, false, cond}
 use mathlib.Core.Logic.{◌≢◌}
 use mathlib.Core.List.{List, [], ◌∷◌, ◌++◌}
 use lib.ListN.{length, take, drop, get_or, set, length-set}
-use lib.Seq.{length-take-le, take-length}
+use lib.Seq.{length-take-le}
 use Rattle.grid.specs.declared.Panel.{Panel}
 use Rattle.grid.specs.declared.Cell.{Cell}
 use Rattle.grid.specs.Panel.{cell, area, OnPanel, same_cell}
@@ -15,8 +15,8 @@ use Rattle.grid.proofs.Lists.{take_next}
 use Rattle.grid.proofs.Tests.{both_branches}
 use Rattle.list.specs.List.{nth, among}
 use Rattle.list.proofs.Behind.{same_sym}
-use Rattle.scratch.specs.Scratch.{place, held, Clean}
-use Rattle.scratch.proofs.Marks.{held_clean, held_set}
+use Rattle.scratch.specs.Scratch.{place, held}
+use Rattle.scratch.proofs.Marks.{held_set}
 use Rattle.scratch.proofs.Places.{put_rest}
 use Rattle.probe_walk.specs.Probes.{position}
 use Rattle.probe_walk.specs.Search.{unfound, Marked}
@@ -31,16 +31,6 @@ pub record Marking (p : Panel) (q : List Cell) (old new : List ℕ) (different i
   pub few : different ≤ i
   pub size : length new ≡ length old
   pub rest : drop (area p) new ≡ drop (area p) old
-
-pub none_marked : {p : Panel} (q : List Cell) {old : List ℕ} → Clean p old → Marking p q old old 0 0
-none_marked q {old} c = record {
-  most = omega arith;
-  marked = record { room = c.room; marks = λ d o. held_clean old o c };
-  counted = refl;
-  few = omega arith;
-  size = refl;
-  rest = refl;
-}
 
 pub marking_same : {p : Panel} {q : List Cell} {old m n : List ℕ} {j k i : ℕ} → m ≡ n → j ≡ k → Marking p q old n k i → Marking p q old m j i
 marking_same {p} {q} {old} {n = n} {j} {i = i} e f w =
@@ -107,14 +97,3 @@ module _ {p : Panel} {q : List Cell} {old new : List ℕ} {different i : ℕ} (m
   marked_now at z =
       subst⁻¹ (λ (k : ℕ). Marking p q old (set new k (i + 1)) (different + 1) (i + 1)) at
       (marked_there (sym (ap (λ (k : ℕ). get_or new k 0) at) ∙ z))
-
--- all are marked
-module _ {p : Panel} {q : List Cell} {old new : List ℕ} {different i : ℕ} (m : Marking p q old new different i) (h : length q ≤ i) where
-  all_taken : take i q ≡ q
-  all_taken = let e : i ≡ length q = omega (arith, m.most) in ap (λ (k : ℕ). take k q) e ∙ take-length q
-
-  pub all_marked : Marked p q new
-  all_marked = record { room = m.marked.room; marks = λ d on. m.marked.marks d on ∙ ap (position d) all_taken }
-
-  pub all_counted : different ≡ unfound q []
-  all_counted = m.counted ∙ ap (λ (k : List Cell). unfound k []) all_taken

@@ -6,7 +6,7 @@ use mathlib.Core.Bool.{Bool, true, false, cond}
 use mathlib.Core.Logic.{◌≢◌}
 use mathlib.Core.List.{List, [], ◌∷◌, ◌++◌, append_assoc, append-nil}
 use lib.Dec.{leb}
-use lib.ListN.{length, drop, drop_of_length-le}
+use lib.ListN.{length, drop}
 use borrow.Author.Tests.{leb-true, leb-false, le-leb, lt-leb}
 use Rattle.grid.specs.declared.Cell.{Cell}
 use Rattle.grid.specs.Panel.{cell, dist}
@@ -114,6 +114,3 @@ module _ {c : Cell} {l : List Cell} {near : Cell} {least i : ℕ} (n : Nearer c 
           to_come = ap (λ (a : Cell). nearest_from c a (drop (i + 1) l)) (cond_no near b (lt-leb _ _ taken) refl) ∙ next;
           away = f;
         }
-
-  pub nearer_all : length l ≤ i → near ≡ nearest c l
-  nearer_all h = sym (ap (nearest_from c near) (drop_of_length-le l h)) ∙ n.to_come

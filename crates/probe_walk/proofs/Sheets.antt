@@ -5,7 +5,7 @@ use mathlib.Core.Path.{◌≡◌, refl, sym, ap, ◌∙◌}
 use mathlib.Core.Bool.{Bool, true, ◌||◌, or-true}
 use mathlib.Core.List.{List, [], ◌∷◌, ◌++◌, map, map-append, append_assoc}
 use lib.ListN.{length, take, get_or, set, replicate, length-append, length-map, get_or-append}
-use lib.Seq.{length-take-le, take-length, set_at, get_or-append-add}
+use lib.Seq.{length-take-le, set_at, get_or-append-add}
 use Rattle.grid.specs.declared.Cell.{Cell}
 use Rattle.grid.specs.Panel.{cell, same_cell}
 use Rattle.grid.proofs.Facts.{eq_same}
@@ -54,11 +54,6 @@ module _ {A : Type 0} (z : A) (f : Cell → A) (q : List Cell) where
       place_kept z (map f (take i q)) (omega arith)
       ∙ ap (λ (b : A). placed z (map f (take i q) ++ b ∷ [])) e
       ∙ ap (placed z) (sym more)
-
-  pub fill_all : (i : ℕ) → i ≤ length q → length q ≤ i → filled i ≡ placed z (map f q)
-  fill_all i h k =
-      let e : i ≡ length q = omega arith in
-      ap (λ (k : List Cell). placed z (map f k)) (ap (λ (k : ℕ). take k q) e ∙ take-length q)
 
   -- what stands at the place of a probe
   pub placed_nth : (i : ℕ) (d : A) → i < length q → get_or (placed z (map f q)) i d ≡ f (nth q i)

@@ -147,9 +147,6 @@ module _ {q l : List Cell} {found : List ℕ} {left read : ℕ} (w : Walking q l
     whole : front ≡ l
     whole = let e : read ≡ length l = omega (arith, w.most) in ap (λ (k : ℕ). take k l) e ∙ take-length l
 
-    pub ended_noted : Noted q l found
-    ended_noted = record { notes = λ c i e. w.noted.notes c i e ∙ ap (position c) whole }
-
     pub ended_read : read ≡ cells_read q l
     ended_read = go (eqb left 0) refl
       where
