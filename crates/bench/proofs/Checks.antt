@@ -1,57 +1,15 @@
 -- What a bench call answers: where the bench's check refuses, that refusal; where it passes, what the call for large panels answers.
-use Prim.Native.Nat.{ℕ}
-use mathlib.Core.Path.{◌≡◌, refl, sym, subst, ◌∙◌}
-use mathlib.Core.List.{List}
-use lib.ListN.{length}
+use Rattle.std.specs.Prelude.{Ok, Err}
+use mathlib.Core.Path.{◌≡◌, refl, sym}
 use Rattle.grid.specs.declared.Panel.{Panel}
-use Rattle.grid.specs.declared.Cell.{Cell}
 use Rattle.grid.specs.declared.Refusal.{Refusal}
-use Rattle.grid.specs.declared.Check.{Check}
-use Rattle.grid.specs.declared.Check.TheVariants.{Good, Refused}
-use Rattle.grid.specs.declared.CellsAnswer.{CellsAnswer}
-use Rattle.grid.specs.declared.CellsAnswer.TheVariants as cells
-use Rattle.grid.specs.Bytes.{cells_in}
-use Rattle.grid.specs.Check.{check_order}
-use Rattle.grid.specs.Answer.{GivesCells}
-use Rattle.grid.proofs.Tests.{after_good, after_refused, answer_good, answer_refused}
-use Rattle.grid.proofs.Answers.{gives_cells}
-use Rattle.bound.specs.declared.BoundAnswer.{BoundAnswer}
-use Rattle.bound.specs.declared.BoundAnswer.TheVariants as bound
-use Rattle.bound.specs.Bound.{GivesBound, Bounds}
-use Rattle.bound.proofs.Answers.{gives_bound}
-use Rattle.judge.specs.Judge.{judge_check, scratch_after, Judges}
-use Rattle.bench.specs.Bench.{check_bench, on_bench, BenchBounds, BenchJudges}
+use Rattle.grid.specs.Check.{Check}
+use Rattle.grid.proofs.Tests.{after_good, after_refused}
+use Rattle.bench.specs.Bench.{check_bench, on_bench}
 
 module _ (p : Panel) where
-  pub passed : (c : Check) → check_bench p ≡ Good → on_bench p c ≡ c
+  pub passed : (c : Check) → check_bench p ≡ Ok tt → on_bench p c ≡ c
   passed c e = sym (after_good c e refl)
 
-  pub refused : (c : Check) {r : Refusal} → check_bench p ≡ Refused r → on_bench p c ≡ Refused r
+  pub refused : (c : Check) {r : Refusal} → check_bench p ≡ Err r → on_bench p c ≡ Err r
   refused c e = sym (after_refused c e)
-
-  -- an answer in cells
-  pub cells_passed : (c : Check) (k : ℕ) {a : CellsAnswer} → check_bench p ≡ Good → GivesCells c k a → GivesCells (on_bench p c) k a
-  cells_passed c k {a} e g = subst (λ (d : Check). GivesCells d k a) (sym (passed c e)) g
-
-  pub cells_refused : (c : Check) (k : ℕ) {r : Refusal} → check_bench p ≡ Refused r → GivesCells (on_bench p c) k (cells.Refused r)
-  cells_refused c k e = gives_cells (on_bench p c) k (answer_refused _ _ (refused c e))
-
-module _ (p : Panel) (s t : Cell) where
-  pub bound_passed : {a : BoundAnswer} → check_bench p ≡ Good → Bounds p s t a → BenchBounds p s t a
-  bound_passed {a} e g = subst (λ (d : Check). GivesBound d p s t a) (sym (passed p (check_order p s t) e)) g
-
-  pub bound_refused : {r : Refusal} → check_bench p ≡ Refused r → BenchBounds p s t (bound.Refused r)
-  bound_refused e = gives_bound _ p s t (answer_refused _ _ (refused p (check_order p s t) e))
-
-  module _ (list old : List ℕ) where
-    pub judge_passed : {new : List ℕ} {a : CellsAnswer} → check_bench p ≡ Good → Judges p s t list old new a → BenchJudges p s t list old new a
-    judge_passed e j = record {
-      gives = cells_passed p (judge_check p s t list (length old)) (length (cells_in list)) e j.gives;
-      scratch = answer_good _ (scratch_after p s t list old) e j.scratch;
-    }
-
-    pub judge_refused : {new : List ℕ} {r : Refusal} → check_bench p ≡ Refused r → new ≡ old → BenchJudges p s t list old new (cells.Refused r)
-    judge_refused e l = record {
-      gives = cells_refused p (judge_check p s t list (length old)) (length (cells_in list)) e;
-      scratch = l ∙ answer_refused _ (scratch_after p s t list old) e;
-    }

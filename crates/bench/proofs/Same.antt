@@ -1,5 +1,9 @@
 -- R-7: on a panel that both take, the bench's calls and those for large panels give equal answers and leave equal buffers. Asked for are sides of
 -- at most 32 alone: where such a panel is refused, both refuse it alike.
+use Rattle.grid.specs.declared.Refusal.{Refusal}
+use Rattle.std.specs.Prelude.{Result, Ok, Err}
+use Rattle.grid.specs.declared.Cells.{Cells}
+use Rattle.count.specs.declared.ClassCount.{ClassCount}
 use Prim.Native.Nat.{ℕ, ◌≤◌}
 use mathlib.Core.Path.{◌≡◌, refl, sym, ap, ◌∙◌, subst₂}
 use mathlib.Core.Bool.{Bool, true}
@@ -9,15 +13,12 @@ use borrow.Author.Tests.{le-leb}
 use Rattle.grid.specs.declared.Panel.{Panel}
 use Rattle.grid.specs.declared.Cell.{Cell}
 use Rattle.grid.specs.declared.Refusal.TheVariants.{BenchSide}
-use Rattle.grid.specs.declared.Check.{Check}
-use Rattle.grid.specs.declared.Check.TheVariants.{Good, Refused}
-use Rattle.grid.specs.declared.CellsAnswer.{CellsAnswer}
+use Rattle.grid.specs.Check.{Check}
 use Rattle.grid.specs.Check.{expect, after, answer, check_panel, check_entry, check_order}
 use Rattle.grid.specs.Answer.{cells_answer, GivesCells}
 use Rattle.grid.proofs.Facts.{and_both}
 use Rattle.grid.proofs.Tests.{after_after}
 use Rattle.grid.proofs.Answers.{answer_after}
-use Rattle.bound.specs.declared.BoundAnswer.{BoundAnswer}
 use Rattle.bound.specs.Bound.{bound_answer, Bounds}
 use Rattle.list.specs.List.{with_cells}
 use Rattle.draw.specs.Track.{drawn_track}
@@ -28,8 +29,8 @@ use Rattle.bench.specs.Bench.{bench_side, fits_bench, check_bench, on_bench, ben
 -- ---- checks that test the panel first: to test it before them changes nothing
 
 again : (c : Check) → after c c ≡ c
-again Good = refl
-again (Refused r) = refl
+again (Ok tt) = refl
+again (Err r) = refl
 
 module _ (p : Panel) where
   abbrev PanelFirst : Check → Type 0
@@ -52,8 +53,8 @@ module _ (p : Panel) (w : p.width ≤ bench_side) (h : p.height ≤ bench_side) 
 
   same : (c : Check) → PanelFirst p c → on_bench p c ≡ c
   same c e =
-      after_after (check_panel p) (expect (fits_bench p) BenchSide Good) c
-      ∙ ap (λ (b : Bool). after (check_panel p) (after (expect b BenchSide Good) c)) fits
+      after_after (check_panel p) (expect (fits_bench p) BenchSide (Ok tt)) c
+      ∙ ap (λ (b : Bool). after (check_panel p) (after (expect b BenchSide (Ok tt)) c)) fits
       ∙ e
 
   module _ (s t : Cell) where
@@ -75,22 +76,22 @@ module _ (p : Panel) (w : p.width ≤ bench_side) (h : p.height ≤ bench_side) 
     buffer_same old = ap (λ (c : Check). answer c (λ r. old) (with_cells (drawn_track p.width p.height s t) old)) (draw_check_same (length old))
 
     -- two answers in cells behind equal checks
-    cells_same : {c d : Check} {k : ℕ} {r r' : CellsAnswer} → c ≡ d → GivesCells c k r → GivesCells d k r' → r ≡ r'
+    cells_same : {c d : Check} {k : ℕ} {r r' : Result Cells Refusal} → c ≡ d → GivesCells c k r → GivesCells d k r' → r ≡ r'
     cells_same {k = k} e g g' = g.answers ∙ ap (λ (c : Check). cells_answer c k) e ∙ sym g'.answers
 
-    pub bound_same : {r r' : BoundAnswer} → BenchBounds p s t r → Bounds p s t r' → r ≡ r'
+    pub bound_same : {r r' : Result ClassCount Refusal} → BenchBounds p s t r → Bounds p s t r' → r ≡ r'
     bound_same b b' = b.answers ∙ ap (λ (c : Check). bound_answer c p s t) order_same ∙ sym b'.answers
 
-    module _ {old new new' : List ℕ} {r r' : CellsAnswer}
+    module _ {old new new' : List ℕ} {r r' : Result Cells Refusal}
         (b : BenchDraws p s t old new r × (new ≡ bench_buffer p s t old)) (d : Draws p s t old new' r' × (new' ≡ draw_buffer p s t old)) where
       pub draw_same : (r ≡ r') × (new ≡ new')
       draw_same = (cells_same (draw_check_same (length old)) b.0.gives d.0.gives, b.1 ∙ buffer_same old ∙ sym d.1)
 
       -- so the longest-track sentence, which is of the large call, holds of what the bench answers and leaves
       pub bench_longest : Draws p s t old new r
-      bench_longest = subst₂ (λ (r : CellsAnswer) (new : List ℕ). Draws p s t old new r) (sym draw_same.0) (sym draw_same.1) d.0
+      bench_longest = subst₂ (λ (r : Result Cells Refusal) (new : List ℕ). Draws p s t old new r) (sym draw_same.0) (sym draw_same.1) d.0
 
-    pub judge_same : {list old new new' : List ℕ} {r r' : CellsAnswer}
+    pub judge_same : {list old new new' : List ℕ} {r r' : Result Cells Refusal}
         → BenchJudges p s t list old new r → Judges p s t list old new' r' → (r ≡ r') × (new ≡ new')
     judge_same {list} {old} j j' =
         (cells_same (judge_check_same list (length old)) j.gives j'.gives, j.scratch ∙ scratch_same list old ∙ sym j'.scratch)

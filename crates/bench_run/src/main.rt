@@ -6,12 +6,12 @@
 // said 19 as it must, and how often it did otherwise.
 #![tactic(auto)]
 
-use bound::bound_values;
-use grid::{Cell, CellsAnswer, Panel, area_of, cells_values, panel_of};
+ghost use Rattle.std.specs.Prelude.{◌<◌, ◌^◌};
+
+use grid::{Cell, Cells, Order, Panel, Refusal, area_of, panel_of};
 use std::io;
 use trial::PITCH;
-use trial::cells::Order;
-use trial::numbers::{add, at_most, below, one_less, scrambled};
+use trial::numbers::{below, scrambled};
 use trial::print::{named, text};
 
 // More bytes than a call needs, for panels up to 3 by 3 and up to 129 by 129.
@@ -19,10 +19,7 @@ const SMALL: usize = 20;
 
 const LARGE: usize = 33300;
 
-// In how many ways an order is tried.
-const WAYS: u32 = 6;
-
-// Nine panels with 5 ^ 4 pairs of terminals in each of these ways; and the orders that are made up.
+// Nine panels with 5 ^ 4 pairs of terminals in each of the six ways; and the orders that are made up.
 const SMALL_TRIALS: u32 = 33750;
 
 const MADE_UP: u32 = 4096;
@@ -30,6 +27,28 @@ const MADE_UP: u32 = 4096;
 const SIDES: [u32; 8] = [1, 2, 3, 31, 32, 33, 128, 129];
 
 const PITCHES: [u32; 8] = [1000, 4000, 10000, 2000, 4000, 6000, 999, 10001];
+
+// The ways in which an order is tried: with room to spare; without; Draw a byte too short, so that Judge gets
+// what the buffer was filled with; scratch a byte too short; a byte of the list changed; its last byte
+// left out.
+#[derive(Clone, Copy, Debug, PartialEq, Eq)]
+enum Way {
+    Spare,
+    Exact,
+    ShortBuffer,
+    ShortScratch,
+    ByteChanged,
+    ByteLeftOut,
+}
+
+const WAYS: [Way; 6] = [
+    Way::Spare,
+    Way::Exact,
+    Way::ShortBuffer,
+    Way::ShortScratch,
+    Way::ByteChanged,
+    Way::ByteLeftOut,
+];
 
 #[derive(Clone, Copy)]
 struct Tally {
@@ -46,22 +65,18 @@ struct Totals {
     judge: Tally,
 }
 
-// The calls that are lent bytes.
-#[derive(Clone, Copy)]
-enum Call {
-    Draw,
-    BenchDraw,
-    Judge,
-    BenchJudge,
-}
+const NONE: Tally = Tally {
+    given: 0,
+    refused: 0,
+    off_bench: 0,
+    different: 0,
+};
 
-// What a call answered.
-#[derive(Clone, Copy)]
-struct Seen {
-    refusal: u32,
-    class: u32,
-    count: u32,
-}
+const NO_TRIALS: Totals = Totals {
+    bound: NONE,
+    draw: NONE,
+    judge: NONE,
+};
 
 // How many bytes Draw is lent, how many of them Judge then gets for its list, which of these is changed
 // between (one behind the list: none), and how many bytes of scratch Judge is lent.
@@ -74,11 +89,9 @@ struct Sizes {
 }
 
 // The same bytes in each buffer, with few zeros.
-fn fill(s: &mut [u8]) {
-    let mut i = 0;
-    while i < s.len() {
-        s[i] = (i % 251) as u8;
-        i += 1;
+fn fill(buf: &mut [u8]) {
+    for (i, byte) in buf.iter_mut().enumerate() {
+        *byte = (i % 251) as u8;
     }
 }
 
@@ -86,196 +99,154 @@ fn fill(s: &mut [u8]) {
 
 // Whether the bench must say 19: neither 1 nor 18, and a side above 32.
 fn off_bench(p: Panel) -> bool {
-    if p.width < 1 || 128 < p.width {
-        return false;
-    }
-    if p.height < 1 || 128 < p.height {
-        return false;
-    }
-    if p.pitch < 1000 || 10000 < p.pitch {
-        return false;
-    }
-    32 < p.width || 32 < p.height
-}
-
-fn says(a: Seen, refusal: u32, class: u32, count: u32) -> bool {
-    if a.refusal != refusal {
-        return false;
-    }
-    if a.class != class {
-        return false;
-    }
-    a.count == count
+    let sides = (1..=128).contains(&p.width) && (1..=128).contains(&p.height);
+    let pitch = (1000..=10000).contains(&p.pitch);
+    sides && pitch && (32 < p.width || 32 < p.height)
 }
 
 // One trial more: `equal`, the bytes after both calls are equal; `kept`, those after the bench's call are
 // as before.
-fn tallied(t: Tally, p: Panel, large: Seen, bench: Seen, equal: bool, kept: bool) -> Tally {
+fn tallied<T: PartialEq + Copy>(
+    t: Tally,
+    p: Panel,
+    large: Result<T, Refusal>,
+    bench: Result<T, Refusal>,
+    equal: bool,
+    kept: bool,
+) -> Tally {
     let mut next = t;
     if off_bench(p) {
-        if says(bench, 19, 0, 0) && kept {
-            next.off_bench = add(t.off_bench, 1);
+        if bench == Err(Refusal::BenchSide) && kept {
+            next.off_bench = t.off_bench.wrapping_add(1);
             return next;
         }
-    } else if says(bench, large.refusal, large.class, large.count) && equal {
-        if large.refusal == 0 {
-            next.given = add(t.given, 1);
+    } else if bench == large && equal {
+        if large.is_ok() {
+            next.given = t.given.wrapping_add(1);
         } else {
-            next.refused = add(t.refused, 1);
+            next.refused = t.refused.wrapping_add(1);
         }
         return next;
     }
-    next.different = add(t.different, 1);
+    next.different = t.different.wrapping_add(1);
     next
 }
 
 // ---- the calls
 
-fn large_bound(o: Order) -> Seen {
-    let v = bound_values(bound::bound(o.panel, o.entry, o.exit));
-    Seen {
-        refusal: v.refusal,
-        class: v.class,
-        count: v.count.0,
-    }
-}
-
-fn bench_bound(o: Order) -> Seen {
-    let v = bound_values(bench::bound(o.panel, o.entry, o.exit));
-    Seen {
-        refusal: v.refusal,
-        class: v.class,
-        count: v.count.0,
-    }
-}
-
 fn try_bound(o: Order, t: Tally) -> Tally {
-    tallied(t, o.panel, large_bound(o), bench_bound(o), true, true)
-}
-
-// Draw does without the list.
-fn answer_of(call: Call, o: Order, list: &[u8], bytes: &mut [u8]) -> CellsAnswer {
-    match call {
-        Call::Draw => draw::draw(o.panel, o.entry, o.exit, bytes),
-        Call::BenchDraw => bench::draw(o.panel, o.entry, o.exit, bytes),
-        Call::Judge => judge::judge(o.panel, o.entry, o.exit, list, bytes),
-        Call::BenchJudge => bench::judge(o.panel, o.entry, o.exit, list, bytes),
-    }
+    tallied(t, o.panel, bound::bound(o), bench::bound(o), true, true)
 }
 
 // Fills the buffer and lends its first bytes to the call.
-fn lent(call: Call, o: Order, list: &[u8], buf: &mut [u8], size: usize) -> Seen {
+fn lent<F: FnOnce(&mut [u8]) -> Result<Cells, Refusal>>(
+    call: F,
+    buf: &mut [u8],
+    size: usize,
+) -> Result<Cells, Refusal>
+    requires { F.IsAlwaysCallable call }
+{
     fill(buf);
-    let k = at_most(size, buf.len());
-    let v = cells_values(answer_of(call, o, list, &mut buf[..k]));
-    Seen {
-        refusal: v.refusal,
-        class: 0,
-        count: v.cells.0,
-    }
+    let k = size.min(buf.len());
+    call(&mut buf[..k])
 }
 
 // Leaves what the large call left in the first buffer, and what the bench's did in the second.
-fn try_both(
-    large: Call,
-    bench: Call,
-    o: Order,
-    list: &[u8],
+fn try_both<
+    F: FnOnce(&mut [u8]) -> Result<Cells, Refusal>,
+    G: FnOnce(&mut [u8]) -> Result<Cells, Refusal>,
+>(
+    large: F,
+    bench: G,
+    p: Panel,
     size: usize,
     before: &[u8],
     one: &mut [u8],
     two: &mut [u8],
     t: Tally,
-) -> Tally {
-    let a = lent(large, o, list, one, size);
-    let b = lent(bench, o, list, two, size);
+) -> Tally
+    requires large { F.IsAlwaysCallable large }
+    requires bench { G.IsAlwaysCallable bench }
+{
+    let a = lent(large, one, size);
+    let b = lent(bench, two, size);
     let equal = &*one == &*two;
     let kept = &*two == before;
-    tallied(t, o.panel, a, b, equal, kept)
-}
-
-// The list is the first bytes of the buffer that Draw was lent.
-fn try_judge(
-    o: Order,
-    track: &[u8],
-    sizes: Sizes,
-    before: &[u8],
-    one: &mut [u8],
-    two: &mut [u8],
-    t: Tally,
-) -> Tally {
-    let k = at_most(sizes.list, track.len());
-    try_both(
-        Call::Judge,
-        Call::BenchJudge,
-        o,
-        &track[..k],
-        sizes.scratch,
-        before,
-        one,
-        two,
-        t,
-    )
+    tallied(t, p, a, b, equal, kept)
 }
 
 // ---- one order
 
-fn change(list: &mut [u8], at: usize) {
-    if at < list.len() {
-        list[at] = list[at] ^ 1;
-    }
-}
-
-// The ways in which an order is tried: with room to spare; without; Draw a byte too short, so that Judge gets
-// what the buffer was filled with; scratch a byte too short; a byte of the list changed; its last byte
-// left out.
-fn sizes_of(way: u32, count: u32, area: usize) -> Sizes {
-    let bytes = 2 * (count as usize);
-    let mut s = Sizes {
+fn sizes_of(way: Way, count: Cells, area: usize) -> Sizes {
+    let bytes = 2 * (count.0 as usize);
+    let exact = Sizes {
         buffer: bytes,
         list: bytes,
         changed: bytes,
         scratch: area,
     };
     match way {
-        0 => {
-            s.buffer = LARGE;
-            s.scratch = LARGE;
-        }
-        1 => {}
-        2 => s.buffer = one_less(bytes),
-        3 => s.scratch = one_less(area),
-        4 => s.changed = bytes / 2,
-        _ => s.list = one_less(bytes),
+        Way::Spare => Sizes {
+            buffer: LARGE,
+            scratch: LARGE,
+            ..exact
+        },
+        Way::Exact => exact,
+        Way::ShortBuffer => Sizes {
+            buffer: bytes.saturating_sub(1),
+            ..exact
+        },
+        Way::ShortScratch => Sizes {
+            scratch: area.saturating_sub(1),
+            ..exact
+        },
+        Way::ByteChanged => Sizes {
+            changed: bytes / 2,
+            ..exact
+        },
+        Way::ByteLeftOut => Sizes {
+            list: bytes.saturating_sub(1),
+            ..exact
+        },
     }
-    s
 }
 
-fn try_order(
-    o: Order,
-    way: u32,
-    before: &mut [u8],
-    track: &mut [u8],
-    one: &mut [u8],
-    two: &mut [u8],
-    t: Totals,
-) -> Totals {
-    let sizes = sizes_of(way, large_bound(o).count, area_of(o.panel));
-    fill(before);
+// The list that Judge gets is the first bytes of the buffer that Draw was lent.
+fn try_order<const N: usize>(o: Order, way: Way, t: Totals) -> Totals
+    requires { N < 2 ^ 20 }
+{
+    let mut before = [0u8; N];
+    let mut track = [0u8; N];
+    let mut one = [0u8; N];
+    let mut two = [0u8; N];
+    let count = bound::bound(o).map_or(Cells(0), |found| found.count);
+    let sizes = sizes_of(way, count, area_of(o.panel));
+    fill(&mut before);
     let bound = try_bound(o, t.bound);
     let draw = try_both(
-        Call::Draw,
-        Call::BenchDraw,
-        o,
-        before,
+        |buf| draw::draw(o, buf),
+        |buf| bench::draw(o, buf),
+        o.panel,
         sizes.buffer,
-        before,
-        track,
-        one,
+        &before,
+        &mut track,
+        &mut one,
         t.draw,
     );
-    change(track, sizes.changed);
-    let judge = try_judge(o, track, sizes, before, one, two, t.judge);
+    if let Some(byte) = track.get_mut(sizes.changed) {
+        *byte ^= 1;
+    }
+    let list = &track[..sizes.list.min(N)];
+    let judge = try_both(
+        |scratch| judge::judge(o, list, scratch),
+        |scratch| bench::judge(o, list, scratch),
+        o.panel,
+        sizes.scratch,
+        &before,
+        &mut one,
+        &mut two,
+        t.judge,
+    );
     Totals { bound, draw, judge }
 }
 
@@ -304,8 +275,8 @@ fn pick_of_eight(code: u32, k: u32, n: u32) -> u32 {
 // A made-up cell, on the panel or next to it, on the right or above.
 fn pick_cell(p: Panel, code: u32, k: u32) -> Cell {
     Cell {
-        x: add(pick_of_eight(code, k, add(p.width, 1)), 1),
-        y: pick_of_eight(code, add(k, 1), add(p.height, 1)),
+        x: pick_of_eight(code, k, p.width.wrapping_add(1)).wrapping_add(1),
+        y: pick_of_eight(code, k.wrapping_add(1), p.height.wrapping_add(1)),
     }
 }
 
@@ -330,68 +301,14 @@ fn made_up_order(code: u32) -> Order {
 }
 
 // Order `code` / 6, in each of the six ways in turn.
-fn try_small(code: u32, t: Totals) -> Totals {
-    let mut before = [0u8; SMALL];
-    let mut track = [0u8; SMALL];
-    let mut one = [0u8; SMALL];
-    let mut two = [0u8; SMALL];
-    let o = small_order(code / WAYS);
-    try_order(
-        o,
-        code % WAYS,
-        &mut before,
-        &mut track,
-        &mut one,
-        &mut two,
-        t,
-    )
+fn try_small(t: Totals, code: u32) -> Totals {
+    try_order::<SMALL>(small_order(code / 6), WAYS[(code % 6) as usize], t)
 }
 
 // A made-up order in a made-up way.
-fn try_made_up(code: u32, t: Totals) -> Totals {
-    let mut before = [0u8; LARGE];
-    let mut track = [0u8; LARGE];
-    let mut one = [0u8; LARGE];
-    let mut two = [0u8; LARGE];
-    let o = made_up_order(code);
-    try_order(
-        o,
-        pick_of_eight(code, 6, WAYS),
-        &mut before,
-        &mut track,
-        &mut one,
-        &mut two,
-        t,
-    )
-}
-
-fn trial(small: bool, code: u32, t: Totals) -> Totals {
-    if small {
-        try_small(code, t)
-    } else {
-        try_made_up(code, t)
-    }
-}
-
-fn none() -> Tally {
-    Tally {
-        given: 0,
-        refused: 0,
-        off_bench: 0,
-        different: 0,
-    }
-}
-
-fn all_trials(small: bool, trials: u32) -> Totals {
-    let mut t = Totals {
-        bound: none(),
-        draw: none(),
-        judge: none(),
-    };
-    for code in 0..trials {
-        t = trial(small, code, t);
-    }
-    t
+fn try_made_up(t: Totals, code: u32) -> Totals {
+    let way = WAYS[(pick_of_eight(code, 6, 6) % 6) as usize];
+    try_order::<LARGE>(made_up_order(code), way, t)
 }
 
 // ---- what is printed
@@ -419,12 +336,12 @@ fn main(rt: HostRuntime) -> io::Result<()> {
         &rt,
         b"every order up to 3 by 3",
         SMALL_TRIALS,
-        all_trials(true, SMALL_TRIALS),
+        (0..SMALL_TRIALS).fold(NO_TRIALS, try_small),
     )?;
     print_totals(
         &rt,
         b"made up, up to 129 by 129",
         MADE_UP,
-        all_trials(false, MADE_UP),
+        (0..MADE_UP).fold(NO_TRIALS, try_made_up),
     )
 }

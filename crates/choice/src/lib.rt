@@ -2,300 +2,348 @@
 // crate plan (specs/Plan.antt) does.
 #![tactic(auto)]
 
-ghost use Rattle.std.specs.Prelude.{◌≡◌, cond, ◌≤◌, ◌+◌, ◌-◌, eqb};
+ghost use Rattle.std.specs.Prelude.{◌≡◌, cond, ltb, ◌≤◌, ◌+◌, ◌-◌, eqb};
 ghost use Rattle.grid.specs.Panel.{turned_cell};
-ghost use Rattle.plan.specs.declared.Plan.TheVariants.{One};
-ghost use Rattle.plan.specs.Leg.{cell, mirror_x, mirror_y, reversed_plan};
-ghost use Rattle.plan.specs.Plan.{moving, left_first, bridge, wrap, zigzag};
-ghost use Rattle.plan.specs.Plan.{steep, third};
+ghost use Rattle.plan.specs.declared.Plan.{Plan};
+ghost use Rattle.plan.specs.Leg.{cell, reversed_plan, moved_plan};
+ghost use Rattle.plan.specs.Plan.{moving, left_first, split, wrap, zigzag, bridge, steep, third};
 ghost use Rattle.plan.specs.Plan.{two_rows, three_rows_apart, three_rows, wrapped, inner_split, edge_split};
 ghost use Rattle.plan.specs.Plan.{at_edge, bridged, four_rows, wide, plan_of};
-ghost use Rattle.plan.specs.Small.{SmallCells, SmallOrder};
+ghost use Rattle.plan.specs.Small.{SmallOrder};
+ghost use Rattle.shapes.specs.declared.motions.Motion.TheVariants.{MirrorX, MirrorY};
+ghost use Rattle.shapes.specs.Motion.{moved_cell};
 
-use grid::{Cell, turn_cell};
+use grid::Cell;
 use plan::Plan;
-use shapes::motions::{less, move_cell, move_plan, reverse_plan};
-use shapes::{Motion, alone, bridge, middle, split, wrap, zigzag};
-use terminals::{
-    beside_and_odd, both_at_most, crossing, even_and_beside, is_corner, is_critical, is_free,
-    is_steep, odd_and_critical, wraps_below,
-};
+use shapes::motions::{Motion, reverse_plan};
+use shapes::{back, bridge, forth, middle, split, wrap, zigzag};
+use terminals::{crossing, is_corner, is_critical, is_free, is_odd, is_steep};
 
-#[tactic(auto, unfolding(plan::specs::Plan::two_rows))]
-fn two_rows(m: u32, s: Cell, t: Cell) -> Plan
-    requires { SmallOrder m 2 s t }
-    ensures { result ≡ two_rows m s t }
-{
-    let other = less(3, s.y);
-    if s.y == t.y {
-        return split(m, 2, s, t, s.x, other);
-    }
-    if s.x + 1 < t.x {
-        return split(m, 2, s, t, s.x, other);
-    }
-    if m < s.x + t.x {
-        let beside = less(3, t.y);
-        return alone(t, Cell { x: 1, y: beside }, s, true);
-    }
-    alone(s, Cell { x: m, y: other }, t, false)
+// The sides of a panel and two cells of it, so small that no sum of them is too large.
+#[derive(Clone, Copy)]
+struct Ends {
+    m: u32,
+    n: u32,
+    s: Cell,
+    t: Cell,
+    ghost small: { SmallOrder m n s t },
 }
 
-fn third(s: Cell, t: Cell) -> u32
-    requires { SmallCells s t }
-    ensures { result ≡ third s t }
-{
-    less(6, s.y + t.y)
-}
+impl Ends {
+    ghost use Rattle.choice.specs.declared.Ends.{Ends};
+    ghost use Rattle.choice.specs.Ends.{Fits, Moved, Exchanged, LeftFirst};
 
-#[tactic(auto, unfolding(plan::specs::Plan::three_rows_apart))]
-fn three_rows_apart(m: u32, s: Cell, t: Cell) -> Plan
-    requires { SmallOrder m 3 s t }
-    ensures { result ≡ three_rows_apart m s t }
-{
-    if is_steep(s, t) {
-        return zigzag(m, s, t, third(s, t));
-    }
-    if is_free(s.x, 1, s, t) {
-        return split(m, 3, s, t, s.x, 1);
-    }
-    split(m, 3, s, t, s.x, 3)
-}
+    // ---- plans by way of others
 
-// The zigzag of the mirrored panel, mirrored in x.
-fn mirrored_zigzag(m: u32, s: Cell, t: Cell) -> Plan
-    requires { SmallOrder m 3 s t }
-    ensures { result ≡ moving (mirror_x m) (λ a b. zigzag m a b (third s t)) s t }
-{
-    let mirror = Motion::MirrorX(m + 1);
-    let p = zigzag(m, move_cell(mirror, s), move_cell(mirror, t), third(s, t));
-    move_plan(mirror, p)
-}
+    fn mirror_x(self) -> Motion
+        ensures is { result ≡ MirrorX (self.m + 1) }
+        ensures fits { Fits result }
+    {
+        Motion::MirrorX(self.m + 1)
+    }
 
-#[tactic(auto, unfolding(plan::specs::Plan::three_rows))]
-fn three_rows(m: u32, s: Cell, t: Cell) -> Plan
-    requires { SmallOrder m 3 s t }
-    ensures { result ≡ three_rows m s t }
-{
-    if !is_critical(m, s, t) {
-        return three_rows_apart(m, s, t);
+    fn mirror_y(self) -> Motion
+        ensures is { result ≡ MirrorY (self.n + 1) }
+        ensures fits { Fits result }
+    {
+        Motion::MirrorY(self.n + 1)
     }
-    if s.x == t.x {
-        return mirrored_zigzag(m, s, t);
-    }
-    if even_and_beside(s, t) {
-        return middle(m, s, t);
-    }
-    three_rows_apart(m, s, t)
-}
 
-// The wrap of the panel mirrored in y, mirrored.
-fn flipped_wrap(m: u32, n: u32, s: Cell, t: Cell) -> Plan
-    requires { SmallOrder m n s t }
-    ensures { result ≡ moving (mirror_y n) (wrap m n) s t }
-{
-    let mirror = Motion::MirrorY(n + 1);
-    let p = wrap(m, n, move_cell(mirror, s), move_cell(mirror, t));
-    move_plan(mirror, p)
-}
+    fn moved(self, k: Motion) -> Ends
+        requires { Fits k }
+        ensures { Moved k self result }
+    {
+        let (m, n) = match k {
+            Motion::Turn => (self.n, self.m),
+            Motion::MirrorX(_) | Motion::MirrorY(_) => (self.m, self.n),
+        };
+        Ends {
+            m,
+            n,
+            s: k.cell(self.s),
+            t: k.cell(self.t),
+        }
+    }
 
-#[tactic(auto, unfolding(plan::specs::Plan::wrapped))]
-fn wrapped(m: u32, n: u32, s: Cell, t: Cell) -> Plan
-    requires { SmallOrder m n s t }
-    ensures { result ≡ wrapped m n s t }
-{
-    if wraps_below(n, s) {
-        return flipped_wrap(m, n, s, t);
+    fn exchanged(self) -> Ends
+        ensures { Exchanged self result }
+    {
+        Ends {
+            m: self.m,
+            n: self.n,
+            s: self.t,
+            t: self.s,
+        }
     }
-    wrap(m, n, s, t)
-}
 
-#[tactic(auto, unfolding(plan::specs::Plan::inner_split))]
-fn inner_split(m: u32, n: u32, s: Cell, t: Cell) -> Plan
-    requires { SmallOrder m n s t }
-    ensures { result ≡ inner_split m n s t }
-{
-    if s.x < 2 {
-        return split(m, n, s, t, 2, crossing(n, s, t, 2));
+    // The terminals named so that the first is not right of the second.
+    fn ordered(self) -> Ends
+        ensures { LeftFirst self result }
+    {
+        if self.t.x < self.s.x {
+            return self.exchanged();
+        }
+        self
     }
-    split(m, n, s, t, s.x, crossing(n, s, t, s.x))
-}
 
-// s in column 1, t in column 2, t below s: split by rows, over the last column.
-#[tactic(auto, unfolding(plan::specs::Plan::edge_split))]
-fn edge_split(m: u32, n: u32, s: Cell, t: Cell) -> Plan
-    requires { SmallOrder m n s t }
-    ensures { result ≡ edge_split m n s t }
-{
-    let p = split(n, m, turn_cell(s), turn_cell(t), s.y, m);
-    move_plan(Motion::Turn, p)
-}
+    // A plan of the ordered terminals, walked from s.
+    fn from_s(self, p: Plan) -> Plan
+        ensures { result ≡ cond (ltb self.t.x self.s.x) (reversed_plan p) p }
+    {
+        if self.t.x < self.s.x {
+            return reverse_plan(p);
+        }
+        p
+    }
 
-fn flipped_edge_split(m: u32, n: u32, s: Cell, t: Cell) -> Plan
-    requires { SmallOrder m n s t }
-    ensures { result ≡ moving (mirror_y n) (edge_split m n) s t }
-{
-    let mirror = Motion::MirrorY(n + 1);
-    let p = edge_split(m, n, move_cell(mirror, s), move_cell(mirror, t));
-    move_plan(mirror, p)
-}
+    // The plan that is given for the moved terminals, moved back.
+    fn moving<F: FnOnce(Ends) -> Plan>(self, k: Motion, plan: F) -> Plan
+        requires fits { Fits k }
+        requires callable { F.IsAlwaysCallable plan }
+        ensures { (e : Ends) × (p : Plan) × Moved k self e × F.post plan e p × (result ≡ moved_plan (moved_cell k) p) }
+    {
+        k.plan(plan(self.moved(k)))
+    }
 
-#[tactic(auto, unfolding(plan::specs::Plan::at_edge))]
-fn at_edge(m: u32, n: u32, s: Cell, t: Cell) -> Plan
-    requires { SmallOrder m n s t }
-    ensures { result ≡ at_edge m n s t }
-{
-    if s.y == t.y {
-        return wrapped(m, n, s, t);
+    // The plan that is given for the ordered terminals, walked from s.
+    fn left_first<F: FnOnce(Ends) -> Plan>(self, plan: F) -> Plan
+        requires { F.IsAlwaysCallable plan }
+        ensures { (e : Ends) × (p : Plan) × LeftFirst self e × F.post plan e p × (result ≡ cond (ltb self.t.x self.s.x) (reversed_plan p) p) }
+    {
+        self.from_s(plan(self.ordered()))
     }
-    if t.y < s.y {
-        return flipped_edge_split(m, n, s, t);
-    }
-    edge_split(m, n, s, t)
-}
 
-// A split by rows: the inner split of the turned panel.
-fn turned_split(m: u32, n: u32, s: Cell, t: Cell) -> Plan
-    requires { SmallOrder m n s t }
-    ensures { result ≡ moving turned_cell (inner_split n m) s t }
-{
-    let p = inner_split(n, m, turn_cell(s), turn_cell(t));
-    move_plan(Motion::Turn, p)
-}
+    // ---- the plans of shapes
 
-fn flipped_bridge(m: u32, n: u32, s: Cell, t: Cell, c: u32) -> Plan
-    requires small_order { SmallOrder m n s t }
-    requires c_bound { c ≤ 130 }
-    ensures { result ≡ moving (mirror_y n) (λ a b. bridge m n a b c) s t }
-{
-    let mirror = Motion::MirrorY(n + 1);
-    let p = bridge(m, n, move_cell(mirror, s), move_cell(mirror, t), c);
-    move_plan(mirror, p)
-}
+    fn split(self, c: u32, j: u32) -> Plan
+        requires { c ≤ 130 }
+        ensures { result ≡ split self.m self.n self.s self.t c j }
+    {
+        split(self.m, self.n, self.s, self.t, c, j)
+    }
 
-// m even, n odd, s black, t white.
-#[tactic(auto, unfolding(plan::specs::Plan::bridged))]
-fn bridged(m: u32, n: u32, s: Cell, t: Cell, c: u32) -> Plan
-    requires small_order { SmallOrder m n s t }
-    requires c_bound { c ≤ 130 }
-    ensures { result ≡ bridged m n s t c }
-{
-    if both_at_most(3, s.y, 3, t.y) {
-        return bridge(m, n, s, t, c);
+    fn bridge(self, c: u32) -> Plan
+        requires { c ≤ 130 }
+        ensures { result ≡ bridge self.m self.n self.s self.t c }
+    {
+        bridge(self.m, self.n, self.s, self.t, c)
     }
-    if both_at_most(s.y + 2, n, t.y + 2, n) {
-        return flipped_bridge(m, n, s, t, c);
-    }
-    if s.y < t.y {
-        return turned_split(m, n, s, t);
-    }
-    reverse_plan(turned_split(m, n, t, s))
-}
 
-// t in the last column, s in the one before: as at the left edge of the panel mirrored in x.
-fn at_right_edge(m: u32, n: u32, s: Cell, t: Cell) -> Plan
-    requires { SmallOrder m n s t }
-    ensures { result ≡ moving (mirror_x m) (λ a b. reversed_plan (at_edge m n b a)) s t }
-{
-    let mirror = Motion::MirrorX(m + 1);
-    let p = at_edge(m, n, move_cell(mirror, t), move_cell(mirror, s));
-    move_plan(mirror, reverse_plan(p))
-}
+    fn wrap(self) -> Plan
+        ensures { result ≡ wrap self.m self.n self.s self.t }
+    {
+        wrap(self.m, self.n, self.s, self.t)
+    }
 
-// Four rows or more, s left of t and no further from it in rows than in columns.
-#[tactic(auto, unfolding(plan::specs::Plan::four_rows))]
-fn four_rows(m: u32, n: u32, s: Cell, t: Cell) -> Plan
-    requires { SmallOrder m n s t }
-    ensures { result ≡ four_rows m n s t }
-{
-    if t.x == 2 {
-        return at_edge(m, n, s, t);
+    fn zigzag(self, r: u32) -> Plan
+        ensures { result ≡ zigzag self.m self.s self.t r }
+    {
+        zigzag(self.m, self.s, self.t, r)
     }
-    if s.x + 1 == m {
-        return at_right_edge(m, n, s, t);
-    }
-    if !odd_and_critical(m, n, s, t) {
-        return inner_split(m, n, s, t);
-    }
-    if beside_and_odd(s, t) {
-        return wrapped(m, n, s, t);
-    }
-    bridged(m, n, s, t, s.x + s.x % 2)
-}
 
-// The terminals named so that s is not right of t.
-fn ordered_four(m: u32, n: u32, s: Cell, t: Cell) -> Plan
-    requires { SmallOrder m n s t }
-    ensures { result ≡ left_first (four_rows m n) s t }
-{
-    if t.x < s.x {
-        return reverse_plan(four_rows(m, n, t, s));
-    }
-    four_rows(m, n, s, t)
-}
+    // ---- the choice
 
-// The leg from a corner of the panel.
-fn from_corner(m: u32, n: u32, s: Cell, t: Cell, back: bool) -> Plan
-    requires m_bound { m ≤ 128 }
-    requires n_bound { n ≤ 128 }
-    ensures { result ≡ One (record { a = s; b = cell (m + 1 - s.x) (n + 1 - s.y); t = t; back = back }) }
-{
-    let x = less(m + 1, s.x);
-    let y = less(n + 1, s.y);
-    alone(s, Cell { x, y }, t, back)
-}
+    #[tactic(auto, unfolding(plan::specs::Plan::two_rows))]
+    fn two_rows(self) -> Plan
+        requires { self.n ≡ 2 }
+        ensures { result ≡ two_rows self.m self.s self.t }
+    {
+        let Cell { x, y } = self.s;
+        let other = 3_u32.saturating_sub(y);
+        if y == self.t.y || x + 1 < self.t.x {
+            return self.split(x, other);
+        }
+        if self.m < x + self.t.x {
+            let beside = 3_u32.saturating_sub(self.t.y);
+            return Plan::One(back(self.t, Cell { x: 1, y: beside }, self.s));
+        }
+        Plan::One(forth(
+            self.s,
+            Cell {
+                x: self.m,
+                y: other,
+            },
+            self.t,
+        ))
+    }
 
-// The panel turned, so that the terminals are no further apart in rows than in columns.
-fn turned_four(m: u32, n: u32, s: Cell, t: Cell) -> Plan
-    requires { SmallOrder m n s t }
-    ensures { result ≡ moving turned_cell (left_first (four_rows n m)) s t }
-{
-    let p = ordered_four(n, m, turn_cell(s), turn_cell(t));
-    move_plan(Motion::Turn, p)
-}
+    fn third(self) -> u32
+        ensures { result ≡ third self.s self.t }
+    {
+        6_u32.saturating_sub(self.s.y + self.t.y)
+    }
 
-// m not less than n, s not right of t, three rows or more, and no terminal in a corner.
-fn inner(m: u32, n: u32, s: Cell, t: Cell) -> Plan
-    requires { SmallOrder m n s t }
-    ensures { result ≡ cond (eqb n 3) (three_rows m s t) (cond (steep s t) (moving turned_cell (left_first (four_rows n m)) s t) (four_rows m n s t)) }
-{
-    if n == 3 {
-        return three_rows(m, s, t);
+    #[tactic(auto, unfolding(plan::specs::Plan::three_rows_apart))]
+    fn three_rows_apart(self) -> Plan
+        requires { self.n ≡ 3 }
+        ensures { result ≡ three_rows_apart self.m self.s self.t }
+    {
+        if is_steep(self.s, self.t) {
+            return self.zigzag(self.third());
+        }
+        let x = self.s.x;
+        let free = is_free(x, 1, self.s, self.t);
+        self.split(x, if free { 1 } else { 3 })
     }
-    if is_steep(s, t) {
-        return turned_four(m, n, s, t);
-    }
-    four_rows(m, n, s, t)
-}
 
-// m not less than n, s not right of t.
-#[tactic(auto, unfolding(plan::specs::Plan::wide))]
-fn wide(m: u32, n: u32, s: Cell, t: Cell) -> Plan
-    requires { SmallOrder m n s t }
-    ensures { result ≡ wide m n s t }
-{
-    if n == 1 {
-        return alone(s, t, t, false);
+    #[tactic(auto, unfolding(plan::specs::Plan::three_rows))]
+    fn three_rows(self) -> Plan
+        requires { self.n ≡ 3 }
+        ensures { result ≡ three_rows self.m self.s self.t }
+    {
+        if !is_critical(self.m, self.s, self.t) {
+            return self.three_rows_apart();
+        }
+        if self.s.x == self.t.x {
+            let r = self.third();
+            return self.moving(self.mirror_x(), |e| e.zigzag(r));
+        }
+        if !is_odd(self.s.x) && self.s.x + 1 == self.t.x {
+            return middle(self.m, self.s, self.t);
+        }
+        self.three_rows_apart()
     }
-    if n == 2 {
-        return two_rows(m, s, t);
-    }
-    if is_corner(m, n, s) {
-        return from_corner(m, n, s, t, false);
-    }
-    if is_corner(m, n, t) {
-        return from_corner(m, n, t, s, true);
-    }
-    inner(m, n, s, t)
-}
 
-fn ordered_wide(m: u32, n: u32, s: Cell, t: Cell) -> Plan
-    requires { SmallOrder m n s t }
-    ensures { result ≡ left_first (wide m n) s t }
-{
-    if t.x < s.x {
-        return reverse_plan(wide(m, n, t, s));
+    // A wrap, mirrored in y where there is no room for it below.
+    #[tactic(auto, unfolding(plan::specs::Plan::wrapped))]
+    fn wrapped(self) -> Plan
+        ensures { result ≡ wrapped self.m self.n self.s self.t }
+    {
+        let y = self.s.y;
+        let flips = if is_odd(self.n) {
+            y + 1 == self.n
+        } else {
+            is_odd(y)
+        };
+        if flips {
+            return self.moving(self.mirror_y(), |e| e.wrap());
+        }
+        self.wrap()
     }
-    wide(m, n, s, t)
+
+    #[tactic(auto, unfolding(plan::specs::Plan::inner_split))]
+    fn inner_split(self) -> Plan
+        ensures { result ≡ inner_split self.m self.n self.s self.t }
+    {
+        let c = if self.s.x < 2 { 2 } else { self.s.x };
+        self.split(c, crossing(self.n, self.s, self.t, c))
+    }
+
+    // s in column 1, t in column 2, t below s: split by rows, over the last column.
+    #[tactic(auto, unfolding(plan::specs::Plan::edge_split))]
+    fn edge_split(self) -> Plan
+        ensures { result ≡ edge_split self.m self.n self.s self.t }
+    {
+        let row = self.s.y;
+        let last = self.m;
+        self.moving(Motion::Turn, |e| e.split(row, last))
+    }
+
+    #[tactic(auto, unfolding(plan::specs::Plan::at_edge))]
+    fn at_edge(self) -> Plan
+        ensures { result ≡ at_edge self.m self.n self.s self.t }
+    {
+        if self.s.y == self.t.y {
+            return self.wrapped();
+        }
+        if self.t.y < self.s.y {
+            return self.moving(self.mirror_y(), |e| e.edge_split());
+        }
+        self.edge_split()
+    }
+
+    // A split by rows: the inner split of the turned panel.
+    fn turned_split(self) -> Plan
+        ensures { result ≡ moving turned_cell (inner_split self.n self.m) self.s self.t }
+    {
+        self.moving(Motion::Turn, |e| e.inner_split())
+    }
+
+    // m even, n odd, s black, t white.
+    #[tactic(auto, unfolding(plan::specs::Plan::bridged))]
+    fn bridged(self, c: u32) -> Plan
+        requires { c ≤ 130 }
+        ensures { result ≡ bridged self.m self.n self.s self.t c }
+    {
+        let Ends { n, s, t, .. } = self;
+        if 3 <= s.y && 3 <= t.y {
+            return self.bridge(c);
+        }
+        if s.y + 2 <= n && t.y + 2 <= n {
+            return self.moving(self.mirror_y(), |e| e.bridge(c));
+        }
+        if s.y < t.y {
+            return self.turned_split();
+        }
+        reverse_plan(self.exchanged().turned_split())
+    }
+
+    // Four rows or more, s left of t and no further from it in rows than in columns.
+    #[tactic(auto, unfolding(plan::specs::Plan::four_rows))]
+    fn four_rows(self) -> Plan
+        ensures { result ≡ four_rows self.m self.n self.s self.t }
+    {
+        let Ends { m, n, s, t } = self;
+        if t.x == 2 {
+            return self.at_edge();
+        }
+        if s.x + 1 == m {
+            // As at the left edge of the mirrored panel, from t to s.
+            return self.moving(self.mirror_x(), |e| reverse_plan(e.exchanged().at_edge()));
+        }
+        if !is_odd(n) || !is_critical(m, s, t) {
+            return self.inner_split();
+        }
+        if s.x + 1 == t.x && is_odd(s.x) {
+            return self.wrapped();
+        }
+        self.bridged(s.x + s.x % 2)
+    }
+
+    // The cell across the panel from a corner of it.
+    fn across(self, c: Cell) -> Cell
+        ensures { result ≡ cell (self.m + 1 - c.x) (self.n + 1 - c.y) }
+    {
+        Cell {
+            x: (self.m + 1).saturating_sub(c.x),
+            y: (self.n + 1).saturating_sub(c.y),
+        }
+    }
+
+    // m not less than n, s not right of t, three rows or more, and no terminal in a corner.
+    fn inner(self) -> Plan
+        ensures { let e = self in result ≡ cond (eqb e.n 3) (three_rows e.m e.s e.t) (cond (steep e.s e.t) (moving turned_cell (left_first (four_rows e.n e.m)) e.s e.t) (four_rows e.m e.n e.s e.t)) }
+    {
+        if self.n == 3 {
+            return self.three_rows();
+        }
+        if is_steep(self.s, self.t) {
+            // Turned, the terminals are no further apart in rows than in columns.
+            return self.moving(Motion::Turn, |e| e.left_first(|d| d.four_rows()));
+        }
+        self.four_rows()
+    }
+
+    // m not less than n, s not right of t.
+    #[tactic(auto, unfolding(plan::specs::Plan::wide))]
+    fn wide(self) -> Plan
+        ensures { result ≡ wide self.m self.n self.s self.t }
+    {
+        let Ends { m, n, s, t } = self;
+        if n == 1 {
+            return Plan::One(forth(s, t, t));
+        }
+        if n == 2 {
+            return self.two_rows();
+        }
+        if is_corner(m, n, s) {
+            return Plan::One(forth(s, self.across(s), t));
+        }
+        if is_corner(m, n, t) {
+            return Plan::One(back(t, self.across(t), s));
+        }
+        self.inner()
+    }
 }
 
 #[tactic(auto, unfolding(plan::specs::Plan::plan_of))]
@@ -303,9 +351,9 @@ pub fn plan_of(m: u32, n: u32, s: Cell, t: Cell) -> Plan
     requires { SmallOrder m n s t }
     ensures { result ≡ plan_of m n s t }
 {
+    let ends = Ends { m, n, s, t };
     if m < n {
-        let p = ordered_wide(n, m, turn_cell(s), turn_cell(t));
-        return move_plan(Motion::Turn, p);
+        return ends.moving(Motion::Turn, |e| e.left_first(|d| d.wide()));
     }
-    ordered_wide(m, n, s, t)
+    ends.left_first(|e| e.wide())
 }

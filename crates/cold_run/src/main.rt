@@ -5,28 +5,33 @@
 // Bound's count. Of spot heaters (class 6) nothing is promised.
 #![tactic(auto)]
 
-use bound::bound_values;
-use grid::{Cell, Panel, cells_values, panel_of};
+use bound::BoundValues;
+use grid::{Cell, CellsValues, Order, Panel, panel_of};
 use std::io;
-use std::num::wrapping_add_u32 as add;
 use trial::PITCH;
-use trial::cells::{Order, is_track, on};
-use trial::plain::position_of;
-use trial::print::{named, text};
+use trial::cells::{is_track, on, pairs};
+
+// The first cell of a panel.
+const FIRST: Cell = Cell { x: 1, y: 1 };
 
 // How many cells of each colour are left uncovered.
-#[derive(Clone, Copy)]
+#[derive(Clone, Copy, Debug, Default, PartialEq, Eq)]
 struct Left {
     white: u32,
     black: u32,
 }
 
-// For each line the orders, and the cells left; and the wrong orders.
+// The orders of a line, and the cells that their tracks leave.
+#[derive(Clone, Copy, Debug, Default, PartialEq, Eq)]
+struct Line {
+    orders: u32,
+    left: Left,
+}
+
+// The lines, and the wrong orders.
 #[derive(Clone, Copy)]
 struct Totals {
-    orders: [u32; 16],
-    white: [u32; 16],
-    black: [u32; 16],
+    lines: [Line; 16],
     wrong: u32,
 }
 
@@ -38,122 +43,88 @@ fn nth(i: u32) -> Cell {
     }
 }
 
-// 0 for a white cell, 1 for a black one.
-fn colour(c: Cell) -> u32 {
-    add(c.x, c.y) % 2
+fn is_black(c: Cell) -> bool {
+    c.x.wrapping_add(c.y) % 2 == 1
 }
 
 // ---- a plain look
 
-// Whether a cell is off the panel or in the list. Behind the list the buffer is 0, so all of it is searched.
-fn covered(p: Panel, list: &[u8], c: Cell) -> bool {
-    if on(p, nth(0), c) {
-        return position_of(list, c) != 0;
-    }
-    true
-}
-
-// The cells left, with c if it is one of them.
-fn counted_in(l: Left, p: Panel, list: &[u8], c: Cell) -> Left {
-    if covered(p, list, c) {
-        return l;
-    }
-    if colour(c) == 0 {
-        return Left {
-            white: add(l.white, 1),
-            black: l.black,
-        };
-    }
-    Left {
-        white: l.white,
-        black: add(l.black, 1),
-    }
+// Whether a cell of the panel is not in the list. Behind the list the buffer is 0, so all of it is searched.
+fn is_left(p: Panel, list: &[u8], c: Cell) -> bool {
+    on(p, FIRST, c) && !pairs(list).iter().any(|&pair| Cell::from(pair) == c)
 }
 
 // The cells of the panel that do not stand in the list.
 fn look(p: Panel, list: &[u8]) -> Left {
-    let mut l = Left { white: 0, black: 0 };
+    let mut left = Left::default();
     for i in 0..36 {
-        l = counted_in(l, p, list, nth(i));
+        let c = nth(i);
+        let here = is_left(p, list, c);
+        left = Left {
+            white: left.white.wrapping_add(u32::from(here && !is_black(c))),
+            black: left.black.wrapping_add(u32::from(here && is_black(c))),
+        };
     }
-    l
+    left
 }
 
 // ---- what document 02 says of a class
 
-fn has(l: Left, white: u32, black: u32) -> bool {
-    l.white == white && l.black == black
-}
-
-fn one_opposite(l: Left, c: Cell) -> bool {
-    if colour(c) == 0 {
-        has(l, 0, 1)
-    } else {
-        has(l, 1, 0)
+fn one_opposite(c: Cell) -> Left {
+    Left {
+        white: u32::from(is_black(c)),
+        black: u32::from(!is_black(c)),
     }
 }
 
-fn as_promised(class: u32, odd: u32, o: Order, l: Left) -> bool {
-    if class == 3 {
-        return has(l, 0, 0);
+fn as_promised(class: u32, odd: bool, o: Order, left: Left) -> bool {
+    match (class, odd) {
+        (3, _) => left == Left { white: 0, black: 0 },
+        (4, false) => left == one_opposite(o.entry) && left == one_opposite(o.exit),
+        (4, true) => left == Left { white: 1, black: 0 },
+        (5, false) => left == Left { white: 1, black: 1 },
+        (5, true) => left == Left { white: 2, black: 0 },
+        _ => class == 6,
     }
-    if class == 4 && odd == 0 {
-        return one_opposite(l, o.entry) && one_opposite(l, o.exit);
-    }
-    if class == 4 {
-        return has(l, 1, 0);
-    }
-    if class == 5 && odd == 0 {
-        return has(l, 1, 1);
-    }
-    if class == 5 {
-        return has(l, 2, 0);
-    }
-    class == 6
 }
 
 // ---- the orders
 
-// 0 where mn is even, 1 where it is odd.
-fn area_parity(p: Panel) -> u32 {
-    if p.width % 2 == 0 {
-        return 0;
-    }
-    p.height % 2
+// Whether mn is odd.
+fn odd_area(p: Panel) -> bool {
+    p.width % 2 == 1 && p.height % 2 == 1
 }
 
 // The number of an order's line: classes 3 to 6, mn even or odd, the entry white or black. Another class falls
 // on one of these lines, and its order counts as wrong.
-fn line_of(class: u32, odd: u32, entry: Cell) -> u32 {
-    add(add(class, 1) % 4 * 4 + odd % 2 * 2, colour(entry))
+fn line_of(class: u32, odd: bool, entry: Cell) -> usize {
+    let colour = u32::from(is_black(entry));
+    (class.wrapping_add(1) % 4 * 4 + u32::from(odd) % 2 * 2 + colour % 2) as usize
 }
 
-// An order of that line more, and what its track leaves.
-fn add_to(t: Totals, line: u32, l: Left) -> Totals {
-    let at = (line % 16) as usize;
-    let mut next = t;
-    let orders = next.orders[at];
-    let white = next.white[at];
-    let black = next.black[at];
-    next.orders[at] = add(orders, 1);
-    next.white[at] = add(white, l.white);
-    next.black[at] = add(black, l.black);
-    next
-}
-
-fn add_order(t: Totals, o: Order) -> Totals {
-    let p = o.panel;
-    let mut list = [0u8; 72];
-    let b = bound_values(bound::bound(p, o.entry, o.exit));
-    let a = cells_values(draw::draw(p, o.entry, o.exit, &mut list));
-    let l = look(p, &list);
-    let odd = area_parity(p);
-    let mut next = add_to(t, line_of(b.class, odd, o.entry), l);
-    let drawn = a.cells.0 == b.count.0 && is_track(&list, o, nth(0), a.cells.0);
-    if !(drawn && as_promised(b.class, odd, o, l)) {
-        next.wrong = add(next.wrong, 1);
+// An order of the line more, and what its track leaves.
+fn add_to(line: Line, left: Left) -> Line {
+    Line {
+        orders: line.orders.wrapping_add(1),
+        left: Left {
+            white: line.left.white.wrapping_add(left.white),
+            black: line.left.black.wrapping_add(left.black),
+        },
     }
-    next
+}
+
+fn add_order(t: &mut Totals, o: Order) {
+    let mut list = [0u8; 72];
+    let b = BoundValues::from(bound::bound(o));
+    let a = CellsValues::from(draw::draw(o, &mut list));
+    let left = look(o.panel, &list);
+    let odd = odd_area(o.panel);
+    let drawn = a.cells == b.count && is_track(&list, o, FIRST, a.cells.0);
+    if !(drawn && as_promised(b.class, odd, o, left)) {
+        t.wrong = t.wrong.wrapping_add(1);
+    }
+    let at = line_of(b.class, odd, o.entry) % 16;
+    t.lines[at] = add_to(t.lines[at], left);
 }
 
 // The order of number `code`: sides from 3 to 6, entry and exit anywhere in 6 by 6 cells.
@@ -165,63 +136,44 @@ fn order_of(code: u32) -> Order {
     }
 }
 
-// One order more, where both terminals are on the panel.
-fn count_one(t: Totals, code: u32) -> Totals {
-    let o = order_of(code);
-    if on(o.panel, nth(0), o.entry) && on(o.panel, nth(0), o.exit) {
-        return add_order(t, o);
-    }
-    t
-}
-
+// The orders whose terminals are both on the panel.
 fn every_order() -> Totals {
     let mut t = Totals {
-        orders: [0; 16],
-        white: [0; 16],
-        black: [0; 16],
+        lines: [Line::default(); 16],
         wrong: 0,
     };
     for code in 0..20736 {
-        t = count_one(t, code);
+        let o = order_of(code);
+        if on(o.panel, FIRST, o.entry) && on(o.panel, FIRST, o.exit) {
+            add_order(&mut t, o);
+        }
     }
     t
 }
 
 // ---- the lines
 
-fn either(rt: &impl Print, flag: u32, zero: &[u8], one: &[u8]) -> io::Result<()> {
-    if flag == 0 {
-        text(rt, zero)
-    } else {
-        text(rt, one)
-    }
-}
-
-// The line of that number, where there are such orders.
-fn show(rt: &impl Print, t: Totals, i: u32) -> io::Result<()> {
-    let at = (i % 16) as usize;
-    if t.orders[at] == 0 {
-        return Ok(());
-    }
-    named(rt, b"class ", i / 4 + 3)?;
-    either(rt, i / 2 % 2, b", mn even", b", mn odd")?;
-    either(rt, i % 2, b", entry white", b", entry black")?;
-    named(rt, b": orders ", t.orders[at])?;
-    named(rt, b", left white ", t.white[at])?;
-    named(rt, b", black ", t.black[at])?;
-    text(rt, b"\n")
-}
-
-fn show_lines(rt: &impl Print, t: Totals) -> io::Result<()> {
-    for i in 0..16 {
-        show(rt, t, i)?;
-    }
-    Ok(())
+// The line of that number.
+fn show(rt: &impl Print, number: usize, line: Line) -> io::Result<()> {
+    let class = number / 4 % 4 + 3;
+    let parity = if number / 2 % 2 == 0 { "even" } else { "odd" };
+    let colour = if number % 2 == 0 { "white" } else { "black" };
+    print!(rt;
+        "class {class}, mn {parity}, entry {colour}: orders {}",
+        line.orders
+    )?;
+    println!(rt;
+        ", left white {}, black {}",
+        line.left.white, line.left.black
+    )
 }
 
 fn main(rt: HostRuntime) -> io::Result<()> {
     let t = every_order();
-    show_lines(&rt, t)?;
-    named(&rt, b"wrong ", t.wrong)?;
-    text(&rt, b"\n")
+    for (number, line) in t.lines.iter().enumerate() {
+        if line.orders != 0 {
+            show(&rt, number, *line)?;
+        }
+    }
+    println!(&rt; "wrong {}", t.wrong)
 }

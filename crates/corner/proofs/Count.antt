@@ -181,7 +181,7 @@ module _ {w h dx dy : ℕ} (o : Open w h dx dy) where
 
   -- the lines that are chosen
   abbrev Fine : Lines → Type 0
-  Fine l = GoFirst l.row l.count w h dx dy
+  Fine l = GoFirst l.along l.count w h dx dy
 
   pub chosen_right : Fine (chosen w h dx dy)
   unfolding chosen

@@ -3,7 +3,7 @@
 use Prim.Native.Nat.{ℕ, ◌+◌, ◌-◌, ◌*◌, ◌%◌, ◌≤◌, ◌<◌}
 use mathlib.Core.Path.{◌≡◌, refl, sym, ap, ◌∙◌, subst, subst₂}
 use mathlib.Core.Logic.{◌≢◌, ◌⊎◌, inl, inr, ⊎_elim}
-use mathlib.Core.Bool.{Bool, true, false, not, ◌||◌}
+use mathlib.Core.Bool.{Bool, true, false, cond, ◌||◌}
 use mathlib.Core.List.{reverse}
 use native.Mathlib.Omega.{arith}
 use native.Mathlib.Nat.{mul-le-mul}
@@ -13,17 +13,21 @@ use Rattle.grid.specs.declared.Cell.{Cell}
 use Rattle.grid.specs.Panel.{dist}
 use Rattle.grid.proofs.Tests.{both_branches, cond_yes, cond_no}
 use Rattle.grid.proofs.Facts.{clash, or_cases, dist_sym, ne_cases, same_ne, same_eq}
+use Rattle.line.specs.declared.Along.{Along}
+use Rattle.line.specs.declared.Along.TheVariants.{Rows, Columns}
+use Rattle.line.specs.Along.{seen, other}
 use Rattle.line.specs.Rectangle.{Inside, cells_between, ahead, turning, sweep_end}
 use Rattle.line.specs.Sweep.{sweep}
-use Rattle.line.specs.Drawn.{InBytes}
+use Rattle.corner.specs.Drawn.{InBytes, Fits}
 use Rattle.line.proofs.Between.{Between, between_sym, parts, dist_same, dist_ne, dist_less, dist_small, at_once, by_eq, Cut, cut}
-use Rattle.line.proofs.Frame.{Frame, in_rows, in_columns, inside_x, inside_y, in_bytes, turning_even, turning_odd, sweep_row, sweep_column}
-use Rattle.line.proofs.Sweep.{row_bytes, column_bytes, sweep_home, line_home}
+use Rattle.line.proofs.Frame.{first_inside, last_inside, Frame, in_rows, in_columns, inside_x, inside_y, in_bytes, turning_even, turning_odd, sweep_row, sweep_column}
+use Rattle.line.proofs.Sweep.{sweep_home, line_home}
 use Rattle.corner.specs.declared.Sizes.{Sizes}
 use Rattle.corner.specs.declared.Lines.{Lines}
+use Rattle.corner.specs.declared.Peeled.{Peeled}
 use Rattle.corner.specs.Corner.{corner_count, track_count}
-use Rattle.corner.specs.Cells.{one_line, chosen, lines_by, first_lines, peeled}
-use Rattle.corner.specs.Peel.{Measured, Open, Sides, FirstSides}
+use Rattle.corner.specs.Cells.{one_line, line_way, chosen, lines_by, first_lines, peeled}
+use Rattle.corner.specs.Peel.{Measured, Open, FirstLines}
 use Rattle.corner.proofs.Chosen.{Turned, First, GoFirst, Peel}
 use Rattle.corner.proofs.Count.{chosen_right, count_turned, count_thin, count_flat, count_here}
 
@@ -60,7 +64,7 @@ ends_turned {p = p} {p' = p'} {r = r} (Ends.odd e f g) b = let d = ap (λ (i : �
 -- ---- the first lines and what remains
 
 -- the count by lines
-record Counted {row : Bool} {E : ℕ → ℕ → Cell} (F : Frame row E) : Type 0 where
+record Counted {way : Along} {E : ℕ → ℕ → Cell} (F : Frame way E) : Type 0 where
   count : (p q p' q' : ℕ) {t : Cell} → Inside (E p q) (E p' q') t
       → track_count (E p q) (E p' q') t ≡ corner_count (dist p p' + 1) (dist q q' + 1) (dist p (F.along t)) (dist q (F.over t))
 
@@ -72,7 +76,7 @@ counted_columns : Counted in_columns
 unfolding in_columns track_count
 counted_columns = record { count = λ p q p' q' i. count_turned _ _ _ _ (dist_less (inside_x i)) (dist_less (inside_y i)) }
 
-module _ {row : Bool} {E : ℕ → ℕ → Cell} {F : Frame row E} (C : Counted F) (p q p' q' : ℕ) (t : Cell) (i : Inside (E p q) (E p' q') t)
+module _ {way : Along} {E : ℕ → ℕ → Cell} {F : Frame way E} (C : Counted F) (p q p' q' : ℕ) (t : Cell) (i : Inside (E p q) (E p' q') t)
     {k : ℕ} (r : First k (dist p p' + 1) (dist q q' + 1) (dist p (F.along t)) (dist q (F.over t))) where
   -- where the lines end, the other side, the last line and the next one
   abbrev x : ℕ
@@ -105,7 +109,7 @@ module _ {row : Bool} {E : ℕ → ℕ → Cell} {F : Frame row E} (C : Counted 
       ∙ ap (λ (n : ℕ). (dist p p' + 1) * k + corner_count (n + 1) (dist m q' + 1) ex ey) (sym (ends_dist e))
       ∙ ap (λ (n : ℕ). (dist p p' + 1) * k + n) (sym (C.count x m o q' rest_target))
 
-  taken_off : Peel (E p q) (E p' q') t (lines_by row E p q p' q' k)
+  taken_off : Peel (E p q) (E p' q') t (lines_by way E p q p' q' k)
   taken_off = record {
     size = ap (λ (j : ℕ). (dist p p' + 1) * j) (sym u.size) ∙ sym (F.size p q p' l);
     end = ap (λ (j : ℕ). E (turning j p p') l) (sym u.size) ∙ sym (F.end p q p' l);
@@ -121,26 +125,34 @@ module _ {row : Bool} {E : ℕ → ℕ → Cell} {F : Frame row E} (C : Counted 
   }
 
 -- the first k rows, or else columns, of the rectangle of a and b may go first
-pub record MayGo (row : Bool) (k : ℕ) (a b t : Cell) : Type 0 where
-  pub lines : GoFirst row k (dist a.x b.x + 1) (dist a.y b.y + 1) (dist a.x t.x) (dist a.y t.y)
+pub record MayGo (way : Along) (k : ℕ) (a b t : Cell) : Type 0 where
+  pub lines : GoFirst way k (dist a.x b.x + 1) (dist a.y b.y + 1) (dist a.x t.x) (dist a.y t.y)
 
 module _ (a b t : Cell) (i : Inside a b t) where
-  lines_peeled : (row : Bool) (k : ℕ) → MayGo row k a b t → Peel a b t (first_lines row a b k)
+  lines_peeled : (way : Along) (k : ℕ) → MayGo way k a b t → Peel a b t (first_lines way a b k)
   unfolding in_rows in_columns
-  lines_peeled true k r = taken_off counted_rows a.x a.y b.x b.y t i r.lines
-  lines_peeled false k r = taken_off counted_columns a.y a.x b.y b.x t i r.lines
+  lines_peeled Rows k r = taken_off counted_rows a.x a.y b.x b.y t i r.lines
+  lines_peeled Columns k r = taken_off counted_columns a.y a.x b.y b.x t i r.lines
 
   -- what the code asks that computes them
-  pub lines_sides : (row : Bool) {k : ℕ} → InBytes a → InBytes b → MayGo row k a b t → FirstSides row a b k
-  lines_sides true s u g = let r = g.lines in record { bytes = row_bytes s u; some = r.some; most = omega (arith, r.far, parts (inside_y i)) }
-  lines_sides false s u g = let r = g.lines in record { bytes = column_bytes s u; some = r.some; most = omega (arith, r.far, parts (inside_x i)) }
+  pub lines_asked : (way : Along) {k : ℕ} → MayGo way k a b t → FirstLines way a b k
+  lines_asked Rows g = let r = g.lines in record { some = r.some; most = omega (arith, r.far, parts (inside_y i)) }
+  lines_asked Columns g = let r = g.lines in record { some = r.some; most = omega (arith, r.far, parts (inside_x i)) }
 
--- their number of cells
-pub lines_small : {p q p' q' k d : ℕ} → Sides p q p' q' k → d ≡ dist p p' → (d + 1) * k ≤ 65536
-lines_small {p} {q} {p'} {q'} {k} {d} s e =
-    let a : d + 1 ≤ 256 = omega (arith, dist_small p p' s.bytes.left s.bytes.right) in
-    let c : k ≤ 256 = omega (arith, s.most, dist_small q q' s.bytes.top s.bytes.bottom) in
-    mul-le-mul a c
+-- the cells of a line of a rectangle in bytes, and of lines of it
+seen_small : (way : Along) {a : Cell} → InBytes a → ((seen way a).x ≤ 255) × ((seen way a).y ≤ 255)
+seen_small Rows s = (s.across, s.down)
+seen_small Columns s = (s.down, s.across)
+
+module _ (way : Along) {a b t : Cell} (f : Fits a b t) where
+  pub line_small : dist (seen way a).x (seen way b).x ≤ 255
+  line_small = dist_small _ _ (seen_small way f.corner).0 (seen_small way f.opposite).0
+
+  pub lines_small : {k : ℕ} → FirstLines way a b k → (dist (seen way a).x (seen way b).x + 1) * k ≤ 65536
+  lines_small {k} l =
+      let c : k ≤ 256 = omega (arith, l.most, dist_small _ _ (seen_small way f.corner).1 (seen_small way f.opposite).1) in
+      let d : dist (seen way a).x (seen way b).x + 1 ≤ 256 = omega (arith, line_small) in
+      mul-le-mul d c
 
 -- ---- by the sizes that the code measures
 
@@ -164,17 +176,19 @@ module _ {a b t : Cell} {s : Sizes} (m : Measured a b t s) where
   unfolding track_count
   measured_count = λ i. corner_count (m.width i) (m.height i) (m.across i) (m.down i)
 
-  measured : (row : Bool) (k : ℕ) → GoFirst row k s.w s.h s.dx s.dy → MayGo row k a b t
-  measured row k r = record { lines = subst (λ (T : Type 0). T) (λ i. GoFirst row k (m.width i) (m.height i) (m.across i) (m.down i)) r }
+  measured : (way : Along) (k : ℕ) → GoFirst way k s.w s.h s.dx s.dy → MayGo way k a b t
+  measured way k r = record { lines = subst (λ (T : Type 0). T) (λ i. GoFirst way k (m.width i) (m.height i) (m.across i) (m.down i)) r }
 
   -- rows of the turned rectangle are columns
-  measured_turned : (row : Bool) (k : ℕ) → GoFirst row k s.h s.w s.dy s.dx → MayGo (not row) k a b t
-  measured_turned true k r = measured false k r
-  measured_turned false k r = measured true k r
+  measured_turned : (way : Along) (k : ℕ) → GoFirst way k s.h s.w s.dy s.dx → MayGo (other way) k a b t
+  measured_turned Rows k r = measured Columns k r
+  measured_turned Columns k r = measured Rows k r
 
-  pub bounds : InBytes a → InBytes b → Inside a b t → Bounds s
-  bounds u v i =
-      let z = in_bytes u v i in
+  pub bounds : Fits a b t → Bounds s
+  bounds f =
+      let u = f.corner in
+      let v = f.opposite in
+      let z = in_bytes u v f.inside in
       let w : s.w ≤ 256 = omega (arith, m.width, dist_small _ _ u.across v.across) in
       let h : s.h ≤ 256 = omega (arith, m.height, dist_small _ _ u.down v.down) in
       record {
@@ -212,32 +226,32 @@ module _ {a b t : Cell} {s : Sizes} (m : Measured a b t s) where
 
   -- the lines that the code chooses by them
   module _ {l : Lines} where
-    pub peeled_wide : s.h ≤ s.w → l ≡ chosen s.w s.h s.dx s.dy → first_lines l.row a b l.count ≡ peeled a b t
+    pub peeled_wide : s.h ≤ s.w → l ≡ chosen s.w s.h s.dx s.dy → first_lines l.along a b l.count ≡ peeled a b t
     unfolding peeled
     peeled_wide h e =
         let c = e ∙ (λ i. chosen (m.width i) (m.height i) (m.across i) (m.down i)) in
         cond_yes _ _ (le-leb (dist a.y b.y + 1) (dist a.x b.x + 1) (omega (arith, m.width, m.height)))
-        (λ i. first_lines (c i).row a b (c i).count)
+        (λ i. first_lines (c i).along a b (c i).count)
 
-    pub peeled_tall : s.w < s.h → l ≡ chosen s.h s.w s.dy s.dx → first_lines (not l.row) a b l.count ≡ peeled a b t
+    pub peeled_tall : s.w < s.h → l ≡ chosen s.h s.w s.dy s.dx → first_lines (other l.along) a b l.count ≡ peeled a b t
     unfolding peeled
     peeled_tall h e =
         let c = e ∙ (λ i. chosen (m.height i) (m.width i) (m.down i) (m.across i)) in
         cond_no _ _ (lt-leb (dist a.y b.y + 1) (dist a.x b.x + 1) (omega (arith, m.width, m.height)))
-        (λ i. first_lines (not (c i).row) a b (c i).count)
+        (λ i. first_lines (other (c i).along) a b (c i).count)
 
   -- the lines chosen along the width, and along the height, may go first
   module _ (i : Inside a b t) (n : one_line a b t ≡ false) where
-    pub wide_go : {l : Lines} → l ≡ chosen s.w s.h s.dx s.dy → MayGo l.row l.count a b t
+    pub wide_go : {l : Lines} → l ≡ chosen s.w s.h s.dx s.dy → MayGo l.along l.count a b t
     wide_go e =
         let c = chosen s.w s.h s.dx s.dy in
-        subst (λ (l : Lines). MayGo l.row l.count a b t) (sym e) (measured c.row c.count (chosen_right (open_measured i n)))
+        subst (λ (l : Lines). MayGo l.along l.count a b t) (sym e) (measured c.along c.count (chosen_right (open_measured i n)))
 
-    pub tall_go : {l : Lines} → l ≡ chosen s.h s.w s.dy s.dx → MayGo (not l.row) l.count a b t
+    pub tall_go : {l : Lines} → l ≡ chosen s.h s.w s.dy s.dx → MayGo (other l.along) l.count a b t
     tall_go e =
         let c = chosen s.h s.w s.dy s.dx in
-        subst (λ (l : Lines). MayGo (not l.row) l.count a b t) (sym e)
-        (measured_turned c.row c.count (chosen_right (open_turned (open_measured i n))))
+        subst (λ (l : Lines). MayGo (other l.along) l.count a b t) (sym e)
+        (measured_turned c.along c.count (chosen_right (open_turned (open_measured i n))))
 
 -- the lines that go first
 pub peel_right : (a b t : Cell) → Inside a b t → one_line a b t ≡ false → Peel a b t (peeled a b t)
@@ -249,13 +263,23 @@ peel_right a b t i n =
     (λ e. lines_peeled a b t i _ _ (wide_go m i n refl))
     (λ e. lines_peeled a b t i _ _ (tall_go m i n refl))
 
+-- what remains is a rectangle in bytes with the target in it
+pub peel_fits : {a b t : Cell} {r : Peeled} → Fits a b t → one_line a b t ≡ false → r ≡ peeled a b t → Fits r.corner r.opposite t
+peel_fits {a} {b} {t} f n e =
+    let p = subst (Peel a b t) (sym e) (peel_right a b t f.inside n) in
+    record {
+      corner = in_bytes f.corner f.opposite (p.rest _ (first_inside _ _));
+      opposite = in_bytes f.corner f.opposite (p.rest _ (last_inside _ _));
+      inside = p.target;
+    }
+
 -- ---- one line
 
--- the line from the corner to the target, whether it is a row by the code's test, ends in the target, and from there has the same cells, the last one first
-pub record Only (a b t : Cell) (row : Bool) : Type 0 where
+-- the line from the corner to the target, a row or a column by the code's test, ends in the target, and from there has the same cells, the last one first
+pub record Only (a b t : Cell) (way : Along) : Type 0 where
   pub counts : track_count a b t ≡ cells_between a t
-  pub end : sweep_end row a t ≡ t
-  pub back : sweep row t a ≡ reverse (sweep row a t)
+  pub end : sweep_end way a t ≡ t
+  pub back : sweep way t a ≡ reverse (sweep way a t)
 
 module _ (a b t : Cell) (i : Inside a b t) where
   -- the target lies in the corner's column or row
@@ -270,17 +294,17 @@ module _ (a b t : Cell) (i : Inside a b t) where
   in_line : one_line a b t ≡ true → (a.x ≡ t.x) ⊎ (a.y ≡ t.y)
   in_line e = one_of e (λ u. inl (level u (inside_x i))) (λ u. inr (level u (inside_y i))) (λ u. inl (ap (λ (c : Cell). c.x) u))
 
-  abbrev Ended : Bool → Type 0
-  Ended row = (sweep_end row a t ≡ t) × (sweep row t a ≡ reverse (sweep row a t))
+  abbrev Ended : Along → Type 0
+  Ended way = (sweep_end way a t ≡ t) × (sweep way t a ≡ reverse (sweep way a t))
 
-  ended : {row : Bool} → row ≡ eqb a.y t.y → (a.x ≡ t.x) ⊎ (a.y ≡ t.y) → Ended row
-  ended {row} f l =
+  ended : (a.x ≡ t.x) ⊎ (a.y ≡ t.y) → Ended (line_way a t)
+  ended l =
       by_eq a.y t.y
-      (λ u. by_row (eq-eqb _ _ u) (sweep_row a t u, line_home in_rows a.x a.y t.x t.y u))
-      (λ u. let c = upright u l in by_row (ne_eqb _ _ u) (sweep_column a t c, line_home in_columns a.y a.x t.y t.x c))
+      (λ u. by_test (eq-eqb _ _ u) (sweep_row a t u, line_home in_rows a.x a.y t.x t.y u))
+      (λ u. let c = upright u l in by_test (ne_eqb _ _ u) (sweep_column a t c, line_home in_columns a.y a.x t.y t.x c))
     where
-      by_row : {r : Bool} → eqb a.y t.y ≡ r → Ended r → Ended row
-      by_row g = subst Ended (sym (f ∙ g))
+      by_test : {r : Bool} → eqb a.y t.y ≡ r → Ended (cond r Rows Columns) → Ended (line_way a t)
+      by_test g = subst (λ (r : Bool). Ended (cond r Rows Columns)) (sym g)
 
       upright : a.y ≢ t.y → (a.x ≡ t.x) ⊎ (a.y ≡ t.y) → a.x ≡ t.x
       upright n (inl c) = c
@@ -308,8 +332,8 @@ module _ (a b t : Cell) (i : Inside a b t) where
           let v = dist_same (ap (λ (c : Cell). c.y) f) in
           count_here _ _ _ _ (omega arith) ∙ sym (λ j. (u j + 1) * (v j + 1))
 
-  pub only : {row : Bool} → row ≡ eqb a.y t.y → one_line a b t ≡ true → Only a b t row
-  only f e = let d = ended f (in_line e) in record { counts = counted e; end = d.0; back = d.1 }
+  pub only : one_line a b t ≡ true → Only a b t (line_way a t)
+  only e = let d = ended (in_line e) in record { counts = counted e; end = d.0; back = d.1 }
 
 -- a corner track has at most 256 by 256 cells
 pub track_most : {a b t : Cell} → InBytes a → InBytes b → Inside a b t → track_count a b t ≤ 65536
@@ -317,7 +341,7 @@ unfolding track_count corner_count
 track_most {a} {b} {t} u v i =
     let s : Sizes = record { w = dist a.x b.x + 1; h = dist a.y b.y + 1; dx = dist a.x t.x; dy = dist a.y t.y } in
     let m : Measured a b t s = record { width = refl; height = refl; across = refl; down = refl } in
-    let k = bounds m u v i in
+    let k = bounds m (record { corner = u; opposite = v; inside = i }) in
     both_branches (λ n. n ≤ 65536) (eqb (s.dx + s.dy) 0) _ _ (λ _. omega arith)
     (λ _. both_branches (λ n. n ≤ 65536) (eqb s.h 1) _ _ (λ _. omega arith)
     (λ _. both_branches (λ n. n ≤ 65536) (eqb s.w 1) _ _ (λ _. omega arith) (λ _. omega arith)))

@@ -5,7 +5,6 @@ use mathlib.Core.Path.{◌≡◌, refl, sym, ◌∙◌, subst}
 use mathlib.Core.List.{List, ◌++◌}
 use mathlib.Core.Bool.{true, false}
 use native.Mathlib.Omega.{arith}
-use lib.Dec.{eqb}
 use lib.ListN.{length, length-append}
 use Rattle.grid.specs.declared.Cell.{Cell}
 use Rattle.grid.specs.Panel.{dist, Neighbours}
@@ -18,7 +17,7 @@ use Rattle.line.proofs.Frame.{first_inside, inside_part}
 use Rattle.line.proofs.Sweep.{sweep_track, length_sweep}
 use Rattle.corner.specs.declared.Peeled.{Peeled}
 use Rattle.corner.specs.Corner.{track_count}
-use Rattle.corner.specs.Cells.{one_line, peeled, corner_from, corner_cells}
+use Rattle.corner.specs.Cells.{one_line, line_way, peeled, corner_from, corner_cells}
 use Rattle.corner.proofs.Chosen.{Peel}
 use Rattle.corner.proofs.First.{only, peel_right}
 
@@ -27,19 +26,19 @@ abbrev Full : Cell → Cell → Cell → List Cell → Type 0
 Full a b t l = TrackIn (Inside a b) a t l × (length l ≡ track_count a b t)
 
 -- one line
-line_full : (a b t : Cell) → Inside a b t → one_line a b t ≡ true → Full a b t (sweep (eqb a.y t.y) a t)
+line_full : (a b t : Cell) → Inside a b t → one_line a b t ≡ true → Full a b t (sweep (line_way a t) a t)
 line_full a b t i e =
-    let row = eqb a.y t.y in
-    let o = only a b t i refl e in (
+    let row = line_way a t in
+    let o = only a b t i e in (
       subst (λ (z : Cell). TrackIn (Inside a b) a z (sweep row a t)) o.end (widen (λ c k. inside_part (first_inside a b) i k) (sweep_track row a t)),
       length_sweep row a t ∙ sym o.counts,
     )
 
 -- the lines that go first, then what remains
-joined : {a b t : Cell} {r : Peeled} {l : List Cell} → Peel a b t r → Full r.corner r.opposite t l → Full a b t (sweep r.row a r.far ++ l)
+joined : {a b t : Cell} {r : Peeled} {l : List Cell} → Peel a b t r → Full r.corner r.opposite t l → Full a b t (sweep r.along a r.far ++ l)
 joined {a} {b} {t} {r} {l} p (w, s) = (
-  join p.lines p.rest p.apart (sweep_track r.row a r.far) (subst (λ (z : Cell). Neighbours z r.corner) p.end p.beside) w,
-  length-append (sweep r.row a r.far) l ∙ (λ i. (length_sweep r.row a r.far ∙ sym p.size) i + s i) ∙ sym p.counts,
+  join p.lines p.rest p.apart (sweep_track r.along a r.far) (subst (λ (z : Cell). Neighbours z r.corner) p.end p.beside) w,
+  length-append (sweep r.along a r.far) l ∙ (λ i. (length_sweep r.along a r.far ∙ sym p.size) i + s i) ∙ sym p.counts,
 )
 
 -- by the sum of the sides
@@ -62,7 +61,7 @@ module _ (a b t : Cell) (i : Inside a b t) where
 
 -- ---- a turn of the loop that draws them: one line is left, or the lines that the code takes off
 
-pub one_left : (k : ℕ) (a b t : Cell) → 1 ≤ k → one_line a b t ≡ true → corner_from k a b t ≡ sweep (eqb a.y t.y) a t
+pub one_left : (k : ℕ) (a b t : Cell) → 1 ≤ k → one_line a b t ≡ true → corner_from k a b t ≡ sweep (line_way a t) a t
 one_left zero a b t h e = absurd (omega arith)
 one_left (suc k) a b t h e = sym (cond_yes _ _ e refl)
 
@@ -70,8 +69,8 @@ module _ (a b t : Cell) {r : Peeled} (n : one_line a b t ≡ false) (e : r ≡ p
   pub peel_here : Inside a b t → Peel a b t r
   peel_here i = subst (Peel a b t) (sym e) (peel_right a b t i n)
 
-  pub more_left : (k : ℕ) → 1 ≤ k → corner_from k a b t ≡ sweep r.row a r.far ++ corner_from (k - 1) r.corner r.opposite t
+  pub more_left : (k : ℕ) → 1 ≤ k → corner_from k a b t ≡ sweep r.along a r.far ++ corner_from (k - 1) r.corner r.opposite t
   more_left zero h = absurd (omega arith)
   more_left (suc k) h =
       let less : k ≡ suc k - 1 = omega arith in
-      sym (cond_no _ _ n refl) ∙ (λ i. sweep (sym e i).row a (sym e i).far ++ corner_from (less i) (sym e i).corner (sym e i).opposite t)
+      sym (cond_no _ _ n refl) ∙ (λ i. sweep (sym e i).along a (sym e i).far ++ corner_from (less i) (sym e i).corner (sym e i).opposite t)

@@ -1,8 +1,9 @@
 -- What the functions that take lines off a corner track ask for, and the sizes that they measure. No promise of Draw rests on this file.
-use Rattle.std.specs.Prelude.{ℕ, ◌+◌, ◌≤◌, ◌<◌, ◌≡◌, Bool, true, false}
+use Rattle.std.specs.Prelude.{ℕ, ◌+◌, ◌≤◌, ◌<◌, ◌≡◌}
 use Rattle.grid.specs.declared.Cell.{Cell}
 use Rattle.grid.specs.Panel.{dist}
-use Rattle.line.specs.Drawn.{Bytes}
+use Rattle.line.specs.declared.Along.{Along}
+use Rattle.line.specs.Along.{seen}
 use Rattle.corner.specs.declared.Sizes.{Sizes}
 
 -- the sizes of the rectangle of a and b, and how far t is from a
@@ -12,6 +13,10 @@ pub record Measured (a b t : Cell) (s : Sizes) : Type 0 where
   pub across : s.dx ≡ dist a.x t.x
   pub down : s.dy ≡ dist a.y t.y
 
+-- columns and rows exchanged
+abbrev pub turned_sizes : Sizes → Sizes
+turned_sizes s = record { w = s.h; h = s.w; dx = s.dy; dy = s.dx }
+
 -- two columns and two rows or more, and a target that is not the corner
 pub record Open (w h dx dy : ℕ) : Type 0 where
   pub wide : 2 ≤ w
@@ -20,13 +25,7 @@ pub record Open (w h dx dy : ℕ) : Type 0 where
   pub down : dy < h
   pub away : 1 ≤ dx + dy
 
--- the first k of the lines q to q', each from p to p'
-pub record Sides (p q p' q' k : ℕ) : Type 0 where
-  pub bytes : Bytes p q p' q'
-  pub some : 1 ≤ k
-  pub most : k ≤ dist q q'
-
 -- the first k rows, or else columns, of the rectangle of a and b from the corner a
-abbrev pub FirstSides : Bool → Cell → Cell → ℕ → Type 0
-FirstSides true a b k = Sides a.x a.y b.x b.y k
-FirstSides false a b k = Sides a.y a.x b.y b.x k
+pub record FirstLines (way : Along) (a b : Cell) (k : ℕ) : Type 0 where
+  pub some : 1 ≤ k
+  pub most : k ≤ dist (seen way a).y (seen way b).y

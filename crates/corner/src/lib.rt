@@ -6,14 +6,15 @@ ghost use Rattle.std.specs.Prelude.{◌≡◌, false, ◌≤◌, reverse};
 ghost use Rattle.grid.specs.Panel.{dist};
 ghost use Rattle.line.specs.Rectangle.{ahead, turning};
 ghost use Rattle.corner.specs.Corner.{Inside, track_count};
-ghost use Rattle.corner.specs.Cells.{one_line, chosen, place, lines_off, first_lines, peeled, corner_cells};
-ghost use Rattle.corner.specs.Peel.{Measured, Open, Sides, FirstSides};
-ghost use Rattle.corner.specs.Drawn.{InBytes, Ready, written};
+ghost use Rattle.corner.specs.Cells.{one_line, line_way, chosen, place, first_lines, peeled, corner_cells};
+ghost use Rattle.corner.specs.Peel.{Measured, turned_sizes, Open, FirstLines};
+ghost use Rattle.corner.specs.Drawn.{InBytes, Fits, Ready, written};
 
-use grid::{Cell, Cells, distance, same_cell};
-use line::draw_sweep;
+use grid::{Cell, Cells, distance};
+use line::{Along, draw_sweep};
 
 // k steps from p towards q.
+#[tactic(auto, using(line::proofs::Between::dist_up, line::proofs::Between::dist_down), unfolding(line::specs::Rectangle::ahead))]
 fn move_ahead(p: u32, q: u32, k: u32) -> u32
     requires { (p ≤ 255) × (k ≤ dist p q) }
     ensures { result ≡ ahead p q k }
@@ -22,24 +23,49 @@ fn move_ahead(p: u32, q: u32, k: u32) -> u32
 }
 
 // Where k lines there and back between p and q end that begin at p.
+#[tactic(auto, unfolding(line::specs::Rectangle::turning))]
 fn turn(k: u32, p: u32, q: u32) -> u32
     ensures { result ≡ turning k p q }
 {
     if k % 2 == 0 { p } else { q }
 }
 
-// Whether the track from a to t in the rectangle of a and b is one line.
-fn one_line(a: Cell, b: Cell, t: Cell) -> bool
-    ensures { result ≡ one_line a b t }
+// The p-th cell of the q-th row, or else of the q-th column.
+fn place(along: Along, p: u32, q: u32) -> Cell
+    ensures { result ≡ place along p q }
 {
-    if a.x == b.x {
-        return true;
-    }
-    if a.y == b.y {
-        return true;
-    }
-    same_cell(a, t)
+    along.seen(Cell { x: p, y: q })
 }
+
+// A track's first lines taken off: rows or columns of the rectangle of the corner and `far`, `cells` cells,
+// which end in `end`; backwards those of the rectangle of `end` and `home`; and the rectangle that remains.
+#[derive(Clone, Copy)]
+struct Peeled {
+    along: Along,
+    far: Cell,
+    end: Cell,
+    home: Cell,
+    cells: Cells,
+    corner: Cell,
+    opposite: Cell,
+}
+
+// The lines that go first: rows, or else columns, and how many.
+#[derive(Clone, Copy)]
+struct Lines {
+    along: Along,
+    count: u32,
+}
+
+const ONE_ROW: Lines = Lines {
+    along: Along::Rows,
+    count: 1,
+};
+
+const ONE_COLUMN: Lines = Lines {
+    along: Along::Columns,
+    count: 1,
+};
 
 // A rectangle of w columns and h rows, and a target dx columns and dy rows from its corner.
 #[derive(Clone, Copy)]
@@ -50,16 +76,159 @@ struct Sizes {
     dy: u32,
 }
 
-fn measure(a: Cell, b: Cell, t: Cell) -> Sizes
-    requires fact_1 { InBytes a }
-    requires fact_2 { InBytes b }
-    ensures { Measured a b t result }
-{
-    Sizes {
-        w: distance(a.x, b.x) + 1,
-        h: distance(a.y, b.y) + 1,
-        dx: distance(a.x, t.x),
-        dy: distance(a.y, t.y),
+impl Sizes {
+    fn turned(self) -> Sizes
+        ensures { result ≡ turned_sizes self }
+    {
+        Sizes {
+            w: self.h,
+            h: self.w,
+            dx: self.dy,
+            dy: self.dx,
+        }
+    }
+
+    // All rows up to the one before the target's, or, in two rows, all columns up to the one before the
+    // target's; else one line.
+    #[tactic(auto, unfolding(crate::specs::Cells::chosen))]
+    fn choose(self) -> Lines
+        requires { Open self.w self.h self.dx self.dy }
+        ensures { result ≡ chosen self.w self.h self.dx self.dy }
+    {
+        if 1 < self.dy {
+            return Lines {
+                along: Along::Rows,
+                count: self.dy - 1,
+            };
+        }
+        if self.dy == 0 {
+            return ONE_COLUMN;
+        }
+        if self.h == 2 {
+            if 1 < self.dx {
+                return Lines {
+                    along: Along::Columns,
+                    count: self.dx - 1,
+                };
+            }
+            return ONE_ROW;
+        }
+        if self.dx == self.w - 1 {
+            return ONE_COLUMN;
+        }
+        ONE_ROW
+    }
+}
+
+// A rectangle, by a corner and the opposite one, and a target in it.
+#[derive(Clone, Copy)]
+struct Rectangle {
+    corner: Cell,
+    opposite: Cell,
+    target: Cell,
+    ghost fits: { Fits corner opposite target },
+}
+
+impl Rectangle {
+    // Whether the track from the corner to the target is one line.
+    fn is_one_line(self) -> bool
+        ensures { result ≡ one_line self.corner self.opposite self.target }
+    {
+        self.corner.x == self.opposite.x
+            || self.corner.y == self.opposite.y
+            || self.corner == self.target
+    }
+
+    // Whether that line is a row or a column.
+    fn line_way(self) -> Along
+        ensures { result ≡ line_way self.corner self.target }
+    {
+        if self.corner.y == self.target.y {
+            Along::Rows
+        } else {
+            Along::Columns
+        }
+    }
+
+    #[tactic(auto, using(line::proofs::Between::dist_small))]
+    fn measure(self) -> Sizes
+        ensures { Measured self.corner self.opposite self.target result }
+    {
+        Sizes {
+            w: distance(self.corner.x, self.opposite.x) + 1,
+            h: distance(self.corner.y, self.opposite.y) + 1,
+            dx: distance(self.corner.x, self.target.x),
+            dy: distance(self.corner.y, self.target.y),
+        }
+    }
+
+    // The number of cells of the track from the corner to the target.
+    fn count(self) -> Cells
+        ensures { result.0 ≡ track_count self.corner self.opposite self.target }
+    {
+        let s = self.measure();
+        if s.dx + s.dy == 0 {
+            return Cells(1);
+        }
+        if s.h == 1 {
+            return Cells(s.dx + 1);
+        }
+        if s.w == 1 {
+            return Cells(s.dy + 1);
+        }
+        let all = s.w * s.h;
+        Cells(all - 1 + (all + (s.dx + s.dy)) % 2)
+    }
+
+    // The first k rows, or else columns, from the corner.
+    fn first_lines(self, along: Along, k: u32) -> Peeled
+        requires { FirstLines along self.corner self.opposite k }
+        ensures { result ≡ first_lines along self.corner self.opposite k }
+    {
+        let from = along.seen(self.corner);
+        let to = along.seen(self.opposite);
+        let end = turn(k, from.x, to.x);
+        let other = turn(k, to.x, from.x);
+        let last = move_ahead(from.y, to.y, k - 1);
+        let next = move_ahead(from.y, to.y, k);
+        Peeled {
+            along,
+            far: place(along, to.x, last),
+            end: place(along, end, last),
+            home: place(along, other, from.y),
+            cells: Cells((distance(from.x, to.x) + 1) * k),
+            corner: place(along, end, next),
+            opposite: place(along, other, to.y),
+        }
+    }
+
+    // The choice is made along the longer side, since few long lines are faster than many short ones.
+    fn peel(self) -> Peeled
+        requires { one_line self.corner self.opposite self.target ≡ false }
+        ensures lines { result ≡ peeled self.corner self.opposite self.target }
+        ensures rest { Fits result.corner result.opposite self.target }
+    {
+        let s = self.measure();
+        if s.h <= s.w {
+            let wide = s.choose();
+            return self.first_lines(wide.along, wide.count);
+        }
+        let tall = s.turned().choose();
+        self.first_lines(tall.along.other(), tall.count)
+    }
+
+    // The rectangle that remains behind lines that were taken off.
+    fn behind(self, p: Peeled) -> Rectangle
+        requires { Fits p.corner p.opposite self.target }
+        ensures corner { result.corner ≡ p.corner }
+        ensures opposite { result.opposite ≡ p.opposite }
+        ensures target { result.target ≡ self.target }
+    {
+        Rectangle {
+            corner: p.corner,
+            opposite: p.opposite,
+            target: self.target,
+        }
     }
 }
 
@@ -70,138 +239,12 @@ pub fn corner_count(a: Cell, b: Cell, t: Cell) -> Cells
     requires fact_3 { Inside a b t }
     ensures { result.0 ≡ track_count a b t }
 {
-    let s = measure(a, b, t);
-    if s.dx + s.dy == 0 {
-        return Cells(1);
-    }
-    if s.h == 1 {
-        return Cells(s.dx + 1);
-    }
-    if s.w == 1 {
-        return Cells(s.dy + 1);
-    }
-    let all = s.w * s.h;
-    Cells(all - 1 + (all + (s.dx + s.dy)) % 2)
-}
-
-// A track's first lines taken off: rows or columns of the rectangle of the corner and `far`, `cells` cells,
-// which end in `end`; backwards those of the rectangle of `end` and `home`; and the rectangle that remains.
-#[derive(Clone, Copy)]
-struct Peeled {
-    row: bool,
-    far: Cell,
-    end: Cell,
-    home: Cell,
-    cells: Cells,
-    corner: Cell,
-    opposite: Cell,
-}
-
-// The p-th cell of the q-th row, or else of the q-th column.
-fn place(row: bool, p: u32, q: u32) -> Cell
-    ensures { result ≡ place row p q }
-{
-    if row {
-        Cell { x: p, y: q }
-    } else {
-        Cell { x: q, y: p }
-    }
-}
-
-// The first k of the lines q to q2, each from p to p2.
-fn lines_off(row: bool, p: u32, q: u32, p2: u32, q2: u32, k: u32) -> Peeled
-    requires { Sides p q p2 q2 k }
-    ensures { result ≡ lines_off row p q p2 q2 k }
-{
-    let end = turn(k, p, p2);
-    let other = turn(k, p2, p);
-    let last = move_ahead(q, q2, k - 1);
-    let next = move_ahead(q, q2, k);
-    Peeled {
-        row,
-        far: place(row, p2, last),
-        end: place(row, end, last),
-        home: place(row, other, q),
-        cells: Cells((distance(p, p2) + 1) * k),
-        corner: place(row, end, next),
-        opposite: place(row, other, q2),
-    }
-}
-
-// The first k rows, or else columns, of the rectangle of a and b from the corner a.
-fn first_lines(row: bool, a: Cell, b: Cell, k: u32) -> Peeled
-    requires { FirstSides row a b k }
-    ensures { result ≡ first_lines row a b k }
-{
-    if row {
-        lines_off(true, a.x, a.y, b.x, b.y, k)
-    } else {
-        lines_off(false, a.y, a.x, b.y, b.x, k)
-    }
-}
-
-// The lines that go first, of w columns and h rows: rows, or else columns, and how many.
-#[derive(Clone, Copy)]
-struct Lines {
-    row: bool,
-    count: u32,
-}
-
-const ONE_ROW: Lines = Lines {
-    row: true,
-    count: 1,
-};
-
-const ONE_COLUMN: Lines = Lines {
-    row: false,
-    count: 1,
-};
-
-// All rows up to the one before the target's, or, in two rows, all columns up to the one before the
-// target's; else one line.
-fn choose(w: u32, h: u32, dx: u32, dy: u32) -> Lines
-    requires { Open w h dx dy }
-    ensures { result ≡ chosen w h dx dy }
-{
-    if 1 < dy {
-        return Lines {
-            row: true,
-            count: dy - 1,
-        };
-    }
-    if dy == 0 {
-        return ONE_COLUMN;
-    }
-    if h == 2 {
-        if 1 < dx {
-            return Lines {
-                row: false,
-                count: dx - 1,
-            };
-        }
-        return ONE_ROW;
-    }
-    if dx == w - 1 {
-        return ONE_COLUMN;
-    }
-    ONE_ROW
-}
-
-// The choice is made along the longer side, since few long lines are faster than many short ones.
-fn peel(a: Cell, b: Cell, t: Cell) -> Peeled
-    requires fact_1 { InBytes a }
-    requires fact_2 { InBytes b }
-    requires fact_3 { Inside a b t }
-    requires fact_4 { one_line a b t ≡ false }
-    ensures { result ≡ peeled a b t }
-{
-    let s = measure(a, b, t);
-    if s.h <= s.w {
-        let wide = choose(s.w, s.h, s.dx, s.dy);
-        return first_lines(wide.row, a, b, wide.count);
-    }
-    let tall = choose(s.h, s.w, s.dy, s.dx);
-    first_lines(!tall.row, a, b, tall.count)
+    let whole = Rectangle {
+        corner: a,
+        opposite: b,
+        target: t,
+    };
+    whole.count()
 }
 
 // Writes the track from the corner a to t in the rectangle of a and b at the front of the buffer: the
@@ -210,38 +253,44 @@ pub fn corner_track(a: Cell, b: Cell, t: Cell, buf: &mut [u8]) -> Cells
     requires { Ready a b t buf.old }
     ensures { (result.0 ≡ track_count a b t) × (buf.new ≡ written (corner_cells a b t) (track_count a b t) buf.old) }
 {
-    let count = corner_count(a, b, t);
-    let mut corner = a;
-    let mut opposite = b;
-    let mut at: usize = 0;
-    while !one_line(corner, opposite, t) {
-        let p = peel(corner, opposite, t);
-        draw_sweep(p.row, corner, p.far, &mut buf[at..]);
-        at = at + 2 * (p.cells.0 as usize);
-        corner = p.corner;
-        opposite = p.opposite;
+    let mut rest = Rectangle {
+        corner: a,
+        opposite: b,
+        target: t,
+    };
+    let count = rest.count();
+    let mut at = 0;
+    while !rest.is_one_line() {
+        let p = rest.peel();
+        draw_sweep(p.along, rest.corner, p.far, &mut buf[at..]);
+        at += 2 * (p.cells.0 as usize);
+        rest = rest.behind(p);
     }
-    draw_sweep(corner.y == t.y, corner, t, &mut buf[at..]);
+    draw_sweep(rest.line_way(), rest.corner, rest.target, &mut buf[at..]);
     count
 }
 
 // The same track from t to a, written in that order: its size is known first, and the next lines go
 // before the lines drawn so far.
+// One walk for both would ask at each of its statements which way it goes: the place moves before a line is
+// drawn or behind it, and the line begins at either of its ends.
 pub fn corner_track_back(a: Cell, b: Cell, t: Cell, buf: &mut [u8]) -> Cells
     requires { Ready a b t buf.old }
     ensures { (result.0 ≡ track_count a b t) × (buf.new ≡ written (reverse (corner_cells a b t)) (track_count a b t) buf.old) }
 {
-    let count = corner_count(a, b, t);
-    let mut corner = a;
-    let mut opposite = b;
-    let mut at: usize = 2 * (count.0 as usize);
-    while !one_line(corner, opposite, t) {
-        let p = peel(corner, opposite, t);
-        at = at - 2 * (p.cells.0 as usize);
-        draw_sweep(p.row, p.end, p.home, &mut buf[at..]);
-        corner = p.corner;
-        opposite = p.opposite;
+    let mut rest = Rectangle {
+        corner: a,
+        opposite: b,
+        target: t,
+    };
+    let count = rest.count();
+    let mut at = 2 * (count.0 as usize);
+    while !rest.is_one_line() {
+        let p = rest.peel();
+        at -= 2 * (p.cells.0 as usize);
+        draw_sweep(p.along, p.end, p.home, &mut buf[at..]);
+        rest = rest.behind(p);
     }
-    draw_sweep(corner.y == t.y, t, corner, buf);
+    draw_sweep(rest.line_way(), rest.target, rest.corner, buf);
     count
 }

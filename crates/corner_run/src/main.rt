@@ -7,11 +7,15 @@ ghost use Rattle.std.specs.Prelude.{◌≤◌};
 ghost use Rattle.corner.specs.Corner.{Inside};
 ghost use Rattle.corner.specs.Drawn.{InBytes};
 
-use grid::{Cell, panel_of};
+use corner::{corner_count, corner_track, corner_track_back};
+use grid::{Cell, Order, panel_of};
 use std::io;
 use trial::PITCH;
-use trial::cells::{Order, filled, is_track};
+use trial::cells::{filled, is_track};
 use trial::print::{named, text};
+
+// What the buffers are filled with.
+const FILL: u8 = 7;
 
 #[derive(Clone, Copy)]
 struct Tally {
@@ -20,99 +24,85 @@ struct Tally {
     wrong: u32,
 }
 
-// Whether the buffer begins with k cells from s to t, a track in the rectangle up to column `right` and
-// row `bottom`, and the bytes behind them are as they were.
-fn good(buf: &[u8], k: u32, s: Cell, t: Cell, right: u32, bottom: u32) -> bool {
-    let o = Order {
-        panel: panel_of(right, bottom, PITCH),
-        entry: s,
-        exit: t,
-    };
-    if is_track(buf, o, Cell { x: 2, y: 3 }, k) {
-        return filled(buf, 2 * (k as usize), 7);
-    }
-    false
-}
-
-fn counted(sum: Tally, k: u32, fine: bool) -> Tally {
-    Tally {
-        tracks: std::num::wrapping_add_u32(sum.tracks, 1),
-        cells: std::num::wrapping_add_u32(sum.cells, k),
-        wrong: std::num::wrapping_add_u32(sum.wrong, if fine { 0 } else { 1 }),
+impl Tally {
+    fn count(&mut self, cells: u32, fine: bool) {
+        self.tracks = self.tracks.wrapping_add(1);
+        self.cells = self.cells.wrapping_add(cells);
+        self.wrong = self.wrong.wrapping_add(u32::from(!fine));
     }
 }
 
-// One corner a, opposite corner b and target t: the track there and back.
-fn both_ways(a: Cell, b: Cell, t: Cell, right: u32, bottom: u32, sum: Tally) -> Tally
-    requires { (InBytes a) × ((InBytes b) × (Inside a b t)) }
-{
-    let k = corner::corner_count(a, b, t).0;
-    if 64 < k {
-        return counted(sum, 0, false);
-    }
-    let mut there = [7u8; 128];
-    let mut back = [7u8; 128];
-    corner::corner_track(a, b, t, &mut there);
-    corner::corner_track_back(a, b, t, &mut back);
-    let next = counted(sum, k, good(&there, k, a, t, right, bottom));
-    counted(next, k, good(&back, k, t, a, right, bottom))
+// A rectangle from column 2 and row 3 to column `right` and row `bottom`.
+#[derive(Clone, Copy)]
+struct Rectangle {
+    right: u32,
+    bottom: u32,
+    ghost narrow: { right ≤ 8 },
+    ghost low: { bottom ≤ 9 },
 }
 
-// Every corner of the rectangle up to column `right` and row `bottom`, to the cell (x, y) of it.
-fn corners(x: u32, y: u32, right: u32, bottom: u32, sum: Tally) -> Tally
-    requires { (2 ≤ x) × ((x ≤ right) × ((right ≤ 8) × ((3 ≤ y) × ((y ≤ bottom) × (bottom ≤ 9))))) }
-{
-    let t = Cell { x, y };
-    let nw = Cell { x: 2, y: 3 };
-    let ne = Cell { x: right, y: 3 };
-    let sw = Cell { x: 2, y: bottom };
-    let se = Cell {
-        x: right,
-        y: bottom,
-    };
-    let s1 = both_ways(nw, se, t, right, bottom, sum);
-    let s2 = both_ways(ne, sw, t, right, bottom, s1);
-    let s3 = both_ways(sw, ne, t, right, bottom, s2);
-    both_ways(se, nw, t, right, bottom, s3)
-}
-
-// Every cell of a row of the rectangle.
-fn along(y: u32, right: u32, bottom: u32, first: Tally) -> Tally
-    requires { (right ≤ 8) × ((3 ≤ y) × ((y ≤ bottom) × (bottom ≤ 9))) }
-{
-    let mut sum = first;
-    let mut x = 2;
-    while x <= right {
-        sum = corners(x, y, right, bottom, sum);
-        x += 1;
+impl Rectangle {
+    // Whether the buffer begins with k cells from s to t, a track in the rectangle, and the bytes behind
+    // them are as they were.
+    fn is_good(self, buf: &[u8], k: u32, s: Cell, t: Cell) -> bool {
+        let o = Order {
+            panel: panel_of(self.right, self.bottom, PITCH),
+            entry: s,
+            exit: t,
+        };
+        is_track(buf, o, Cell { x: 2, y: 3 }, k) && filled(buf, 2 * (k as usize), FILL)
     }
-    sum
-}
 
-// Every row of it.
-fn rectangle(right: u32, bottom: u32, first: Tally) -> Tally
-    requires { (right ≤ 8) × (bottom ≤ 9) }
-{
-    let mut sum = first;
-    let mut y = 3;
-    while y <= bottom {
-        sum = along(y, right, bottom, sum);
-        y += 1;
+    // One corner a, opposite corner b and target t: the track there and back.
+    fn draw(self, a: Cell, b: Cell, t: Cell, sum: &mut Tally)
+        requires { InBytes a × InBytes b × Inside a b t }
+    {
+        let k = corner_count(a, b, t).0;
+        if 64 < k {
+            sum.count(0, false);
+            return;
+        }
+        let mut there = [FILL; 128];
+        corner_track(a, b, t, &mut there);
+        sum.count(k, self.is_good(&there, k, a, t));
+        let mut back = [FILL; 128];
+        corner_track_back(a, b, t, &mut back);
+        sum.count(k, self.is_good(&back, k, t, a));
     }
-    sum
-}
 
-// Every rectangle with a given last row.
-fn widths(bottom: u32, first: Tally) -> Tally
-    requires { bottom ≤ 9 }
-{
-    let mut sum = first;
-    let mut right = 2;
-    while right <= 8 {
-        sum = rectangle(right, bottom, sum);
-        right += 1;
+    // Every corner, to the cell (x, y).
+    fn draw_corners(self, x: u32, y: u32, sum: &mut Tally)
+        requires across { (2 ≤ x) × (x ≤ self.right) }
+        requires down { (3 ≤ y) × (y ≤ self.bottom) }
+    {
+        let t = Cell { x, y };
+        let nw = Cell { x: 2, y: 3 };
+        let ne = Cell {
+            x: self.right,
+            y: 3,
+        };
+        let sw = Cell {
+            x: 2,
+            y: self.bottom,
+        };
+        let se = Cell {
+            x: self.right,
+            y: self.bottom,
+        };
+        self.draw(nw, se, t, sum);
+        self.draw(ne, sw, t, sum);
+        self.draw(sw, ne, t, sum);
+        self.draw(se, nw, t, sum);
     }
-    sum
+
+    // Every corner, to every cell.
+    fn draw_all(self, sum: &mut Tally) {
+        for y in 3..=self.bottom {
+            for x in 2..=self.right {
+                self.draw_corners(x, y, sum);
+            }
+        }
+    }
 }
 
 // Every rectangle.
@@ -122,10 +112,10 @@ fn every() -> Tally {
         cells: 0,
         wrong: 0,
     };
-    let mut bottom = 3;
-    while bottom <= 9 {
-        sum = widths(bottom, sum);
-        bottom += 1;
+    for bottom in 3..=9 {
+        for right in 2..=8 {
+            Rectangle { right, bottom }.draw_all(&mut sum);
+        }
     }
     sum
 }

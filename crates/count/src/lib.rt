@@ -4,7 +4,7 @@
 use grid::Cells;
 
 // The class of two terminals on a panel, and how many cells a longest track between them has.
-#[derive(Clone, Copy)]
+#[derive(Clone, Copy, Debug, PartialEq, Eq)]
 pub struct ClassCount {
     pub class: u32,
     pub count: Cells,

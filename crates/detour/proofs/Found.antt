@@ -3,7 +3,7 @@ use Prim.Native.Nat.{ℕ, ◌+◌, ◌-◌, ◌≤◌, ◌<◌}
 use native.Mathlib.Omega.{arith}
 use mathlib.Core.Path.{◌≡◌, refl, sym, ap, ◌∙◌}
 use mathlib.Core.Logic.{◌≢◌}
-use mathlib.Core.Bool.{Bool, true, false, ◌||◌, or-true, true≢false}
+use mathlib.Core.Bool.{Bool, true, false, cond, ◌||◌, or-true, true≢false}
 use mathlib.Core.List.{List}
 use lib.ListN.{length, take}
 use lib.Seq.{length-take-le, get_or-take}
@@ -16,6 +16,7 @@ use Rattle.grid.proofs.Tests.{or_yes}
 use Rattle.list.specs.List.{nth, among, none_twice}
 use Rattle.list.proofs.Tracks.{is_once}
 use Rattle.list.proofs.Indexed.{new_index, among_index}
+use Rattle.detour.specs.declared.Side.TheVariants.{Left, Right}
 use Rattle.detour.specs.Detour.{cell_no, is_detour, press_at, can_edit}
 use Rattle.detour.proofs.Cut.{halves}
 use Rattle.detour.proofs.Square.{AroundStep}
@@ -29,23 +30,23 @@ differ l i j e h m q =
     true≢false (sym (among_index (take j l) i short) ∙ ap (λ (c : Cell). among c (take j l)) (get_or-take j l i (cell 0 0) h ∙ q) ∙ new_index l j e m)
 
 -- a press is made on the side where the detour is, if on any
-pub press_sides : (p : Panel) (k : ℕ) (l : List Cell) → can_edit p (press_at k l) l ≡ (is_detour true k l || is_detour false k l)
-press_sides p k l = by (is_detour true k l) refl
+pub press_sides : (p : Panel) (k : ℕ) (l : List Cell) → can_edit p (press_at k l) l ≡ (is_detour Left k l || is_detour Right k l)
+press_sides p k l = by (is_detour Left k l) refl
   where
-    by : (b : Bool) → is_detour true k l ≡ b → is_detour b k l ≡ (b || is_detour false k l)
+    by : (b : Bool) → is_detour Left k l ≡ b → is_detour (cond b Left Right) k l ≡ (b || is_detour Right k l)
     by true e = e
     by false e = refl
 
 module _ (p : Panel) (s t : Cell) (k : ℕ) (l : List Cell) (r : Track p s t l) (low : 1 ≤ k) (high : k + 3 ≤ length l) where
   -- the test passes for the side that the two cells are on
   detour_there : Neighbours (cell_no l k) (cell_no l (k + 3))
-      → OnSide (cell_no l k) (cell_no l (k + 1)) (cell_no l (k + 2)) (cell_no l (k + 3)) → (is_detour true k l || is_detour false k l) ≡ true
+      → OnSide (cell_no l k) (cell_no l (k + 1)) (cell_no l (k + 2)) (cell_no l (k + 3)) → (is_detour Left k l || is_detour Right k l) ≡ true
   detour_there n (OnSide.on_left c d) =
-      let f : IsDetour true k l = record { low = low; high = high; step = n; first = c; second = d } in
-      sym (or_yes (is_detour false k l) (is_press f))
+      let f : IsDetour Left k l = record { low = low; high = high; step = n; first = c; second = d } in
+      sym (or_yes (is_detour Right k l) (is_press f))
   detour_there n (OnSide.on_right c d) =
-      let f : IsDetour false k l = record { low = low; high = high; step = n; first = c; second = d } in
-      (λ i. is_detour true k l || is_press f i) ∙ or-true (is_detour true k l)
+      let f : IsDetour Right k l = record { low = low; high = high; step = n; first = c; second = d } in
+      (λ i. is_detour Left k l || is_press f i) ∙ or-true (is_detour Left k l)
 
   pub press_found : neighbours (cell_no l k) (cell_no l (k + 3)) ≡ true → can_edit p (press_at k l) l ≡ true
   press_found e =

@@ -3,11 +3,12 @@ use Prim.Native.Nat.{ℕ, ◌+◌, ◌-◌, ◌≤◌}
 use native.Mathlib.Omega.{arith}
 use mathlib.Core.Path.{◌≡◌, sym, subst}
 use mathlib.Core.Logic.{◌≢◌}
-use mathlib.Core.Bool.{Bool, true, false}
 use Rattle.grid.specs.declared.Panel.{Panel}
 use Rattle.grid.specs.declared.Cell.{Cell}
 use Rattle.grid.specs.Panel.{dist, apart, OnPanel, Neighbours}
 use Rattle.grid.proofs.Facts.{beside_is, beside_sym, dist_sym}
+use Rattle.detour.specs.declared.Side.{Side}
+use Rattle.detour.specs.declared.Side.TheVariants.{Left, Right}
 use Rattle.detour.specs.Detour.{left_of, cell_beside}
 
 -- neighbours are two cells
@@ -64,7 +65,7 @@ reversed w = record { out = beside_sym w.back; along = beside_sym w.along; back 
 around_left : {p : Panel} {a b : Cell} → Neighbours a b → OnPanel p a → OnPanel p b → AroundStep a (left_of a b a) (left_of a b b) b
 around_left n o q = record { out = left_next n o; along = left_along n o q; back = beside_sym (left_next n q) }
 
-pub around_step : {p : Panel} {a b : Cell} (left : Bool) → Neighbours a b → OnPanel p a → OnPanel p b
-    → AroundStep a (cell_beside left a b a) (cell_beside left a b b) b
-around_step true n o q = around_left n o q
-around_step false n o q = reversed (around_left (beside_sym n) q o)
+pub around_step : {p : Panel} {a b : Cell} (side : Side) → Neighbours a b → OnPanel p a → OnPanel p b
+    → AroundStep a (cell_beside side a b a) (cell_beside side a b b) b
+around_step Left n o q = around_left n o q
+around_step Right n o q = reversed (around_left (beside_sym n) q o)

@@ -2,30 +2,33 @@
 use Prim.Native.Nat.{ℕ, ◌+◌}
 use native.Mathlib.Omega.{arith}
 use mathlib.Core.Path.{◌≡◌, refl, sym, subst₂, ◌∙◌}
-use mathlib.Core.Bool.{Bool, true, not}
+use mathlib.Core.Bool.{true}
 use mathlib.Core.List.{List}
 use Rattle.grid.specs.declared.Panel.{Panel}
 use Rattle.grid.specs.declared.Cell.{Cell}
 use Rattle.grid.specs.Panel.{Neighbours}
 use Rattle.grid.specs.Track.{Track}
+use Rattle.detour.specs.declared.Kind.{Kind}
+use Rattle.detour.specs.declared.Kind.TheVariants.{Bulge, Press}
+use Rattle.detour.specs.declared.Side.{Side}
 use Rattle.detour.specs.declared.Edit.{Edit}
-use Rattle.detour.specs.Detour.{cell_beside, bulged, edited, can_edit, opposite}
+use Rattle.detour.specs.Detour.{cell_beside, bulged, edited, can_edit, opposite, of_kind}
 use Rattle.detour.proofs.Cut.{halves}
 use Rattle.detour.proofs.Facts.{CanBulge, is_bulge, IsDetour, is_press, by_kind}
 use Rattle.detour.proofs.Lists.{bulged_length, bulged_a, bulged_a', bulged_b', bulged_b, pressed_bulged, bulged_pressed}
 use Rattle.detour.proofs.Kept.{press_frees}
 
 -- the detour that a bulge puts in can be pressed
-bulge_shows : {p : Panel} {s t : Cell} {left : Bool} {k : ℕ} {l : List Cell} → Track p s t l → CanBulge p left k l → IsDetour left k (bulged left k l)
-bulge_shows {left = left} {k = k} r c =
+bulge_shows : {p : Panel} {s t : Cell} {side : Side} {k : ℕ} {l : List Cell} → Track p s t l → CanBulge p side k l → IsDetour side k (bulged side k l)
+bulge_shows {side = side} {k = k} r c =
     let a = sym (bulged_a c) in
     let b = sym (bulged_b c) in
     record {
       low = c.low;
       high = omega (arith, bulged_length c);
       step = subst₂ Neighbours a b (halves r.walk k (k + 1) c.low refl c.high).step;
-      first = bulged_a' c ∙ (λ i. cell_beside left (a i) (b i) (a i));
-      second = bulged_b' c ∙ (λ i. cell_beside left (a i) (b i) (b i));
+      first = bulged_a' c ∙ (λ i. cell_beside side (a i) (b i) (a i));
+      second = bulged_b' c ∙ (λ i. cell_beside side (a i) (b i) (b i));
     }
 
 pub undone : (p : Panel) (s t : Cell) (e : Edit) (l : List Cell) → Track p s t l → can_edit p e l ≡ true
@@ -36,5 +39,5 @@ undone p s t e l r can =
     (λ c. (is_bulge (press_frees r c).0, bulged_pressed c)) can
   where
     -- of a bulge the press, of a press the bulge
-    back : Bool → Edit
-    back b = record { place = e.place; bulge = not b; left = e.left }
+    back : Kind → Edit
+    back b = record { place = e.place; kind = of_kind b Press Bulge; side = e.side }

@@ -1,23 +1,21 @@
 -- What Draw answers and leaves, from what its tests showed and what was drawn.
-use Prim.Native.Nat.{ℕ, ◌*◌, ◌≤◌, ◌<◌}
+use Rattle.std.specs.Prelude.{Result, Ok}
+use Prim.Native.Nat.{ℕ, ◌*◌, ◌≤◌}
 use mathlib.Core.Path.{◌≡◌, refl, sym, ap, ◌∙◌, subst}
 use mathlib.Core.Logic.{◌≢◌}
 use mathlib.Core.List.{List, [], ◌∷◌}
 use native.Mathlib.Omega.{arith}
 use lib.ListN.{length, set}
-use borrow.Author.Tests.{le-leb, lt-leb}
+use borrow.Author.Tests.{le-leb}
 use Rattle.grid.specs.declared.Panel.{Panel}
 use Rattle.grid.specs.declared.Cell.{Cell}
 use Rattle.grid.specs.declared.Cells.{Cells}
 use Rattle.grid.specs.declared.Refusal.{Refusal}
-use Rattle.grid.specs.declared.Refusal.TheVariants.{ShortBuffer}
-use Rattle.grid.specs.declared.Check.TheVariants.{Good, Refused}
-use Rattle.grid.specs.declared.CellsAnswer.{CellsAnswer}
 use Rattle.grid.specs.Panel.{OnPanel}
 use Rattle.grid.specs.Bytes.{front}
 use Rattle.grid.specs.Check.{check_order}
 use Rattle.grid.proofs.Facts.{eq_same, ne_same}
-use Rattle.grid.proofs.Tests.{cond_yes, cond_no, expect_yes, expect_no, after_good, after_refused, answer_good, answer_refused}
+use Rattle.grid.proofs.Tests.{cond_yes, cond_no, expect_yes, after_good, answer_good}
 use Rattle.grid.proofs.Answers.{gives_cells}
 use Rattle.grid.proofs.Track.{one_cell}
 use Rattle.list.specs.List.{with_cells}
@@ -36,13 +34,7 @@ use Rattle.draw.proofs.Track.{drawn_track_lem, length_drawn}
 -- ---- the check
 
 module _ (p : Panel) (s t : Cell) (size : ℕ) where
-  order_refused : {r : Refusal} → check_order p s t ≡ Refused r → draw_check p s t size ≡ Refused r
-  order_refused e = sym (after_refused _ e)
-
-  pub too_short : {k : ℕ} → check_order p s t ≡ Good → k ≡ order_count p s t → size < 2 * k → draw_check p s t size ≡ Refused ShortBuffer
-  too_short e q h = sym (after_good _ e (expect_no _ _ (lt-leb (2 * order_count p s t) size (omega arith))))
-
-  pub enough : {k : ℕ} → check_order p s t ≡ Good → k ≡ order_count p s t → 2 * k ≤ size → draw_check p s t size ≡ Good
+  pub enough : {k : ℕ} → check_order p s t ≡ Ok tt → k ≡ order_count p s t → 2 * k ≤ size → draw_check p s t size ≡ Ok tt
   enough e q h = sym (after_good _ e (expect_yes _ _ (le-leb (2 * order_count p s t) size (omega arith)) refl))
 
 -- ---- what was drawn
@@ -77,20 +69,14 @@ at_front {p} {s} {t} {k} {old} {new} q os ot w =
 
 -- ---- both promises of the call
 
-abbrev Promised : Panel → Cell → Cell → List ℕ → List ℕ → CellsAnswer → Type 0
+abbrev Promised : Panel → Cell → Cell → List ℕ → List ℕ → Result Cells Refusal → Type 0
 Promised p s t old new r = Draws p s t old new r × (new ≡ draw_buffer p s t old)
 
 module _ {p : Panel} {s t : Cell} {old new : List ℕ} where
-  pub refuses : {r : Refusal} → draw_check p s t (length old) ≡ Refused r → new ≡ old → Promised p s t old new (CellsAnswer.Refused r)
-  refuses e same = (record { gives = gives_cells _ _ (answer_refused _ _ e); leaves = same }, same ∙ answer_refused _ _ e)
-
-  pub refuses_order : {r : Refusal} → check_order p s t ≡ Refused r → new ≡ old → Promised p s t old new (CellsAnswer.Refused r)
-  refuses_order e same = refuses (order_refused p s t (length old) e) same
-
-  pub draws : {k : Cells} → draw_check p s t (length old) ≡ Good → k.0 ≡ order_count p s t → OnPanel p s → OnPanel p t
-      → new ≡ with_cells (drawn_track p.width p.height s t) old → Promised p s t old new (CellsAnswer.Given k)
+  pub draws : {k : Cells} → draw_check p s t (length old) ≡ Ok tt → k.0 ≡ order_count p s t → OnPanel p s → OnPanel p t
+      → new ≡ with_cells (drawn_track p.width p.height s t) old → Promised p s t old new (Ok k)
   draws e q os ot w = (
-    record { gives = gives_cells _ _ (answer_good _ _ e (λ i. CellsAnswer.Given (record { 0 = q i }))); leaves = at_front q os ot w },
+    record { gives = gives_cells _ _ (answer_good _ _ e (λ i. Ok (record { 0 = q i }))); leaves = at_front q os ot w },
     answer_good _ _ e w,
   )
 

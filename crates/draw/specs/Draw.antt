@@ -1,13 +1,13 @@
 -- Document 01, "Operations", and document 02, R-10: Draw writes a longest track at the front of a lent buffer and gives its cell count, or refuses;
 -- the cells that the track leaves uncovered are known by class and colour.
-use Rattle.std.specs.Prelude.{ℕ, ◌*◌, ◌≡◌, List, leb, length, drop}
+use Rattle.grid.specs.declared.Cells.{Cells}
+use Rattle.grid.specs.declared.Refusal.{Refusal}
+use Rattle.std.specs.Prelude.{ℕ, ◌*◌, ◌≡◌, ◌≤◌, List, Result, Ok, Err, leb, length, drop}
 use Rattle.grid.specs.declared.Panel.{Panel}
 use Rattle.grid.specs.declared.Cell.{Cell}
-use Rattle.grid.specs.declared.Check.{Check}
-use Rattle.grid.specs.declared.Check.TheVariants.{Good}
+use Rattle.grid.specs.Check.{Check}
 use Rattle.grid.specs.declared.Refusal.TheVariants.{ShortBuffer}
-use Rattle.grid.specs.declared.CellsAnswer.{CellsAnswer}
-use Rattle.grid.specs.declared.CellsAnswer.TheVariants.{Refused, Given}
+use Rattle.grid.specs.Panel.{GoodSides, OnPanel}
 use Rattle.grid.specs.Bytes.{front}
 use Rattle.grid.specs.Check.{check_order, after, expect, answer}
 use Rattle.grid.specs.Answer.{GivesCells}
@@ -17,9 +17,16 @@ use Rattle.list.specs.List.{with_cells}
 use Rattle.cold.specs.Cold.{StaysCold}
 use Rattle.draw.specs.Track.{drawn_track}
 
+-- what the code that draws asks for: good sides, terminals on the panel, and room for the count's cells
+pub record Roomy (p : Panel) (s t : Cell) (buf : List ℕ) : Type 0 where
+  pub sides : GoodSides p
+  pub entry : OnPanel p s
+  pub exit : OnPanel p t
+  pub room : 2 * order_count p s t ≤ length buf
+
 -- refused as Bound, then 5: the buffer is shorter than 2 bytes for each cell of the count
 abbrev pub draw_check : Panel → Cell → Cell → ℕ → Check
-draw_check p s t size = after (check_order p s t) (expect (leb (2 * order_count p s t) size) ShortBuffer Good)
+draw_check p s t size = after (check_order p s t) (expect (leb (2 * order_count p s t) size) ShortBuffer (Ok tt))
 
 -- the k cells read from the front of the buffer after the call are a track from s to t, every list of cells that is such a track has at most k, the
 -- cells that the track leaves uncovered are as document 02, R-10, says, and the bytes behind the k cells are the old ones
@@ -29,13 +36,13 @@ pub record LongestAtFront (p : Panel) (s t : Cell) (k : ℕ) (old new : List ℕ
   pub behind : drop (2 * k) new ≡ drop (2 * k) old
 
 -- a refusal changes no byte
-abbrev pub Leaves : Panel → Cell → Cell → List ℕ → List ℕ → CellsAnswer → Type 0
-Leaves p s t old new (Refused r) = new ≡ old
-Leaves p s t old new (Given k) = LongestAtFront p s t k.0 old new
+abbrev pub Leaves : Panel → Cell → Cell → List ℕ → List ℕ → Result Cells Refusal → Type 0
+Leaves p s t old new (Err r) = new ≡ old
+Leaves p s t old new (Ok k) = LongestAtFront p s t k.0 old new
 
 -- Draw's promise: the count, or what the check refuses; and the buffer begins with a longest track, which leaves what R-10 says, and is otherwise as
 -- it was
-pub record Draws (p : Panel) (s t : Cell) (old new : List ℕ) (r : CellsAnswer) : Type 0 where
+pub record Draws (p : Panel) (s t : Cell) (old new : List ℕ) (r : Result Cells Refusal) : Type 0 where
   pub gives : GivesCells (draw_check p s t (length old)) (order_count p s t) r
   pub leaves : Leaves p s t old new r
 

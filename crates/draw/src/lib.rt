@@ -8,11 +8,11 @@ ghost use Rattle.list.specs.List.{with_cells};
 ghost use Rattle.plan.specs.Leg.{legs};
 ghost use Rattle.plan.specs.Drawing.{Room, Written};
 ghost use Rattle.table.specs.Order.{ReadyOrder};
-ghost use Rattle.draw.specs.Track.{is_three, track_between};
-ghost use Rattle.draw.specs.Draw.{Draws, draw_buffer};
+ghost use Rattle.draw.specs.Track.{is_three, track_between, drawn_track};
+ghost use Rattle.draw.specs.Draw.{Roomy, Draws, draw_buffer};
 
-use grid::{Cell, Cells, CellsAnswer, Check, Panel, Refusal};
-use legs::{draw_leg, draw_legs};
+use grid::{Cell, Cells, Order, Refusal, ensure};
+use legs::draw_legs;
 use list::put_cell;
 use plan::Plan;
 
@@ -22,10 +22,10 @@ fn draw_plan(p: Plan, buf: &mut [u8]) -> Cells
     ensures { Written (legs p) result buf.old buf.new }
 {
     match p {
-        Plan::One(g) => draw_leg(g, buf),
-        Plan::Two(g, h) => draw_legs([g, h, h, h, h], 2, buf),
-        Plan::Three(g, h, i) => draw_legs([g, h, i, i, i], 3, buf),
-        Plan::Five(g, h, i, j, l) => draw_legs([g, h, i, j, l], 5, buf),
+        Plan::One(g) => draw_legs(&[g], buf),
+        Plan::Two(g, h) => draw_legs(&[g, h], buf),
+        Plan::Three(g, h, i) => draw_legs(&[g, h, i], buf),
+        Plan::Five(g, h, i, j, k) => draw_legs(&[g, h, i, j, k], buf),
     }
 }
 
@@ -33,7 +33,7 @@ fn draw_plan(p: Plan, buf: &mut [u8]) -> Cells
 fn is_three(width: u32, height: u32) -> bool
     ensures { result ≡ is_three width height }
 {
-    if width == 3 { height == 3 } else { false }
+    width == 3 && height == 3
 }
 
 // Draws a longest track between two different cells, where there is room for it. Like all that
@@ -50,24 +50,27 @@ fn draw_longest(width: u32, height: u32, s: Cell, t: Cell, buf: &mut [u8])
     draw_plan(chosen, buf);
 }
 
-// The call.
-pub fn draw(p: Panel, entry: Cell, exit: Cell, buf: &mut [u8]) -> CellsAnswer
-    ensures draws { Draws p entry exit buf.old buf.new result }
-    ensures cells { buf.new ≡ draw_buffer p entry exit buf.old }
+// The same between any two cells.
+fn draw_track(width: u32, height: u32, s: Cell, t: Cell, buf: &mut [u8])
+    requires { (pitch : ℕ) → Roomy (panel width height pitch) s t buf.old }
+    ensures { buf.new ≡ with_cells (drawn_track width height s t) buf.old }
 {
-    let c = grid::check_order(p, entry, exit);
-    if let Check::Refused(r) = c {
-        return CellsAnswer::Refused(r);
+    if s == t {
+        put_cell(buf, 0, s);
+        return;
     }
-    let found = class::order_class_count(p, entry, exit);
+    draw_longest(width, height, s, t, buf);
+}
+
+// The call.
+pub fn draw(o: Order, buf: &mut [u8]) -> Result<Cells, Refusal>
+    ensures draws { Draws o.panel o.entry o.exit buf.old buf.new result }
+    ensures cells { buf.new ≡ draw_buffer o.panel o.entry o.exit buf.old }
+{
+    o.check()?;
+    let found = class::order_class_count(o);
     let cells = found.count;
-    if buf.len() < 2 * (cells.0 as usize) {
-        return CellsAnswer::Refused(Refusal::ShortBuffer);
-    }
-    if grid::same_cell(entry, exit) {
-        put_cell(buf, 0, entry);
-        return CellsAnswer::Given(cells);
-    }
-    draw_longest(p.width, p.height, entry, exit, buf);
-    CellsAnswer::Given(cells)
+    ensure(2 * (cells.0 as usize) <= buf.len(), Refusal::ShortBuffer)?;
+    draw_track(o.panel.width, o.panel.height, o.entry, o.exit, buf);
+    Ok(cells)
 }

@@ -7,20 +7,18 @@
 // are one and the bytes behind are as before; `untouched`, all bytes are as before; else `FAULT`.
 #![tactic(auto)]
 
-use bound::bound_values;
-use grid::{Cell, cells_values, panel_of};
+use grid::{Cell, CellsValues, Order, panel_of};
 use std::io;
 use trial::PITCH;
-use trial::cells::{Order, filled, is_track};
-use trial::print::{named, row, text};
+use trial::cells::{filled, is_track};
 
 // What the buffers are filled with.
 const FILL: u8 = 170;
 
-// The largest number of 32 bits.
-const MAX: u32 = 4294967295;
+// The first cell of a panel.
+const FIRST: Cell = Cell { x: 1, y: 1 };
 
-#[derive(Clone, Copy)]
+#[derive(Clone, Copy, Debug, Default, PartialEq, Eq)]
 struct Totals {
     orders: u32,
     drawn: u32,
@@ -28,33 +26,19 @@ struct Totals {
     wrong: u32,
 }
 
-fn add(a: u32, b: u32) -> u32 {
-    std::num::wrapping_add_u32(a, b)
-}
-
-// The first cell of a panel.
-fn first() -> Cell {
-    Cell { x: 1, y: 1 }
+// Whether the first k cells of the buffer, which was filled, are a track of the order and the bytes behind are
+// as before.
+fn holds(buf: &[u8], o: Order, k: u32) -> bool {
+    filled(buf, 2 * (k as usize), FILL) && is_track(buf, o, FIRST, k)
 }
 
 // One order into the buffer, which is filled: whether all of it is right.
 fn right(o: Order, buf: &mut [u8]) -> bool {
-    let b = bound_values(bound::bound(o.panel, o.entry, o.exit));
-    let a = cells_values(draw::draw(o.panel, o.entry, o.exit, buf));
-    let k = a.cells.0;
-    if k != b.count.0 {
-        return false;
+    match (bound::bound(o), draw::draw(o, buf)) {
+        (Ok(found), Ok(cells)) => found.count == cells && holds(buf, o, cells.0),
+        (Err(r), Err(q)) => r == q && filled(buf, 0, FILL),
+        _ => false,
     }
-    if a.refusal != b.refusal {
-        return false;
-    }
-    if !filled(buf, 2 * (k as usize), FILL) {
-        return false;
-    }
-    if k == 0 {
-        return true;
-    }
-    is_track(buf, o, first(), k)
 }
 
 // The order of number `code`: six numbers from 1 to 6, and in turn every pitch of the range.
@@ -72,165 +56,127 @@ fn order_of(code: u32) -> Order {
     }
 }
 
-fn count_one(code: u32, t: Totals) -> Totals {
+fn count_one(t: Totals, code: u32) -> Totals {
     let o = order_of(code);
-    let mut buf = [FILL; 80];
-    let k = bound_values(bound::bound(o.panel, o.entry, o.exit)).count.0;
-    let good = right(o, &mut buf);
+    let good = right(o, &mut [FILL; 80]);
+    let k = bound::bound(o).map_or(0, |found| found.count.0);
     Totals {
-        orders: add(t.orders, 1),
-        drawn: if k == 0 { t.drawn } else { add(t.drawn, 1) },
-        cells: add(t.cells, k),
-        wrong: if good { t.wrong } else { add(t.wrong, 1) },
+        orders: t.orders.wrapping_add(1),
+        drawn: t.drawn.wrapping_add(u32::from(k != 0)),
+        cells: t.cells.wrapping_add(k),
+        wrong: t.wrong.wrapping_add(u32::from(!good)),
     }
 }
 
 // The orders whose first six numbers are from 1 to 6.
-fn every_order() -> Totals {
-    let mut t = Totals {
-        orders: 0,
-        drawn: 0,
-        cells: 0,
-        wrong: 0,
-    };
-    for code in 0..46656 {
-        t = count_one(code, t);
-    }
-    t
-}
-
 fn small_panels(rt: &impl Print) -> io::Result<()> {
-    let t = every_order();
-    named(rt, b"orders ", t.orders)?;
-    named(rt, b", drawn ", t.drawn)?;
-    named(rt, b", cells ", t.cells)?;
-    named(rt, b", wrong ", t.wrong)?;
-    text(rt, b"\n")
+    let mut t = Totals::default();
+    for code in 0..46656 {
+        t = count_one(t, code);
+    }
+    println!(rt;
+        "orders {}, drawn {}, cells {}, wrong {}",
+        t.orders, t.drawn, t.cells, t.wrong
+    )
 }
 
 // What the buffer holds after a call that gave k cells.
-fn found(rt: &impl Print, buf: &[u8], o: Order, k: u32) -> io::Result<()> {
-    if !filled(buf, 2 * (k as usize), FILL) {
-        return text(rt, b"FAULT\n");
+fn found(buf: &[u8], o: Order, k: u32) -> &'static str {
+    if k == 0 && filled(buf, 0, FILL) {
+        return "untouched";
     }
-    if k == 0 {
-        return text(rt, b"untouched\n");
-    }
-    if is_track(buf, o, first(), k) {
-        return text(rt, b"a track\n");
-    }
-    text(rt, b"FAULT\n")
+    if holds(buf, o, k) { "a track" } else { "FAULT" }
 }
 
 // One order into the buffer, which is filled: its line.
 fn show(rt: &impl Print, o: Order, buf: &mut [u8]) -> io::Result<()> {
-    let p = o.panel;
-    let s = o.entry;
-    let t = o.exit;
-    let size = (buf.len() % 65536) as u32;
-    let a = cells_values(draw::draw(p, s, t, buf));
-    row(
-        rt,
-        &[p.width, p.height, s.x, s.y, t.x, t.y, p.pitch],
-        b" in ",
+    let Order { panel, entry, exit } = o;
+    let a = CellsValues::from(draw::draw(o, buf));
+    print!(rt; "{} {} {} {} ", panel.width, panel.height, entry.x, entry.y)?;
+    print!(rt;
+        "{} {} {} in {} bytes: ",
+        exit.x,
+        exit.y,
+        panel.pitch,
+        buf.len()
     )?;
-    row(rt, &[size], b" bytes: ")?;
-    row(rt, &[a.refusal, a.cells.0], b" ")?;
-    found(rt, buf, o, a.cells.0)
+    println!(rt; "{} {} {}", a.refusal, a.cells.0, found(buf, o, a.cells.0))
 }
 
 // The largest panel, along its left edge.
 fn large(rt: &impl Print, buf: &mut [u8]) -> io::Result<()> {
     let o = Order {
         panel: panel_of(128, 128, PITCH),
-        entry: first(),
+        entry: FIRST,
         exit: Cell { x: 1, y: 128 },
     };
     show(rt, o, buf)
 }
 
-// A panel of 6 columns, in a buffer for 12 cells and one more.
-fn six_wide(
-    rt: &impl Print,
-    height: u32,
-    sx: u32,
-    sy: u32,
-    tx: u32,
-    ty: u32,
-    pitch: u32,
-) -> io::Result<()> {
-    let o = Order {
-        panel: panel_of(6, height, pitch),
-        entry: Cell { x: sx, y: sy },
-        exit: Cell { x: tx, y: ty },
-    };
-    let mut buf = [FILL; 26];
-    show(rt, o, &mut buf)
-}
-
 // Both leads on one cell, in a buffer just long enough, one byte too short and empty.
-fn spot(rt: &impl Print, m: u32, n: u32, x: u32, y: u32) -> io::Result<()> {
-    let c = Cell { x, y };
+fn spot(rt: &impl Print, m: u32, n: u32, c: Cell) -> io::Result<()> {
     let o = Order {
         panel: panel_of(m, n, PITCH),
         entry: c,
         exit: c,
     };
-    let mut buf = [FILL; 2];
-    show(rt, o, &mut buf)?;
-    let mut short = [FILL; 1];
-    show(rt, o, &mut short)?;
-    let mut none = [FILL; 0];
-    show(rt, o, &mut none)
+    show(rt, o, &mut [FILL; 2])?;
+    show(rt, o, &mut [FILL; 1])?;
+    show(rt, o, &mut [FILL; 0])
 }
 
 fn spots(rt: &impl Print) -> io::Result<()> {
-    spot(rt, 1, 1, 1, 1)?;
-    spot(rt, 6, 1, 3, 1)?;
-    spot(rt, 3, 3, 2, 2)?;
-    spot(rt, 128, 128, 128, 1)?;
-    six_wide(rt, 2, 3, 1, 3, 1, PITCH)
+    spot(rt, 1, 1, FIRST)?;
+    spot(rt, 6, 1, Cell { x: 3, y: 1 })?;
+    spot(rt, 3, 3, Cell { x: 2, y: 2 })?;
+    spot(rt, 128, 128, Cell { x: 128, y: 1 })?;
+    six_wide(rt, 2, [3, 1, 3, 1], PITCH)
+}
+
+// An order on a panel of 6 columns, the terminals as in a line.
+fn six_columns(height: u32, terminals: [u32; 4], pitch: u32) -> Order {
+    let [sx, sy, tx, ty] = terminals;
+    Order {
+        panel: panel_of(6, height, pitch),
+        entry: Cell { x: sx, y: sy },
+        exit: Cell { x: tx, y: ty },
+    }
+}
+
+// The same in a buffer for 12 cells and one more.
+fn six_wide(rt: &impl Print, height: u32, terminals: [u32; 4], pitch: u32) -> io::Result<()> {
+    show(rt, six_columns(height, terminals, pitch), &mut [FILL; 26])
 }
 
 // An order of 12 cells in a buffer that is one byte too short for them.
 fn too_short(rt: &impl Print, pitch: u32) -> io::Result<()> {
-    let o = Order {
-        panel: panel_of(6, 2, pitch),
-        entry: Cell { x: 3, y: 1 },
-        exit: Cell { x: 4, y: 1 },
-    };
-    let mut buf = [FILL; 23];
-    show(rt, o, &mut buf)
+    show(rt, six_columns(2, [3, 1, 4, 1], pitch), &mut [FILL; 23])
 }
 
 // Pitches at the ends of their range and outside it.
 fn pitches(rt: &impl Print) -> io::Result<()> {
-    six_wide(rt, 2, 3, 1, 4, 1, 999)?;
-    six_wide(rt, 2, 3, 1, 4, 1, 1000)?;
-    six_wide(rt, 2, 3, 1, 4, 1, 10000)?;
-    six_wide(rt, 2, 3, 1, 4, 1, 10001)?;
-    six_wide(rt, 2, 3, 1, 4, 1, 0)?;
-    six_wide(rt, 2, 3, 1, 4, 1, MAX)
+    for pitch in [999, 1000, 10000, 10001, 0, u32::MAX] {
+        six_wide(rt, 2, [3, 1, 4, 1], pitch)?;
+    }
+    Ok(())
 }
 
 // A bad pitch behind a bad side, then before each fault that is tested after it and with equal terminals; then
 // the last of these with a good pitch.
 fn pitch_and_more(rt: &impl Print) -> io::Result<()> {
-    six_wide(rt, 129, 3, 1, 4, 1, 999)?;
-    six_wide(rt, 0, 3, 1, 4, 1, MAX)?;
-    six_wide(rt, 2, 0, 1, 4, 1, 999)?;
-    six_wide(rt, 2, 3, 1, 4, 3, 10001)?;
-    six_wide(rt, 2, 3, 1, 3, 1, 0)?;
+    six_wide(rt, 129, [3, 1, 4, 1], 999)?;
+    six_wide(rt, 0, [3, 1, 4, 1], u32::MAX)?;
+    six_wide(rt, 2, [0, 1, 4, 1], 999)?;
+    six_wide(rt, 2, [3, 1, 4, 3], 10001)?;
+    six_wide(rt, 2, [3, 1, 3, 1], 0)?;
     too_short(rt, 10001)?;
     too_short(rt, 10000)
 }
 
 fn main(rt: HostRuntime) -> io::Result<()> {
     small_panels(&rt)?;
-    let mut short = [FILL; 32767];
-    large(&rt, &mut short)?;
-    let mut whole = [FILL; 32768];
-    large(&rt, &mut whole)?;
+    large(&rt, &mut [FILL; 32767])?;
+    large(&rt, &mut [FILL; 32768])?;
     spots(&rt)?;
     pitches(&rt)?;
     pitch_and_more(&rt)

@@ -36,31 +36,31 @@ module _ (b : List ℕ) (n : ℕ) (held : 2 * n ≤ length b) where
         ∙ ap (take (2 * k)) parts
         ∙ take_at (bytes (take k (front n b))) (bytes (drop k (front n b))) (2 * k) cut_size
 
-    bytes_from_lem : take (2 * (n - k)) (drop (2 * k) b) ≡ bytes (drop k (front n b))
+    bytes_from_lem : take (2 * n - 2 * k) (drop (2 * k) b) ≡ bytes (drop k (front n b))
     bytes_from_lem =
-        let whole : 2 * k + 2 * (n - k) ≡ 2 * n = omega arith in
+        let whole : 2 * k + (2 * n - 2 * k) ≡ 2 * n = omega arith in
         let before = take (2 * k) b in
-        sym (drop_at before (take (2 * (n - k)) (drop (2 * k) b)) (2 * k) (length-take-le (2 * k) b (omega arith)))
-        ∙ ap (drop (2 * k)) (sym (take-add (2 * k) (2 * (n - k)) b) ∙ ap (λ (j : ℕ). take j b) whole ∙ parts)
+        sym (drop_at before (take (2 * n - 2 * k) (drop (2 * k) b)) (2 * k) (length-take-le (2 * k) b (omega arith)))
+        ∙ ap (drop (2 * k)) (sym (take-add (2 * k) (2 * n - 2 * k) b) ∙ ap (λ (j : ℕ). take j b) whole ∙ parts)
         ∙ drop_at (bytes (take k (front n b))) (bytes (drop k (front n b))) (2 * k) cut_size
 
   -- ---- a detour put in behind the first k cells
 
   module _ (room : 2 * (n + 2) ≤ length b) (k : ℕ) (within : k ≤ n) (c d : Cell) where
     abbrev slid : List ℕ
-    slid = paste b (2 * k + 4) (drop (2 * k) b) (2 * (n - k))
+    slid = paste b (2 * k + 4) (drop (2 * k) b) (2 * n - 2 * k)
 
     abbrev opened : List ℕ
     opened = paste slid (2 * k) (bytes (c ∷ d ∷ [])) 4
 
     abbrev moved : List ℕ
-    moved = take (2 * (n - k)) (drop (2 * k) b)
+    moved = take (2 * n - 2 * k) (drop (2 * k) b)
 
-    moved_size : length moved ≡ 2 * (n - k)
-    moved_size = length-take-le (2 * (n - k)) (drop (2 * k) b) (omega (arith, length-drop (2 * k) b))
+    moved_size : length moved ≡ 2 * n - 2 * k
+    moved_size = length-take-le (2 * n - 2 * k) (drop (2 * k) b) (omega (arith, length-drop (2 * k) b))
 
     abbrev rest : List ℕ
-    rest = drop (2 * k + 4 + 2 * (n - k)) b
+    rest = drop (2 * k + 4 + (2 * n - 2 * k)) b
 
     head_size : length (take (2 * k + 4) b) ≡ 2 * k + 4
     head_size = length-take-le (2 * k + 4) b (omega arith)
@@ -105,14 +105,14 @@ module _ (b : List ℕ) (n : ℕ) (held : 2 * n ≤ length b) where
   -- ---- two cells taken out behind the first k
 
   module _ (k : ℕ) (within : k + 2 ≤ n) where
-    pub closed_cells : take (2 * (n - 2)) (paste b (2 * k) (drop (2 * k + 4) b) (2 * (n - k - 2)))
+    pub closed_cells : take (2 * (n - 2)) (paste b (2 * k) (drop (2 * k + 4) b) (2 * n - (2 * k + 4)))
         ≡ bytes (take k (front n b) ++ drop (k + 2) (front n b))
     closed_cells =
         let behind : 2 * k + 4 ≡ 2 * (k + 2) = omega arith in
-        let count : 2 * (n - k - 2) ≡ 2 * (n - (k + 2)) = omega arith in
-        let whole : 2 * (n - 2) ≡ 2 * k + 2 * (n - k - 2) = omega arith in
+        let count : 2 * n - (2 * k + 4) ≡ 2 * n - 2 * (k + 2) = omega arith in
+        let whole : 2 * (n - 2) ≡ 2 * k + (2 * n - (2 * k + 4)) = omega arith in
         let ahead = drop (2 * k + 4) b in
-        let moved = 2 * (n - k - 2) in
+        let moved = 2 * n - (2 * k + 4) in
         ap (λ (j : ℕ). take j (paste b (2 * k) ahead moved)) whole
         ∙ take-paste b (2 * k) ahead moved (omega arith) (omega (arith, length-drop (2 * k + 4) b))
         ∙ (λ i. bytes_before k (omega arith) i ++ take (count i) (drop (behind i) b))

@@ -1,4 +1,3 @@
-pub mod Slides
+pub mod Among
 pub mod Cuts
-pub mod Zeros
 pub mod Made

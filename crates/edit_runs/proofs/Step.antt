@@ -1,4 +1,5 @@
 -- One accepted command: what its tests say, the list that it leaves, and that Judge accepts that list.
+use Rattle.std.specs.Prelude.{Ok}
 use Prim.Native.Nat.{ℕ, ◌-◌, ◌*◌, ◌≤◌}
 use native.Mathlib.Omega.{arith}
 use borrow.Author.Tests.{leb-true, leb-false, le-leb}
@@ -12,8 +13,7 @@ use Rattle.grid.specs.declared.Panel.{Panel}
 use Rattle.grid.specs.declared.Cell.{Cell}
 use Rattle.grid.specs.declared.Refusal.{Refusal}
 use Rattle.grid.specs.declared.Refusal.TheVariants.{NoSuchEdit, NothingRecorded, ShortBuffer}
-use Rattle.grid.specs.declared.Check.{Check}
-use Rattle.grid.specs.declared.Check.TheVariants.{Good}
+use Rattle.grid.specs.Check.{Check}
 use Rattle.grid.specs.Check.{expect}
 use Rattle.grid.specs.Bytes.{bytes, cells_in}
 use Rattle.grid.specs.Track.{Track}
@@ -68,12 +68,12 @@ module _ (e : Edit) (n : ℕ) (s : Session) where
       (λ h. few) (λ h. omega (arith, leb-false kept_edits s.recorded h))
 
   new_count : (c : Command) → (changed c e n s).count.0 ≡ n
-  new_count (Bulge k left) = on_count
+  new_count (Bulge k side) = on_count
   new_count (Press k) = on_count
   new_count TakeBack = refl
 
   new_few : (c : Command) → s.recorded ≤ kept_edits → (changed c e n s).recorded ≤ kept_edits
-  new_few (Bulge k left) few = on_few few
+  new_few (Bulge k side) few = on_few few
   new_few (Press k) few = on_few few
   new_few TakeBack few = omega arith
 
@@ -81,7 +81,7 @@ module _ (e : Edit) (n : ℕ) (s : Session) where
 
 module _ (p : Panel) (a z : Cell) (room : ℕ) where
   -- of a list that Judge accepts
-  module _ (list : List ℕ) (good : judge_check p a z list room ≡ Good) where
+  module _ (list : List ℕ) (good : judge_check p a z list room ≡ Ok tt) where
     abbrev sizes : Check
     sizes = sizes_check p a z (length list) room
 
@@ -89,7 +89,7 @@ module _ (p : Panel) (a z : Cell) (room : ℕ) where
     is_track_lem = tests_track (passed p a z (cells_in list) (after_rest sizes (cells_check p a z (cells_in list)) good))
 
     -- any other track between the same ends is accepted too
-    track_judged : {l : List Cell} → Track p a z l → judge_check p a z (bytes l) room ≡ Good
+    track_judged : {l : List Cell} → Track p a z l → judge_check p a z (bytes l) room ≡ Ok tt
     track_judged {l} r =
         let was = sized p a z (length list) room (after_passed sizes (cells_check p a z (cells_in list)) good) in
         let some = some_cell r.walk in
@@ -118,17 +118,17 @@ module _ (p : Panel) (a z : Cell) (room : ℕ) where
     pub was_judged : Judged p a z room d
     was_judged = after_passed judge (expect (ready c s) NothingRecorded test) ok
 
-    behind : expect (ready c s) NothingRecorded test ≡ Good
+    behind : expect (ready c s) NothingRecorded test ≡ Ok tt
     behind = after_rest judge (expect (ready c s) NothingRecorded test) ok
 
-    passed_test : test ≡ Good
+    passed_test : test ≡ Ok tt
     passed_test = expect_rest (ready c s) NothingRecorded test behind
 
     pub can : can_edit p e l ≡ true
     can = expect_passed (can_edit p e l) NoSuchEdit _ passed_test
 
     pub fits : 2 * length (edited e l) ≤ length d.buffer
-    fits = leb-true _ _ (expect_passed _ ShortBuffer Good (expect_rest (can_edit p e l) NoSuchEdit _ passed_test))
+    fits = leb-true _ _ (expect_passed _ ShortBuffer (Ok tt) (expect_rest (can_edit p e l) NoSuchEdit _ passed_test))
 
     pub was_few : s.recorded ≤ kept_edits
     was_few = few_recorded s d.buffer (some_cells s d.buffer p a z room was_judged)

@@ -1,10 +1,11 @@
 -- Document 02, R-12: from a list that Judge accepts any run of edits and takings back keeps a track between the same ends; taking back right after
 -- an edit is accepted and restores list and record; and n takings back in a row undo n edits, up to 32.
+use Rattle.std.specs.Prelude.{Result, Ok, Err}
 use Prim.Native.Nat.{ℕ, zero, suc, ◌+◌, ◌-◌, ◌*◌, ◌≤◌, ◌<◌}
 use native.Mathlib.Omega.{arith}
 use borrow.Author.Tests.{le-leb}
 use mathlib.Core.Path.{◌≡◌, refl, sym, ap, subst, ◌∙◌}
-use mathlib.Core.Bool.{Bool, true, false≢true}
+use mathlib.Core.Bool.{true, false≢true}
 use mathlib.Core.List.{List, [], ◌∷◌}
 use lib.ListN.{length, take, drop, length-replicate}
 use Rattle.grid.specs.declared.Panel.{Panel}
@@ -14,11 +15,10 @@ use Rattle.grid.specs.declared.Refusal.{Refusal}
 use Rattle.grid.specs.declared.Refusal.TheVariants.{NoSuchEdit, NothingRecorded, ShortBuffer}
 use Rattle.grid.specs.Bytes.{cells_in}
 use Rattle.grid.specs.Track.{Track}
-use Rattle.grid.specs.declared.Check.{Check}
-use Rattle.grid.specs.declared.Check.TheVariants.{Good, Refused}
-use Rattle.grid.specs.declared.CellsAnswer.{CellsAnswer}
+use Rattle.grid.specs.Check.{Check}
 use Rattle.grid.proofs.Tests.{expect_yes, after_good, answer_refused}
 use Rattle.judge.specs.Judge.{judge_check}
+use Rattle.detour.specs.declared.Side.{Side}
 use Rattle.detour.specs.declared.Edit.{Edit}
 use Rattle.detour.specs.Detour.{bulge_at, press_at, edited, can_edit, opposite, with_zeros}
 use Rattle.detour.proofs.Kept.{bulge_adds, press_takes}
@@ -35,13 +35,13 @@ use Rattle.edit_runs.proofs.Records.{newest_of, recorded_first, recorded_more, r
 
 -- an edit is recorded
 edit_recorded : (c : Command) (e : Edit) (n : ℕ) (s : Session) → is_edit c ≡ true → changed c e n s ≡ on_record e n s
-edit_recorded (Bulge k left) e n s h = refl
+edit_recorded (Bulge k side) e n s h = refl
 edit_recorded (Press k) e n s h = refl
 edit_recorded TakeBack e n s h = absurd (false≢true h)
 
 changed_whole : (c : Command) (e : Edit) (n : ℕ) (s : Session) → length s.edits ≡ kept_edits → s.recorded ≤ kept_edits
     → length (changed c e n s).edits ≡ kept_edits
-changed_whole (Bulge k left) e n s w few = recorded_whole e n s w few
+changed_whole (Bulge k side) e n s w few = recorded_whole e n s w few
 changed_whole (Press k) e n s w few = recorded_whole e n s w few
 changed_whole TakeBack e n s w few = w
 
@@ -59,7 +59,7 @@ module _ (p : Panel) (a z : Cell) (room : ℕ) where
   -- ---- any run
 
   -- what the call leaves is what the run goes on from
-  pub call_leaves : (c : Command) (d : Desk) (old : List ℕ) → length old ≡ room → {s' : Session} {buffer' new : List ℕ} {r : CellsAnswer}
+  pub call_leaves : (c : Command) (d : Desk) (old : List ℕ) → length old ≡ room → {s' : Session} {buffer' new : List ℕ} {r : Result Cells Refusal}
       → Edits p a z c d.session d.buffer old s' buffer' new r
       → (s' ≡ (desk_after p a z room c d).session) × (buffer' ≡ (desk_after p a z room c d).buffer)
   call_leaves c d old is e =
@@ -75,8 +75,8 @@ module _ (p : Panel) (a z : Cell) (room : ℕ) where
   by_command P c d made same = by (desk_check p a z room c d) refl
     where
       by : (k : Check) → desk_check p a z room c d ≡ k → P (desk_after p a z room c d)
-      by Good f = made f
-      by (Refused r) f =
+      by (Ok tt) f = made f
+      by (Err r) f =
           let e = edit_of c d.session d.buffer in
           let back : d ≡ desk_after p a z room c d =
           (λ i. record {
@@ -105,11 +105,11 @@ module _ (p : Panel) (a z : Cell) (room : ℕ) where
   run_track {f = f} r j = is_track_lem p a z room (list_of f.session f.buffer) (run_judged r j)
 
   -- a bulge adds two cells, a press takes two
-  pub bulge_longer : (k : ℕ) (left : Bool) (d : Desk) → Accepted p a z room (Bulge k left) d
-      → length (drawing (desk_after p a z room (Bulge k left) d)) ≡ length (drawing d) + 2
-  bulge_longer k left d ok =
-      ap length (next_drawing p a z room (Bulge k left) d ok)
-      ∙ bulge_adds p (bulge_at k left) (drawing d) refl (can p a z room (Bulge k left) d ok)
+  pub bulge_longer : (k : ℕ) (side : Side) (d : Desk) → Accepted p a z room (Bulge k side) d
+      → length (drawing (desk_after p a z room (Bulge k side) d)) ≡ length (drawing d) + 2
+  bulge_longer k side d ok =
+      ap length (next_drawing p a z room (Bulge k side) d ok)
+      ∙ bulge_adds p (bulge_at k side) (drawing d) refl (can p a z room (Bulge k side) d ok)
 
   pub press_shorter : (k : ℕ) (d : Desk) → Accepted p a z room (Press k) d
       → length (drawing (desk_after p a z room (Press k) d)) + 2 ≡ length (drawing d)

@@ -1,9 +1,9 @@
 -- Document 02, R-12: runs of edits and takings back on a panel, between two ends and with scratch of so many bytes.
+use Rattle.std.specs.Prelude.{Ok}
 use Rattle.std.specs.Prelude.{ℕ, zero, suc, ◌≡◌, Bool, true, false, List, length, take}
 use Rattle.grid.specs.declared.Panel.{Panel}
 use Rattle.grid.specs.declared.Cell.{Cell}
-use Rattle.grid.specs.declared.Check.{Check}
-use Rattle.grid.specs.declared.Check.TheVariants.{Good}
+use Rattle.grid.specs.Check.{Check}
 use Rattle.judge.specs.Judge.{judge_check}
 use Rattle.detour.specs.declared.Edit.{Edit}
 use Rattle.session.specs.declared.Session.{Session}
@@ -31,21 +31,21 @@ Whole d = length d.session.edits ≡ kept_edits
 
 -- a command that is an edit: a bulge or a press
 abbrev pub is_edit : Command → Bool
-is_edit (Bulge k left) = true
+is_edit (Bulge k side) = true
 is_edit (Press k) = true
 is_edit TakeBack = false
 
 module _ (p : Panel) (a z : Cell) (room : ℕ) where
   -- Judge accepts the list
   abbrev pub Judged : Desk → Type 0
-  Judged d = judge_check p a z (list_of d.session d.buffer) room ≡ Good
+  Judged d = judge_check p a z (list_of d.session d.buffer) room ≡ Ok tt
 
   abbrev pub desk_check : Command → Desk → Check
   desk_check c d = edit_check p a z c d.session d.buffer room
 
   -- the call accepts the command
   abbrev pub Accepted : Command → Desk → Type 0
-  Accepted c d = desk_check c d ≡ Good
+  Accepted c d = desk_check c d ≡ Ok tt
 
   -- what the call leaves in hand
   abbrev pub desk_after : Command → Desk → Desk

@@ -1,4 +1,5 @@
 -- How many cells a track can have, by the colour that it begins with; and that nothing fits where more are wanted.
+use Rattle.std.specs.Prelude.{None}
 use Prim.Native.Nat.{◌≤◌, ◌<◌}
 use mathlib.Core.Path.{◌≡◌, ap, ◌∙◌}
 use mathlib.Core.Bool.{true}
@@ -15,7 +16,6 @@ use Rattle.grid.proofs.Facts.{test_fails}
 use Rattle.grid.proofs.Tests.{both_branches}
 use Rattle.count.proofs.Pigeon.{at_most_area}
 use Rattle.count.proofs.Colour.{bit, black_bit, walk_black, at_most_black}
-use Rattle.exit.specs.declared.Search.TheVariants.{Nothing}
 use Rattle.exit.specs.Exit.{fits, first_fit}
 use Rattle.exit.specs.Most.{most}
 use Rattle.exit.proofs.Reading.{none_first}
@@ -28,7 +28,7 @@ at_most p {s} {t} {l} r =
     (λ b. omega (arith, black_bit s ∙ ap bit b, walk_black r.walk, at_most_black p r.once r.within))
     (λ w. omega (arith, at_most_area p r.once r.within))
 
-pub none_above : (p : Panel) (s : Cell) (w : Cells) → OnPanel p s → most p s < w.0 → Nothing ≡ first_fit p s w
+pub none_above : (p : Panel) (s : Cell) (w : Cells) → OnPanel p s → most p s < w.0 → None ≡ first_fit p s w
 none_above p s w os h = none_first (fits p s w) p (λ d o. test_fails (fits p s w d) (too_long d o))
   where
     too_long : (d : Cell) → OnPanel p d → fits p s w d ≢ true

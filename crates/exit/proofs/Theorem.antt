@@ -1,4 +1,5 @@
 -- R-5, apart from any code: where panel and entry are good, Exit gives a cell exactly if it is the first exit, and 12 exactly if there is none.
+use Rattle.std.specs.Prelude.{Ok, Err, Option, Some, None}
 use Prim.Native.Nat.{ℕ, ◌<◌}
 use mathlib.Core.Path.{◌≡◌, refl, sym, ap, ◌∙◌, subst}
 use mathlib.Core.Logic.{inl, inr, ◌↔◌}
@@ -7,13 +8,9 @@ use Rattle.grid.specs.declared.Panel.{Panel}
 use Rattle.grid.specs.declared.Cell.{Cell}
 use Rattle.grid.specs.declared.Cells.{Cells}
 use Rattle.grid.specs.declared.Refusal.TheVariants.{NoExit}
-use Rattle.grid.specs.declared.Check.TheVariants.{Good}
 use Rattle.grid.specs.Check.{check_entry}
 use Rattle.grid.proofs.Facts.{clash, cell_eq}
 use Rattle.grid.proofs.Passed.{good_entry}
-use Rattle.exit.specs.declared.ExitAnswer.TheVariants.{Refused, Given}
-use Rattle.exit.specs.declared.Search.{Search}
-use Rattle.exit.specs.declared.Search.TheVariants.{At, Nothing}
 use Rattle.exit.specs.Exit.{fits, first_fit, exit_of}
 use Rattle.exit.specs.First.{Exit, Before, FirstExit}
 use Rattle.exit.proofs.Reading.{first_on, none_on}
@@ -33,8 +30,8 @@ in_order c d n m =
 one_first : (p : Panel) (s : Cell) (w : Cells) (c d : Cell) → FirstExit p s w c → FirstExit p s w d → c ≡ d
 one_first p s w c d x y = in_order c d (λ b. y.none c b x.exit) (λ b. x.none d b y.exit)
 
-module _ (p : Panel) (s : Cell) (w : Cells) (g : check_entry p s ≡ Good) where
-  found_first : (c : Cell) → At c ≡ first_fit p s w → FirstExit p s w c
+module _ (p : Panel) (s : Cell) (w : Cells) (g : check_entry p s ≡ (Ok tt)) where
+  found_first : (c : Cell) → Some c ≡ first_fit p s w → FirstExit p s w c
   found_first c e =
       let r = first_on (fits p s w) p c e in
       record {
@@ -42,22 +39,22 @@ module _ (p : Panel) (s : Cell) (w : Cells) (g : check_entry p s ≡ Good) where
         none = λ d b x. no_fit p s w d (r.none d x.on b) x;
       }
 
-  found_none : Nothing ≡ first_fit p s w → (d : Cell) → ¬ Exit p s w d
+  found_none : None ≡ first_fit p s w → (d : Cell) → ¬ Exit p s w d
   found_none e d x = no_fit p s w d (none_on (fits p s w) p e d x.on) x
 
-  pub gives_first : (c : Cell) → (exit_of p s w ≡ Given c) ↔ FirstExit p s w c
+  pub gives_first : (c : Cell) → (exit_of p s w ≡ Ok c) ↔ FirstExit p s w c
   gives_first c = go (first_fit p s w) refl
     where
-      go : (r : Search) → r ≡ first_fit p s w → (exit_of p s w ≡ Given c) ↔ FirstExit p s w c
-      go (At d) e =
-          let a = searched p s w (At d) g e in
+      go : (r : Option Cell) → r ≡ first_fit p s w → (exit_of p s w ≡ Ok c) ↔ FirstExit p s w c
+      go (Some d) e =
+          let a = searched p s w (Some d) g e in
           let x = found_first d e in
-          ((λ q. let h : d ≡ c = cc in subst (FirstExit p s w) h x), (λ y. sym a ∙ ap Given (one_first p s w d c x y)))
-      go Nothing e = ((λ q. let a = searched p s w Nothing g e in clash (cc)), (λ y. absurd (found_none e c y.exit)))
+          ((λ q. let h : d ≡ c = cc in subst (FirstExit p s w) h x), (λ y. sym a ∙ ap Ok (one_first p s w d c x y)))
+      go None e = ((λ q. let a = searched p s w None g e in clash (cc)), (λ y. absurd (found_none e c y.exit)))
 
-  pub refuses_none : (exit_of p s w ≡ Refused NoExit) ↔ ((d : Cell) → ¬ Exit p s w d)
+  pub refuses_none : (exit_of p s w ≡ Err NoExit) ↔ ((d : Cell) → ¬ Exit p s w d)
   refuses_none = go (first_fit p s w) refl
     where
-      go : (r : Search) → r ≡ first_fit p s w → (exit_of p s w ≡ Refused NoExit) ↔ ((d : Cell) → ¬ Exit p s w d)
-      go (At d) e = ((λ q. let a = searched p s w (At d) g e in clash (cc)), (λ n. absurd (n d (found_first d e).exit)))
-      go Nothing e = ((λ q. found_none e), (λ n. sym (searched p s w Nothing g e)))
+      go : (r : Option Cell) → r ≡ first_fit p s w → (exit_of p s w ≡ Err NoExit) ↔ ((d : Cell) → ¬ Exit p s w d)
+      go (Some d) e = ((λ q. let a = searched p s w (Some d) g e in clash (cc)), (λ n. absurd (n d (found_first d e).exit)))
+      go None e = ((λ q. found_none e), (λ n. sym (searched p s w None g e)))

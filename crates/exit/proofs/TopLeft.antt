@@ -1,5 +1,6 @@
 -- On a panel with more than three rows and more than three columns Exit gives one of the first three cells of the top row, where the colours
 -- allow the wanted count.
+use Rattle.std.specs.Prelude.{Ok, Option, Some, None}
 use Prim.Native.Nat.{ℕ, ◌*◌, ◌/◌, ◌%◌, ◌≤◌, ◌<◌}
 use mathlib.Core.Path.{◌≡◌, refl, sym, ap, ◌∙◌, subst, subst⁻¹}
 use mathlib.Core.Logic.{◌≢◌, inl, inr}
@@ -10,7 +11,6 @@ use borrow.Author.Tests.{eqb-true}
 use Rattle.grid.specs.declared.Panel.{Panel}
 use Rattle.grid.specs.declared.Cell.{Cell}
 use Rattle.grid.specs.declared.Cells.{Cells}
-use Rattle.grid.specs.declared.Check.TheVariants.{Good}
 use Rattle.grid.specs.Check.{check_entry}
 use Rattle.grid.specs.Panel.{OnPanel, area, black, cell}
 use Rattle.grid.proofs.Facts.{ne_x}
@@ -18,9 +18,6 @@ use Rattle.count.specs.declared.ClassCount.{ClassCount}
 use Rattle.count.specs.Count.{odd}
 use Rattle.count.specs.ByColour.{coloured, by_colour}
 use Rattle.count.proofs.Laws.{class_by_colour}
-use Rattle.exit.specs.declared.ExitAnswer.TheVariants.{Given}
-use Rattle.exit.specs.declared.Search.{Search}
-use Rattle.exit.specs.declared.Search.TheVariants.{At, Nothing}
 use Rattle.exit.specs.Exit.{fits, first_fit, exit_of}
 use Rattle.exit.specs.First.{Before}
 use Rattle.exit.specs.Most.{most}
@@ -32,27 +29,27 @@ use Rattle.exit.proofs.Reading.{FirstOn, first_on, none_on}
 module _ (p : Panel) (s : Cell) (w : Cells) where
   record FoundBy (d : Cell) : Type 0 where
     c : Cell
-    found : At c ≡ first_fit p s w
+    found : Some c ≡ first_fit p s w
     first : FirstOn (fits p s w) p c
     not_after : ¬ Before d c
 
   found_by : (d : Cell) → OnPanel p d → fits p s w d ≡ true → FoundBy d
   found_by d o e = go (first_fit p s w) refl
     where
-      go : (r : Search) → r ≡ first_fit p s w → FoundBy d
-      go Nothing q = absurd (true≢false (sym e ∙ none_on (fits p s w) p q d o))
-      go (At c) q =
+      go : (r : Option Cell) → r ≡ first_fit p s w → FoundBy d
+      go None q = absurd (true≢false (sym e ∙ none_on (fits p s w) p q d o))
+      go (Some c) q =
           let r = first_on (fits p s w) p c q in
           record { c = c; found = q; first = r; not_after = λ b. true≢false (sym e ∙ r.none d o b) }
 
 -- Exit gives one of the first three cells of the top row
 pub record TopLeft (p : Panel) (s : Cell) (w : Cells) : Type 0 where
   pub c : Cell
-  pub given : exit_of p s w ≡ Given c
+  pub given : exit_of p s w ≡ Ok c
   pub top : c.y ≡ 1
   pub left : c.x ≤ 3
 
-module _ (p : Panel) (s : Cell) (w : Cells) (g : check_entry p s ≡ Good) (wide : 3 < p.width) (high : 3 < p.height) where
+module _ (p : Panel) (s : Cell) (w : Cells) (g : check_entry p s ≡ (Ok tt)) (wide : 3 < p.width) (high : 3 < p.height) where
   -- cell x of the top row fits, by the colours
   near : (x : ℕ) → 1 ≤ x → x ≤ 3 → s ≢ cell x 1 → {o b : Bool} → odd (area p) ≡ o → black s ≡ b
       → w.0 ≤ (coloured (area p) o b (black (cell x 1))).count.0 → TopLeft p s w
@@ -65,7 +62,7 @@ module _ (p : Panel) (s : Cell) (w : Cells) (g : check_entry p s ≡ Good) (wide
       let low = f.first.on.top in
       let top : f.c.y ≡ 1 = omega arith in
       let not_right : ¬ (x < f.c.x) = λ q. f.not_after (inr (sym top, q)) in
-      record { c = f.c; given = sym (searched p s w (At f.c) g f.found); top = top; left = omega arith }
+      record { c = f.c; given = sym (searched p s w (Some f.c) g f.found); top = top; left = omega arith }
 
   pub top_left : w.0 ≤ most p s → TopLeft p s w
   top_left h = go (odd (area p)) (black s) refl refl

@@ -1,6 +1,7 @@
 -- On a panel with two rows and two columns or more the colours alone decide 12: as many cells as they allow, a track to some cell has. It has them
 -- to a neighbour in the same column, in two rows to one in the same row, and from a white cell of an odd panel to another white cell. A tall panel is
 -- turned.
+use Rattle.std.specs.Prelude.{Ok, Err, None}
 use Prim.Native.Nat.{ℕ, ◌+◌, ◌-◌, ◌*◌, ◌/◌, ◌%◌, ◌≤◌, ◌<◌}
 use mathlib.Core.Path.{◌≡◌, refl, sym, ap, ◌∙◌}
 use mathlib.Core.Logic.{◌≢◌, ◌↔◌}
@@ -13,7 +14,6 @@ use Rattle.grid.specs.declared.Panel.{Panel}
 use Rattle.grid.specs.declared.Cell.{Cell}
 use Rattle.grid.specs.declared.Cells.{Cells}
 use Rattle.grid.specs.declared.Refusal.TheVariants.{NoExit}
-use Rattle.grid.specs.declared.Check.TheVariants.{Good}
 use Rattle.grid.specs.Check.{check_entry}
 use Rattle.grid.specs.Panel.{OnPanel, area, black, cell, turned, turned_cell}
 use Rattle.grid.proofs.Facts.{ne_x, ne_y}
@@ -26,8 +26,6 @@ use Rattle.count.proofs.Laws.{sum_le_product, either_order, not_f1, not_f2, not_
 use Rattle.count.proofs.F3.{no_f3}
 use Rattle.plan.proofs.Decided.{decided_count, decided_odd, decided_even}
 use Rattle.plan.proofs.Rows.{f2_row}
-use Rattle.exit.specs.declared.ExitAnswer.TheVariants.{Refused}
-use Rattle.exit.specs.declared.Search.TheVariants.{Nothing}
 use Rattle.exit.specs.Exit.{exit_of}
 use Rattle.exit.specs.First.{Exit}
 use Rattle.exit.specs.Most.{most}
@@ -160,11 +158,11 @@ allowed p s w h os = elim (dec_le p.height p.width) [
 ]
 
 -- 12 exactly if more is wanted than the colours allow
-pub colours_decide : (p : Panel) (s : Cell) (w : Cells) → check_entry p s ≡ Good → 2 ≤ p.width → 2 ≤ p.height
-    → (exit_of p s w ≡ Refused NoExit) ↔ (most p s < w.0)
+pub colours_decide : (p : Panel) (s : Cell) (w : Cells) → check_entry p s ≡ (Ok tt) → 2 ≤ p.width → 2 ≤ p.height
+    → (exit_of p s w ≡ Err NoExit) ↔ (most p s < w.0)
 colours_decide p s w g m n = (
   (λ q. elim (dec_lt (most p s) w.0) [ yes h ↦ h | no h ↦ absurd ((refuses_none p s w g).0 q a.d (exit (omega arith))) ]),
-  (λ h. sym (searched p s w Nothing g (none_above p s w os h))),
+  (λ h. sym (searched p s w None g (none_above p s w os h))),
 )
   where
     os : OnPanel p s

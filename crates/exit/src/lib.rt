@@ -9,110 +9,93 @@ ghost use Rattle.exit.specs.Exit.{fits, first, first_fit, Exits};
 ghost use Rattle.exit.specs.Most.{most};
 
 use cases::is_black;
-use grid::{Cell, Cells, Check, Panel, Refusal, area_of};
+use class::class_count;
+use grid::{Cell, Cells, Order, Panel, Refusal, area_of, check_entry};
 
-// What Exit answers.
+// What is looked for: a cell to which some track from the entry, a cell of a panel with good sides, has at
+// least the wanted number of cells.
 #[derive(Clone, Copy)]
-pub enum ExitAnswer {
-    Refused(Refusal),
-    Given(Cell),
+struct Search {
+    panel: Panel,
+    entry: Cell,
+    wanted: Cells,
+    ghost sides: { GoodSides panel },
+    ghost on: { OnPanel panel entry },
 }
 
-// What a search finds.
-#[derive(Clone, Copy)]
-pub enum Search {
-    At(Cell),
-    Nothing,
-}
-
-// Whether the cell is not the entry and a track to it has at least the wanted number of cells.
-fn is_fit(p: Panel, entry: Cell, wanted: Cells, c: Cell) -> bool
-    requires good_sides { GoodSides p }
-    requires on_panel { OnPanel p entry }
-    requires on_panel_2 { OnPanel p c }
-    ensures { result ≡ fits p entry wanted c }
-{
-    if grid::same_cell(entry, c) {
-        return false;
+impl Search {
+    // Whether the cell is not the entry and a track to it has at least the wanted number of cells.
+    fn fits(self, c: Cell) -> bool
+        requires { OnPanel self.panel c }
+        ensures { result ≡ fits self.panel self.entry self.wanted c }
+    {
+        let order = Order {
+            panel: self.panel,
+            entry: self.entry,
+            exit: c,
+        };
+        self.entry != c && self.wanted.0 <= class_count(order).count.0
     }
-    let found = class::class_count(p, entry, c);
-    wanted.0 <= found.count.0
-}
 
-// The first fit in row y.
-fn in_row(p: Panel, entry: Cell, wanted: Cells, y: u32) -> Search
-    requires good_sides { GoodSides p }
-    requires on_panel { OnPanel p entry }
-    requires le_y { (1 ≤ y) × (y ≤ p.height) }
-    ensures { result ≡ first (fits p entry wanted) (row p y) }
-{
-    let width = p.width;
-    let mut x: u32 = 1;
-    while x <= width {
-        let c = Cell { x, y };
-        if is_fit(p, entry, wanted, c) {
-            return Search::At(c);
+    // The first fit in row y.
+    fn in_row(self, y: u32) -> Option<Cell>
+        requires { (1 ≤ y) × (y ≤ self.panel.height) }
+        ensures { result ≡ first (fits self.panel self.entry self.wanted) (row self.panel y) }
+    {
+        for x in 1..=self.panel.width {
+            let c = Cell { x, y };
+            if self.fits(c) {
+                return Some(c);
+            }
         }
-        x += 1;
+        None
     }
-    Search::Nothing
-}
 
-// The first fit, rows from the top, each from the left.
-fn in_panel(p: Panel, entry: Cell, wanted: Cells) -> Search
-    requires good_sides { GoodSides p }
-    requires on_panel { OnPanel p entry }
-    ensures { result ≡ first (fits p entry wanted) (reading p) }
-{
-    let height = p.height;
-    let mut y: u32 = 1;
-    while y <= height {
-        let row = in_row(p, entry, wanted, y);
-        if let Search::At(c) = row {
-            return Search::At(c);
+    // The first fit, rows from the top, each from the left.
+    fn in_panel(self) -> Option<Cell>
+        ensures { result ≡ first (fits self.panel self.entry self.wanted) (reading self.panel) }
+    {
+        for y in 1..=self.panel.height {
+            if let Some(c) = self.in_row(y) {
+                return Some(c);
+            }
         }
-        y += 1;
+        None
     }
-    Search::Nothing
-}
 
-// The most cells that a track from the entry can have, by the colours alone.
-fn most_from(p: Panel, entry: Cell) -> u32
-    requires { GoodSides p }
-    ensures { result ≡ most p entry }
-{
-    let area = area_of(p) as u32;
-    if is_black(entry) {
-        2 * (area / 2)
-    } else {
-        area
+    // The most cells that a track from the entry can have, by the colours alone.
+    fn most(self) -> u32
+        ensures { result ≡ most self.panel self.entry }
+    {
+        let area = area_of(self.panel) as u32;
+        if is_black(self.entry) {
+            2 * (area / 2)
+        } else {
+            area
+        }
     }
-}
 
-// The first fit. Where the colours say that there is none, no cell is looked at.
-#[tactic(auto, using(crate::proofs::Most::none_above))]
-fn first_fit(p: Panel, entry: Cell, wanted: Cells) -> Search
-    requires good_sides { GoodSides p }
-    requires on_panel { OnPanel p entry }
-    ensures { result ≡ first_fit p entry wanted }
-{
-    if most_from(p, entry) < wanted.0 {
-        return Search::Nothing;
+    // The first fit. Where the colours say that there is none, no cell is looked at.
+    #[tactic(auto, using(crate::proofs::Most::none_above))]
+    fn first_fit(self) -> Option<Cell>
+        ensures { result ≡ first_fit self.panel self.entry self.wanted }
+    {
+        if self.most() < self.wanted.0 {
+            return None;
+        }
+        self.in_panel()
     }
-    in_panel(p, entry, wanted)
 }
 
 // The call.
-pub fn find_exit(p: Panel, entry: Cell, wanted: Cells) -> ExitAnswer
+pub fn find_exit(p: Panel, entry: Cell, wanted: Cells) -> Result<Cell, Refusal>
     ensures { Exits p entry wanted result }
 {
-    let checked = grid::check_entry(p, entry);
-    if let Check::Refused(r) = checked {
-        return ExitAnswer::Refused(r);
-    }
-    let found = first_fit(p, entry, wanted);
-    if let Search::At(c) = found {
-        return ExitAnswer::Given(c);
-    }
-    ExitAnswer::Refused(Refusal::NoExit)
+    check_entry(p, entry)?;
+    let search = Search {
+        panel: p,
+        entry,
+        wanted,
+    };
+    search.first_fit().ok_or(Refusal::NoExit)
 }

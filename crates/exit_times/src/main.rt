@@ -5,14 +5,13 @@
 // Exit and of a scan, in tenths of a nanosecond, the shortest of some turns, each with the turn's sum.
 #![tactic(auto)]
 
-use bound::bound_values;
-use exit::ExitAnswer;
-use grid::{Cell, Cells, Panel, area_of, panel_of};
+use bound::{BoundValues, bound};
+use exit::find_exit;
+use grid::{Cell, Cells, Order, Panel, panel_of};
 use std::io;
-use std::num::wrapping_add_u32;
 use std::time::CpuClock;
 use trial::PITCH;
-use trial::cells::{Tally, same, tallied};
+use trial::cells::{Tally, tallied};
 use trial::numbers::below;
 use trial::print::{row, tally};
 use trial::times::{
@@ -22,165 +21,180 @@ use trial::times::{
 // How many entries a case has.
 const ENTRIES: u32 = 64;
 
+#[derive(Clone, Copy, Debug, PartialEq, Eq)]
+enum Colour {
+    White = 0,
+    Black = 1,
+}
+
 // What is asked of every entry of a colour.
-#[derive(Clone, Copy)]
+#[derive(Clone, Copy, Debug, PartialEq, Eq)]
 struct Case {
     panel: Panel,
     wanted: Cells,
-    colour: u32,
+    colour: Colour,
 }
 
-// Stands for no cell.
-fn nothing() -> Cell {
-    Cell { x: 0, y: 0 }
-}
-
-// Entry i of a case: somewhere on its panel, in its colour.
-fn entry_of(c: Case, i: u32) -> Cell {
-    let k = i % ENTRIES;
-    let x = below(c.panel.width, 37 * k) % 128 + 1;
-    let y = below(c.panel.height / 2, 29 * k) % 64 * 2 + 1;
-    Cell {
-        x,
-        y: y + (x + y + c.colour % 2) % 2,
-    }
-}
-
-// ---- the scan
-
-fn is_exit(c: Case, entry: Cell, t: Cell) -> bool {
-    if same(entry, t) {
-        return false;
-    }
-    let b = bound_values(bound::bound(c.panel, entry, t));
-    c.wanted.0 <= b.count.0
-}
-
-// The cell that is read behind t.
-fn next(p: Panel, t: Cell) -> Cell {
-    if t.x < p.width {
-        return Cell { x: t.x + 1, y: t.y };
-    }
-    Cell {
-        x: 1,
-        y: wrapping_add_u32(t.y, 1),
-    }
-}
-
-fn scan(c: Case, entry: Cell) -> Cell {
-    let mut t = Cell { x: 1, y: 1 };
-    for _i in 0..area_of(c.panel) {
-        if is_exit(c, entry, t) {
-            return t;
-        }
-        t = next(c.panel, t);
-    }
-    nothing()
-}
-
-// ---- Exit
-
-fn ask(c: Case, entry: Cell) -> Cell {
-    match exit::find_exit(c.panel, entry, c.wanted) {
-        ExitAnswer::Refused(_) => nothing(),
-        ExitAnswer::Given(t) => t,
-    }
-}
-
-// ---- times
-
-fn answer(c: Case, i: u32, scanned: bool) -> Cell {
-    let entry = entry_of(c, i);
-    if scanned {
-        return scan(c, entry);
-    }
-    ask(c, entry)
-}
-
-// So many calls, of every entry in turn.
-fn timed(rt: &impl CpuClock, c: Case, calls: u32, scanned: bool) -> Turn {
-    let start = micros(rt);
-    let mut sum = 0;
-    for i in 0..calls {
-        let t = answer(c, i, scanned);
-        sum = wrapping_add_u32(sum, wrapping_add_u32(t.x, t.y));
-    }
-    turn_from(rt, start, sum)
-}
-
-// The calls of a turn that is long enough.
-fn calls_of(rt: &impl CpuClock, c: Case, scanned: bool) -> u32 {
-    let mut calls = ENTRIES;
-    for _k in 0..DOUBLED {
-        if long_enough(timed(rt, c, calls, scanned)) {
-            return calls;
-        }
-        calls = wrapping_add_u32(calls, calls);
-    }
-    calls
-}
-
-// The shortest turn.
-fn shortest(rt: &impl CpuClock, c: Case, calls: u32, scanned: bool) -> Turn {
-    let mut best = timed(rt, c, calls, scanned);
-    for _k in 1..TURNS {
-        best = shorter(best, timed(rt, c, calls, scanned));
-    }
-    best
-}
-
-// In tenths of a nanosecond.
-fn say_case(rt: &(impl CpuClock + Eprint), c: Case, scanned: bool) -> io::Result<()> {
-    let calls = calls_of(rt, c, scanned);
-    let t = shortest(rt, c, calls, scanned);
-    say_time(rt, each(t, calls), t.sum)?;
-    say(rt, b" ")
-}
-
-// ---- cases
-
-fn compared(c: Case) -> Tally {
-    let mut n = Tally {
-        given: 0,
-        none: 0,
-        wrong: 0,
-    };
-    for i in 0..ENTRIES {
-        n = tallied(n, answer(c, i, true), answer(c, i, false));
-    }
-    n
-}
-
-fn try_case(
-    rt: &(impl CpuClock + Eprint + Print),
-    m: u32,
-    n: u32,
-    wanted: u32,
-    colour: u32,
-) -> io::Result<()> {
-    let c = Case {
-        panel: panel_of(m, n, PITCH),
+// A case on a panel of the usual pitch.
+fn case_of(width: u32, height: u32, wanted: u32, colour: Colour) -> Case {
+    Case {
+        panel: panel_of(width, height, PITCH),
         wanted: Cells(wanted),
         colour,
-    };
-    row(rt, &[m, n, wanted, colour], b": ")?;
-    tally(rt, compared(c))?;
-    say_case(rt, c, false)?;
-    say_case(rt, c, true)?;
-    say(rt, b"\n")
+    }
+}
+
+// What stands for no cell where a cell is counted or added up.
+fn or_nothing(found: Option<Cell>) -> Cell {
+    found.unwrap_or(Cell { x: 0, y: 0 })
+}
+
+impl Case {
+    // Entry i: somewhere on the panel, in the case's colour.
+    fn entry(self, i: u32) -> Cell {
+        let k = i % ENTRIES;
+        let x = below(self.panel.width, 37 * k) % 128 + 1;
+        let y = below(self.panel.height / 2, 29 * k) % 64 * 2 + 1;
+        Cell {
+            x,
+            y: y + (x + y + self.colour as u32) % 2,
+        }
+    }
+
+    // Whether Bound says that a track from the entry to another cell has the wanted count.
+    fn is_exit(self, entry: Cell, t: Cell) -> bool {
+        let o = Order {
+            panel: self.panel,
+            entry,
+            exit: t,
+        };
+        entry != t && self.wanted.0 <= BoundValues::from(bound(o)).count.0
+    }
+
+    fn scan_row(self, entry: Cell, y: u32) -> Option<Cell> {
+        (1..=self.panel.width)
+            .map(|x| Cell { x, y })
+            .find(|&t| self.is_exit(entry, t))
+    }
+
+    // The plain scan.
+    fn scan(self, entry: Cell) -> Option<Cell> {
+        (1..=self.panel.height).find_map(|y| self.scan_row(entry, y))
+    }
+
+    // Exit.
+    fn ask(self, entry: Cell) -> Option<Cell> {
+        find_exit(self.panel, entry, self.wanted).ok()
+    }
+
+    // The scan's answers beside Exit's.
+    fn compared(self) -> Tally {
+        let mut n = Tally {
+            given: 0,
+            none: 0,
+            wrong: 0,
+        };
+        for i in 0..ENTRIES {
+            let entry = self.entry(i);
+            n = tallied(n, or_nothing(self.scan(entry)), or_nothing(self.ask(entry)));
+        }
+        n
+    }
+
+    // ---- times
+
+    // So many calls, of every entry in turn.
+    fn timed<F: Fn(Cell) -> Option<Cell>>(self, rt: &impl CpuClock, calls: u32, search: &F) -> Turn
+        requires { F.IsAlwaysCallable search.now }
+    {
+        let start = micros(rt);
+        let mut sum: u32 = 0;
+        for i in 0..calls {
+            let t = or_nothing(search(self.entry(i)));
+            sum = sum.wrapping_add(t.x.wrapping_add(t.y));
+        }
+        turn_from(rt, start, sum)
+    }
+
+    // The calls of a turn that is long enough.
+    fn calls<F: Fn(Cell) -> Option<Cell>>(self, rt: &impl CpuClock, search: &F) -> u32
+        requires { F.IsAlwaysCallable search.now }
+    {
+        let mut calls = ENTRIES;
+        for _k in 0..DOUBLED {
+            if long_enough(self.timed(rt, calls, search)) {
+                return calls;
+            }
+            calls = calls.wrapping_add(calls);
+        }
+        calls
+    }
+
+    // The shortest turn.
+    fn shortest<F: Fn(Cell) -> Option<Cell>>(
+        self,
+        rt: &impl CpuClock,
+        calls: u32,
+        search: &F,
+    ) -> Turn
+        requires { F.IsAlwaysCallable search.now }
+    {
+        let mut best = self.timed(rt, calls, search);
+        for _k in 1..TURNS {
+            best = shorter(best, self.timed(rt, calls, search));
+        }
+        best
+    }
+
+    // In tenths of a nanosecond.
+    fn say_times<F: Fn(Cell) -> Option<Cell>>(
+        self,
+        rt: &(impl CpuClock + Eprint),
+        search: F,
+    ) -> io::Result<()>
+        requires { F.IsAlwaysCallable search }
+    {
+        let calls = self.calls(rt, &search);
+        let t = self.shortest(rt, calls, &search);
+        say_time(rt, each(t, calls), t.sum)?;
+        say(rt, b" ")
+    }
+
+    fn tried(self, rt: &(impl CpuClock + Eprint + Print)) -> io::Result<()> {
+        row(
+            rt,
+            &[
+                self.panel.width,
+                self.panel.height,
+                self.wanted.0,
+                self.colour as u32,
+            ],
+            b": ",
+        )?;
+        tally(rt, self.compared())?;
+        self.say_times(rt, |entry| self.ask(entry))?;
+        self.say_times(rt, |entry| self.scan(entry))?;
+        say(rt, b"\n")
+    }
 }
 
 // A count that no cell fits, all cells, and one fewer; then panels of three columns and of three rows,
 // where the first fit may be far from the top.
 fn main(rt: HostRuntime) -> io::Result<()> {
-    try_case(&rt, 128, 128, 16385, 0)?;
-    try_case(&rt, 128, 128, 16384, 0)?;
-    try_case(&rt, 128, 128, 16383, 0)?;
-    try_case(&rt, 127, 127, 16130, 0)?;
-    try_case(&rt, 127, 127, 16129, 1)?;
-    try_case(&rt, 127, 127, 16129, 0)?;
-    try_case(&rt, 127, 127, 16128, 1)?;
-    try_case(&rt, 127, 127, 16128, 0)?;
-    try_case(&rt, 3, 128, 384, 0)?;
-    try_case(&rt, 128, 3, 384, 0)
+    let cases = [
+        case_of(128, 128, 16385, Colour::White),
+        case_of(128, 128, 16384, Colour::White),
+        case_of(128, 128, 16383, Colour::White),
+        case_of(127, 127, 16130, Colour::White),
+        case_of(127, 127, 16129, Colour::Black),
+        case_of(127, 127, 16129, Colour::White),
+        case_of(127, 127, 16128, Colour::Black),
+        case_of(127, 127, 16128, Colour::White),
+        case_of(3, 128, 384, Colour::White),
+        case_of(128, 3, 384, Colour::White),
+    ];
+    for c in cases {
+        c.tried(&rt)?;
+    }
+    Ok(())
 }

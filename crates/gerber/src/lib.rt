@@ -16,6 +16,7 @@ pub const HEAD: usize = 49;
 const HEAD_TEXT: [u8; HEAD] = *b"%FSLAX46Y46*%\n%MOMM*%\n%ADD10C,0.0000*%\nD10*\nG01*\n";
 
 // The digits of half the pitch in ten-thousandths of a millimetre go where the text has zeros.
+#[tactic(auto, unfolding(crate::specs::Layer::head_of))]
 pub fn head_of(p: Panel) -> [u8; HEAD]
     requires { GoodPanel p }
     ensures { result ≡ head_of p }
@@ -59,8 +60,6 @@ pub fn plot_y(p: Panel, c: Cell) -> u32
 pub fn is_straight(a: Cell, b: Cell, c: Cell) -> bool
     ensures { result ≡ straight a b c }
 {
-    if (a.x as u64) + (c.x as u64) == 2 * (b.x as u64) {
-        return (a.y as u64) + (c.y as u64) == 2 * (b.y as u64);
-    }
-    false
+    u64::from(a.x) + u64::from(c.x) == 2 * u64::from(b.x)
+        && u64::from(a.y) + u64::from(c.y) == 2 * u64::from(b.y)
 }

@@ -6,21 +6,22 @@ use native.Mathlib.Omega.{arith}
 use lib.ListN.{length, drop, set, length-append, length-set}
 use Rattle.grid.specs.declared.Panel.{Panel}
 use Rattle.grid.specs.declared.Cell.{Cell}
-use Rattle.grid.specs.Panel.{GoodPanel, OnPanel}
+use Rattle.grid.specs.Panel.{area, OnPanel}
 use Rattle.grid.specs.Bytes.{bytes}
 use Rattle.grid.proofs.Bytes.{bytes_append, length_bytes}
 use Rattle.grid.proofs.Facts.{clash, on}
 use Rattle.list.specs.List.{with_cells}
 use Rattle.text.specs.Put.{put, Put}
-use Rattle.text.proofs.Puts.{put_one, put_none, put_both, length_put, Parts, room_first, room, puts_both}
+use Rattle.text.proofs.Puts.{put_one, Parts, room_first, room, puts_both}
+use Rattle.gerber_trace.specs.declared.Target.{Target}
 use Rattle.gerber_trace.specs.declared.Trace.{Trace}
-use Rattle.gerber_trace.specs.declared.Advance.{Advance}
-use Rattle.gerber_trace.specs.declared.Advance.TheVariants.{Other, End, To}
-use Rattle.gerber_trace.specs.Trace.{Next, Found, next_of, step_of, follow, in_front, cells_behind, cells_from}
-use Rattle.gerber_trace.specs.Trace.Aim.{cell_and}
+use Rattle.std.specs.Prelude.{Option, None, Some}
+use Rattle.std.specs.Option.{option_flatten}
+use Rattle.gerber_trace.specs.Trace.{Next, Found, next_of, step_of, follow, in_front, cells_behind}
 use Rattle.gerber_trace.specs.Trace.Found.{none, cells}
 use Rattle.gerber_trace.proofs.RoundTrip.{front_found, next_on}
-use Rattle.gerber_read.specs.Read.{start_at, found_list, found_size, cells_ahead, Writable}
+use Rattle.gerber_read.specs.declared.Start.{Start}
+use Rattle.gerber_read.specs.Read.{start_at, found_list, found_size, size_of, cells_ahead, led, Starts}
 
 -- the cells behind the one that a trace has come to, in at most k steps
 abbrev pub cells_within : Panel → ℕ → List ℕ → Trace → Found
@@ -32,54 +33,68 @@ next_for p file t = next_of p t.before t.at t.goal (drop t.next file)
 
 -- ---- a step
 
-module _ (p : Panel) (file : List ℕ) (t : Trace) {m : Advance} (e : step_of file m ≡ next_for p file t) where
-  stepped : (k : ℕ) {n : Advance} → m ≡ n → cells_within p (suc k) file t ≡ follow (step_of file n) (cells_behind p k)
+module _ (p : Panel) (file : List ℕ) (t : Trace) {m : Option (Option Trace)} (e : step_of file m ≡ next_for p file t) where
+  stepped : (k : ℕ) {n : Option (Option Trace)} → m ≡ n → cells_within p (suc k) file t ≡ follow (step_of file n) (cells_behind p k)
   stepped k q = ap (λ (n : Next). follow n (cells_behind p k)) (sym e ∙ ap (step_of file) q)
 
-  pub none_ahead : (k : ℕ) → m ≡ Other → cells_within p (suc k) file t ≡ none
+  pub none_ahead : (k : ℕ) → m ≡ None → cells_within p (suc k) file t ≡ none
   none_ahead k q = stepped k q
 
-  pub end_ahead : (k : ℕ) → m ≡ End → cells_within p (suc k) file t ≡ cells []
+  pub end_ahead : (k : ℕ) → m ≡ Some None → cells_within p (suc k) file t ≡ cells []
   end_ahead k q = stepped k q
 
-  pub one_ahead : (k : ℕ) {u : Trace} → m ≡ To u → cells_within p (suc k) file t ≡ in_front u.at (cells_within p k file u)
+  pub one_ahead : (k : ℕ) {u : Trace} → m ≡ Some (Some u) → cells_within p (suc k) file t ≡ in_front u.at (cells_within p k file u)
   one_ahead k q = stepped k q
 
-  pub ahead_on : {u : Trace} → m ≡ To u → OnPanel p u.at
+  pub ahead_on : {u : Trace} → m ≡ Some (Some u) → OnPanel p u.at
   ahead_on q = on p _ (next_on p t.before t.at t.goal (drop t.next file) (sym e ∙ ap (step_of file) q))
+
+-- a step that leads on
+pub leads_on : (m : Option (Option Trace)) {u : Trace} → option_flatten m ≡ Some u → m ≡ Some (Some u)
+leads_on None e = clash (cc)
+leads_on (Some o) e = ap Some e
 
 -- ---- how many
 
 -- so many cells and those found; none if none are
-abbrev pub size_on : ℕ → Found → ℕ
-size_on k none = 0
-size_on k (cells l) = k + length l
+abbrev pub size_on : ℕ → Found → Option ℕ
+size_on k none = None
+size_on k (cells l) = Some (k + length l)
 
-pub size_front : (c : Cell) (f : Found) → found_size (in_front c f) ≡ size_on 1 f
+size_front : (c : Cell) (f : Found) → size_on 1 f ≡ size_of (in_front c f)
 size_front c none = refl
-size_front c (cells l) = omega arith
+size_front c (cells l) = let e : 1 + length l ≡ length (c ∷ l) = omega arith in ap Some e
 
-pub size_next : (k : ℕ) (c : Cell) (f : Found) → size_on k (in_front c f) ≡ size_on (k + 1) f
+size_next : (k : ℕ) (c : Cell) (f : Found) → size_on (k + 1) f ≡ size_on k (in_front c f)
 size_next k c none = refl
-size_next k c (cells l) = omega arith
+size_next k c (cells l) = let e : k + 1 + length l ≡ k + length (c ∷ l) = omega arith in ap Some e
 
--- with k cells behind a trace, of at most n on the panel: the steps that are left
-steps_left : (p : Panel) (file : List ℕ) (t : Trace) (n k : ℕ) → k ≤ n → cells_within p (n + 1 - k) file t ≡ cells_within p (suc (n - k)) file t
-steps_left p file t n k h = let s : n + 1 - k ≡ suc (n - k) = omega arith in ap (λ (j : ℕ). cells_within p j file t) s
+-- those behind the first cell and that one are all cells
+pub all_counted : (p : Panel) (file : List ℕ) (first : Target) {t : Trace} {v : Option ℕ} → t ≡ start_at first.cell first.next
+    → v ≡ size_on 1 (cells_within p (area p) file t) → v ≡ size_of (led p file first)
+all_counted p file first begin e =
+    e
+    ∙ ap (λ (t : Trace). size_on 1 (cells_within p (area p) file t)) begin
+    ∙ size_front first.cell (cells_within p (area p) file (start_at first.cell first.next))
 
-module _ (p : Panel) (file : List ℕ) (t : Trace) {m : Advance} (e : step_of file m ≡ next_for p file t) (n k : ℕ) (h : k ≤ n) where
-  pub counts_none : m ≡ Other → 0 ≡ size_on k (cells_within p (n + 1 - k) file t)
-  counts_none q = sym (ap (size_on k) (steps_left p file t n k h ∙ none_ahead p file t e (n - k) q))
+-- with i cells behind the first one, of at most n on the panel, the steps that are left
+steps_left : (p : Panel) (file : List ℕ) (t : Trace) (n i : ℕ) → i < n → cells_within p (n - i) file t ≡ cells_within p (suc (n - (i + 1))) file t
+steps_left p file t n i h = let s : n - i ≡ suc (n - (i + 1)) = omega arith in ap (λ (j : ℕ). cells_within p j file t) s
 
-  pub counts_end : m ≡ End → k ≡ size_on k (cells_within p (n + 1 - k) file t)
-  counts_end q = let z : k ≡ k + 0 = omega arith in z ∙ sym (ap (size_on k) (steps_left p file t n k h ∙ end_ahead p file t e (n - k) q))
+module _ (p : Panel) (file : List ℕ) (t : Trace) {m : Option (Option Trace)} (e : step_of file m ≡ next_for p file t) (n i : ℕ) (h : i < n) where
+  pub counts_none : m ≡ None → None ≡ size_on (i + 1) (cells_within p (n - i) file t)
+  counts_none q = sym (ap (size_on (i + 1)) (steps_left p file t n i h ∙ none_ahead p file t e (n - (i + 1)) q))
 
-  pub counts_on : {u : Trace} → m ≡ To u → size_on (k + 1) (cells_within p (n + 1 - (k + 1)) file u) ≡ size_on k (cells_within p (n + 1 - k) file t)
+  pub counts_end : m ≡ Some None → Some (i + 1) ≡ size_on (i + 1) (cells_within p (n - i) file t)
+  counts_end q =
+      let z : i + 1 ≡ i + 1 + 0 = omega arith in
+      ap Some z ∙ sym (ap (size_on (i + 1)) (steps_left p file t n i h ∙ end_ahead p file t e (n - (i + 1)) q))
+
+  pub counts_on : {u : Trace} → m ≡ Some (Some u)
+      → size_on (i + 1 + 1) (cells_within p (n - (i + 1)) file u) ≡ size_on (i + 1) (cells_within p (n - i) file t)
   counts_on {u} q =
-      let s : n + 1 - (k + 1) ≡ n - k = omega arith in
-      ap (λ (j : ℕ). size_on (k + 1) (cells_within p j file u)) s
-      ∙ sym (size_next k u.at (cells_within p (n - k) file u))
-      ∙ sym (ap (size_on k) (steps_left p file t n k h ∙ one_ahead p file t e (n - k) q))
+      size_next (i + 1) u.at (cells_within p (n - (i + 1)) file u)
+      ∙ sym (ap (size_on (i + 1)) (steps_left p file t n i h ∙ one_ahead p file t e (n - (i + 1)) q))
 
 -- ---- which
 
@@ -106,19 +121,6 @@ pub record Written (p : Panel) (file : List ℕ) (whole : List Cell) (old : List
   pub put : Put old from (bytes done) list j
   pub on : OnPanel p t.at
 
--- at first none is written
-pub written_none : (p : Panel) (file : List ℕ) (whole : List Cell) (old : List ℕ) (from : ℕ) (t : Trace) (n : ℕ) → OnPanel p t.at
-    → cells_within p n file t ≡ cells whole → from + 2 * length whole ≤ length old → Written p file whole old from old t from
-written_none p file whole old from t n o f fits = record {
-  done = [];
-  rest = whole;
-  steps = n;
-  ahead = f;
-  parts = record { joined = refl; fits = omega (arith, length_bytes whole) };
-  put = record { bytes = put_none old from; end = omega arith };
-  on = o;
-}
-
 -- cells are found in one step or more
 more_steps : (p : Panel) (file : List ℕ) (t : Trace) (n : ℕ) {l : List Cell} → cells_within p n file t ≡ cells l
     → (k : ℕ) × (cells_within p (suc k) file t ≡ cells l)
@@ -140,9 +142,6 @@ module _ {p : Panel} {file : List ℕ} {whole : List Cell} {old : List ℕ} {fro
         length_bytes whole,
       )
 
-  pub written_size : length list ≡ length old
-  written_size = ap length w.put.bytes ∙ length_put old from (bytes w.done) (room_first w.parts)
-
   -- all cells are written
   pub written_all : from + 2 * length whole ≤ j → list ≡ put old from (bytes whole)
   written_all h =
@@ -153,21 +152,21 @@ module _ {p : Panel} {file : List ℕ} {whole : List Cell} {old : List ℕ} {fro
       ∙ ap (put old from) w.parts.joined
 
   -- a step on from there
-  module _ {m : Advance} (e : step_of file m ≡ next_for p file t) where
-    pub written_lost : m ≡ Other → ⊥
+  module _ {m : Option (Option Trace)} (e : step_of file m ≡ next_for p file t) where
+    written_lost : m ≡ None → ⊥
     written_lost q =
         let (k, f) = more_steps p file t w.steps w.ahead in
         let g : none ≡ cells w.rest = sym (none_ahead p file t e k q) ∙ f in
         clash (cc)
 
-    pub written_ended : m ≡ End → from + 2 * length whole ≤ j
+    written_ended : m ≡ Some None → from + 2 * length whole ≤ j
     written_ended q =
         let (k, f) = more_steps p file t w.steps w.ahead in
         let g : cells [] ≡ cells w.rest = sym (end_ahead p file t e k q) ∙ f in
         let nil : [] ≡ w.rest = cc in
         omega (arith, written_place, ap length nil)
 
-    module _ {u : Trace} (q : m ≡ To u) where
+    module _ {u : Trace} (q : m ≡ Some (Some u)) where
       -- the next cell is the first of those that are left
       next_cell : (k : ℕ) × (l : List Cell) × (cells_within p k file u ≡ cells l) × (u.at ∷ l ≡ w.rest)
       next_cell =
@@ -201,50 +200,46 @@ module _ {p : Panel} {file : List ℕ} {whole : List Cell} {old : List ℕ} {fro
             on = ahead_on p file t e q;
           }
 
+-- none are left where no step leads on
+pub written_stopped : {p : Panel} {file : List ℕ} {whole : List Cell} {old : List ℕ} {from : ℕ} {list : List ℕ} {t : Trace} {j : ℕ}
+    → Written p file whole old from list t j → (m : Option (Option Trace)) → step_of file m ≡ next_for p file t → option_flatten m ≡ None
+    → from + 2 * length whole ≤ j
+written_stopped w None e q = absurd (written_lost w e refl)
+written_stopped w (Some None) e q = written_ended w e refl
+written_stopped w (Some (Some u)) e q = clash (cc)
+
 -- ---- the first cell, and the cells behind it
 
 front_some : (s : Cell) (f : Found) → 1 ≤ found_size (in_front s f) → (l : List Cell) × (f ≡ cells l) × (s ∷ l ≡ found_list (in_front s f))
 front_some s none h = absurd (omega arith)
 front_some s (cells l) h = (l, refl, refl)
 
--- of a layer whose first cell is s there are n cells, one or more
-module _ (p : Panel) (s : Cell) (file : List ℕ) (next n : ℕ) (size : n ≡ found_size (cells_from p (cell_and s (drop next file)))) (some : 1 ≤ n) where
-  abbrev behind : Found
-  behind = cells_ahead p file (start_at s next)
+-- of a list whose first cell is put into the buffer
+module _ {p : Panel} {file : List ℕ} {s : Start} (w : Starts p file s) (old : List ℕ) (room : 2 * s.count ≤ length old) where
+  abbrev whole : List Cell
+  whole = found_list (led p file s.first)
 
-  rest : (l : List Cell) × (behind ≡ cells l) × (s ∷ l ≡ found_list (in_front s behind))
-  rest = front_some s behind (omega arith)
-
-  pub writable : GoodPanel p → OnPanel p s → {list : List ℕ} → 2 * n ≤ length list → {t : Trace} → t ≡ start_at s next
-      → Writable p file t list 2 (2 * n)
-  writable g o {list} fits e =
-      let (l, f, is) = rest in
-      let found : found_list behind ≡ l = ap found_list f in
-      subst⁻¹ (λ (t : Trace). Writable p file t list 2 (2 * n)) e
+  pub written_first : {t : Trace} {list : List ℕ} → t ≡ start_at s.first.cell s.first.next
+      → list ≡ set (set old 0 t.at.x) 1 t.at.y → Written p file whole old 0 list t 2
+  written_first {t} {list} e f =
+      let (l, found, is) = front_some s.first.cell (cells_ahead p file (start_at s.first.cell s.first.next)) (omega (arith, w.size, w.some)) in
+      let c = s.first.cell in
+      let begin : list ≡ set (set old 0 c.x) 1 c.y = f ∙ ap (λ (u : Trace). set (set old 0 u.at.x) 1 u.at.y) e in
+      let fits : 0 + length (bytes whole) ≤ length old = omega (arith, length_bytes whole, w.size) in
+      let put = cell_put old 0 c (omega (arith, w.some)) in
       record {
-        panel = g;
-        on = o;
-        ahead = f ∙ ap cells (sym found);
-        size = omega (arith, ap length found, ap length is);
-        fits = fits;
+        done = c ∷ [];
+        rest = l;
+        steps = area p;
+        ahead = ap (cells_within p (area p) file) e ∙ found;
+        parts = record { joined = ap bytes is; fits = fits };
+        put = record { bytes = begin ∙ put.bytes; end = put.end };
+        on = subst⁻¹ (λ (u : Trace). OnPanel p u.at) e w.on;
       }
 
-  -- what is written in front and behind it
-  pub all_written : (old : List ℕ) {mid new : List ℕ} {t : Trace} → 2 * n ≤ length old
-      → mid ≡ set (set old 0 s.x) 1 s.y → t ≡ start_at s next
-      → new ≡ put mid 2 (bytes (found_list (cells_ahead p file t))) → new ≡ with_cells (found_list (cells_from p (cell_and s (drop next file)))) old
+  -- behind the last cell they are all there
+  pub all_written : {list : List ℕ} {t : Trace} {j : ℕ} → Written p file whole old 0 list t j → 2 * s.count ≤ j → list ≡ with_cells whole old
   unfolding put
-  all_written old {mid} {new} {t} fits e q h =
-      let (l, f, is) = rest in
-      let found : found_list (cells_ahead p file t) ≡ l = ap (λ (t : Trace). found_list (cells_ahead p file t)) q ∙ ap found_list f in
-      let whole = s ∷ l in
-      let room : 0 + length (bytes whole) ≤ length old = omega (arith, length_bytes l, ap length is) in
-      let first = cell_put old 0 s (omega (arith, ap length is)) in
-      let both = put_both old 0 (bytes (s ∷ [])) (bytes l) room in
-      let size : 0 + length (bytes whole) ≡ 2 * length whole = omega (arith, length_bytes whole) in
-      h
-      ∙ (λ i. put (e i) 2 (bytes (found i)))
-      ∙ ap (λ (b : List ℕ). put b 2 (bytes l)) first.bytes
-      ∙ both
-      ∙ ap (λ (k : ℕ). bytes whole ++ drop k old) size
-      ∙ ap (λ (k : List Cell). with_cells k old) is
+  all_written f h =
+      written_all f (omega (arith, w.size))
+      ∙ ap (λ (k : ℕ). bytes whole ++ drop k old) (omega (arith, length_bytes whole))

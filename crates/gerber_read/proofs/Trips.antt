@@ -1,5 +1,7 @@
 -- Both ways, for the calls' promises: reading what was written gives the list back (`reads_back`), and an accepted input is the layer that
 -- the writer makes of the list read (`writes_back`). So two lists never share a layer (`one_list` in Layers.antt).
+use Rattle.std.specs.Prelude.{Result, Ok, Err}
+use Rattle.grid.specs.declared.Refusal.{Refusal}
 use Prim.Native.Nat.{ℕ, ◌*◌, ◌≤◌}
 use mathlib.Core.Path.{◌≡◌, refl, sym, ap, ap₂, ◌∙◌}
 use mathlib.Core.List.{List, ◌++◌}
@@ -10,13 +12,9 @@ use borrow.Author.Tests.{le-leb}
 use Rattle.grid.specs.declared.Panel.{Panel}
 use Rattle.grid.specs.declared.Cell.{Cell}
 use Rattle.grid.specs.declared.Cells.{Cells}
-use Rattle.grid.specs.declared.Check.{Check}
-use Rattle.grid.specs.declared.Check.TheVariants.{Good}
 use Rattle.grid.specs.declared.Refusal.TheVariants.{UnknownByte}
-use Rattle.grid.specs.declared.CellsAnswer.{CellsAnswer}
-use Rattle.grid.specs.declared.BytesAnswer.{BytesAnswer}
 use Rattle.grid.specs.Bytes.{bytes, cells_in}
-use Rattle.grid.specs.Check.{answer, check_panel}
+use Rattle.grid.specs.Check.{Check, answer, check_panel}
 use Rattle.grid.specs.Answer.{cells_answer, bytes_values}
 use Rattle.grid.proofs.Answers.{cells_good}
 use Rattle.grid.proofs.Bytes.{length_bytes, cells_bytes}
@@ -35,13 +33,13 @@ use Rattle.gerber_read.specs.Read.Layer.{of, other}
 use Rattle.gerber_read.proofs.Layers.{one_list}
 
 -- what the writer makes is the layer of the list
-module _ (p : Panel) (list scratch out : List ℕ) (e : check_layer p list scratch out ≡ Good) where
-  made : (layer_answer p list scratch out ≡ BytesAnswer.Given (length (layer_bytes p list))) × (layer_made p list scratch out ≡ layer_bytes p list)
+module _ (p : Panel) (list scratch out : List ℕ) (e : check_layer p list scratch out ≡ Ok tt) where
+  made : (layer_answer p list scratch out ≡ Ok (length (layer_bytes p list))) × (layer_made p list scratch out ≡ layer_bytes p list)
   made =
-      let a : layer_answer p list scratch out ≡ BytesAnswer.Given (length (layer_bytes p list)) = sym (answer_good _ _ e refl) in
+      let a : layer_answer p list scratch out ≡ Ok (length (layer_bytes p list)) = sym (answer_good _ _ e refl) in
       let b : layer_buffer p list scratch out ≡ layer_bytes p list ++ drop (length (layer_bytes p list)) out = sym (answer_good _ _ e refl) in (
         a,
-        ap₂ (λ (w : BytesAnswer) (o : List ℕ). take (bytes_values w).bytes o) a b ∙ take_at (layer_bytes p list) _ _ refl,
+        ap₂ (λ (w : Result ℕ Refusal) (o : List ℕ). take (bytes_values w).bytes o) a b ∙ take_at (layer_bytes p list) _ _ refl,
       )
 
   -- the list is its cells, and they are what the layer is made of
@@ -51,23 +49,23 @@ module _ (p : Panel) (list scratch out : List ℕ) (e : check_layer p list scrat
   made_of : LayerOf p (layer_made p list scratch out) (cells_in list)
   made_of = record { taken = ap (check_list p) back ∙ after_passed (check_list p list) _ e; same = sym made.1 }
 
-module _ (p : Panel) (old : List ℕ) {new : List ℕ} {r : CellsAnswer} where
+module _ (p : Panel) (old : List ℕ) {new : List ℕ} {r : Result Cells Refusal} where
   -- what the reader gives where the file is the layer of a list for which there is room
   reads : {file : List ℕ} {l : List Cell} (f : Layer p file) → LayerOf p file l → 2 * length l ≤ length old
       → r ≡ cells_answer (check_reader p f old) (length (list_in f)) → new ≡ answer (check_reader p f old) (λ c. old) (with_cells (list_in f) old)
-      → (r ≡ CellsAnswer.Given (record { 0 = length l })) × (new ≡ with_cells l old)
+      → (r ≡ Ok (record { 0 = length l })) × (new ≡ with_cells l old)
   reads {l = l} (of k h) g room a b =
       let same = one_list h g in
       let fits = le-leb (2 * length k) (length old) (omega (arith, ap length same)) in
-      let good : check_reader p (of k h) old ≡ Good = sym (after_good _ (after_passed (check_panel p) _ h.taken) (expect_yes _ _ fits refl)) in (
-        a ∙ sym (answer_good _ _ good refl) ∙ ap (λ (m : List Cell). CellsAnswer.Given (record { 0 = length m })) same,
+      let good : check_reader p (of k h) old ≡ Ok tt = sym (after_good _ (after_passed (check_panel p) _ h.taken) (expect_yes _ _ fits refl)) in (
+        a ∙ sym (answer_good _ _ good refl) ∙ ap (λ (m : List Cell). Ok (record { 0 = length m })) same,
         b ∙ sym (answer_good _ _ good refl) ∙ ap (λ (m : List Cell). with_cells m old) same,
       )
   reads {l = l} (other n) g room a b = absurd (n l g)
 
-pub reads_back : (p : Panel) (list scratch out old : List ℕ) {new : List ℕ} {r : CellsAnswer} → check_layer p list scratch out ≡ Good
+pub reads_back : (p : Panel) (list scratch out old : List ℕ) {new : List ℕ} {r : Result Cells Refusal} → check_layer p list scratch out ≡ Ok tt
     → length list ≤ length old → ReadsLayer p (layer_made p list scratch out) old new r
-    → (r ≡ CellsAnswer.Given (record { 0 = length (cells_in list) })) × (new ≡ list ++ drop (length list) old)
+    → (r ≡ Ok (record { 0 = length (cells_in list) })) × (new ≡ list ++ drop (length list) old)
 reads_back p list scratch out old e room f =
     let is = back p list scratch out e in
     let size : 2 * length (cells_in list) ≡ length list = sym (length_bytes (cells_in list)) ∙ ap length is in
@@ -76,7 +74,7 @@ reads_back p list scratch out old e room f =
 
 -- what the reader takes is the layer of the list that it gives
 module _ (p : Panel) (old : List ℕ) {new : List ℕ} {k : Cells} where
-  taken : {file : List ℕ} (f : Layer p file) → CellsAnswer.Given k ≡ cells_answer (check_reader p f old) (length (list_in f))
+  taken : {file : List ℕ} (f : Layer p file) → Ok k ≡ cells_answer (check_reader p f old) (length (list_in f))
       → new ≡ answer (check_reader p f old) (λ c. old) (with_cells (list_in f) old)
       → (l : List Cell) × LayerOf p file l × (take (2 * k.0) new ≡ bytes l)
   taken (of l h) a b =
@@ -85,19 +83,19 @@ module _ (p : Panel) (old : List ℕ) {new : List ℕ} {k : Cells} where
       (l, h, ap (take (2 * k.0)) list ∙ take_at (bytes l) _ (2 * k.0) (omega (arith, length_bytes l)))
   taken (other n) a b =
       let (good, size) = cells_good (check_reader p (other n) old) 0 k (sym a) in
-      let c : Check.Refused UnknownByte ≡ Good = after_rest (check_panel p) _ good in
+      let c : ◌≡◌ {A = Check} (Err UnknownByte) (Ok tt) = after_rest (check_panel p) _ good in
       clash (cc)
 
-pub writes_back : (p : Panel) (file old scratch out : List ℕ) {new : List ℕ} {k : Cells} → ReadsLayer p file old new (CellsAnswer.Given k)
+pub writes_back : (p : Panel) (file old scratch out : List ℕ) {new : List ℕ} {k : Cells} → ReadsLayer p file old new (Ok k)
     → digit_room ≤ length scratch → length file ≤ length out
-    → (layer_answer p (take (2 * k.0) new) scratch out ≡ BytesAnswer.Given (length file)) × (layer_made p (take (2 * k.0) new) scratch out ≡ file)
+    → (layer_answer p (take (2 * k.0) new) scratch out ≡ Ok (length file)) × (layer_made p (take (2 * k.0) new) scratch out ≡ file)
 writes_back p file old scratch out {new} {k} f digits room =
     let (l, h, list) = taken p old f.found f.gives.answers f.buffer in
     let layer : layer_bytes p (bytes l) ≡ file = ap (layer_of p) (cells_bytes l) ∙ h.same in
     let enough = le-leb (length (layer_bytes p (bytes l))) (length out) (omega (arith, ap length layer)) in
     let fits = and_both (le-leb digit_room (length scratch) digits) enough in
-    let good : check_layer p (bytes l) scratch out ≡ Good = sym (after_good _ h.taken (expect_yes _ _ fits refl)) in
+    let good : check_layer p (bytes l) scratch out ≡ Ok tt = sym (after_good _ h.taken (expect_yes _ _ fits refl)) in
     let (given, is) = made p (bytes l) scratch out good in (
-      ap (λ (b : List ℕ). layer_answer p b scratch out) list ∙ given ∙ ap (λ (b : List ℕ). BytesAnswer.Given (length b)) layer,
+      ap (λ (b : List ℕ). layer_answer p b scratch out) list ∙ given ∙ ap (λ (b : List ℕ). Ok (length b)) layer,
       ap (λ (b : List ℕ). layer_made p b scratch out) list ∙ is ∙ layer,
     )

@@ -16,12 +16,10 @@ ghost use Rattle.std.specs.Prelude.{◌<◌, ◌≤◌, length, IfOk};
 
 use gerber_read::read_layer;
 use gerber_write::write_layer;
-use grid::{BytesAnswer, Panel, cells_values, number_of, panel_of};
+use grid::{Panel, Refusal, panel_of};
 use line_input::read_full;
 use std::io;
-use std::num::wrapping_add_u32;
-use trial::cells::{fill, filled, snake};
-use trial::numbers::one_less;
+use trial::cells::{filled, snake};
 use trial::print::{row, text};
 
 // What buffers and scratch are filled with before a call.
@@ -51,57 +49,43 @@ const WORDS: usize = 72;
 // The refusal's number that is printed of a call that was not made.
 const NOT_MADE: u32 = 999;
 
-// More than the files that are tried with one length.
-const OTHER: u32 = 1000000;
+// What came of a call: the bytes or the cells that it gave, or its refusal; none if it was not made.
+type Outcome = Option<Result<u32, Refusal>>;
 
-// The number of the refusal and the bytes or the cells.
-#[derive(Clone, Copy)]
-struct Answer {
-    refusal: u32,
-    count: u32,
+fn number_of(a: Outcome) -> u32 {
+    match a {
+        None => NOT_MADE,
+        Some(Err(r)) => u32::from(r),
+        Some(Ok(_)) => 0,
+    }
 }
 
-fn show(rt: &impl Print, a: Answer, sum: u32, kept: bool) -> io::Result<()> {
-    text(rt, b" | ")?;
-    row(rt, &[a.refusal, a.count, sum], b" ")?;
-    if kept {
-        text(rt, b"kept")
-    } else {
-        text(rt, b"FAULT")
+// The bytes or the cells; a call that gave none counts as 0.
+fn count_of(a: Outcome) -> u32 {
+    match a {
+        Some(Ok(k)) => k,
+        _ => 0,
     }
+}
+
+fn show(rt: &impl Print, a: Outcome, sum: u32, kept: bool) -> io::Result<()> {
+    text(rt, b" | ")?;
+    row(rt, &[number_of(a), count_of(a), sum], b" ")?;
+    text(rt, if kept { b"kept" } else { b"FAULT" })
 }
 
 // A digit of base 256 more, modulo the largest prime of 32 bits.
 fn sum_on(n: u32, b: u8) -> u32 {
-    ((256 * (n as u64) + (b as u64)) % 4294967291) as u32
+    ((256 * u64::from(n) + u64::from(b)) % 4294967291) as u32
 }
 
 fn sum(s: &[u8]) -> u32 {
-    let mut n = 0;
-    let mut i = 0;
-    while i < s.len() {
-        n = sum_on(n, s[i]);
-        i += 1;
-    }
-    n
+    s.iter().fold(0, |n, &b| sum_on(n, b))
 }
 
 // The checksum of the first k bytes.
 fn sum_front(s: &[u8], k: usize) -> u32 {
-    if k <= s.len() { sum(&s[0..k]) } else { 0 }
-}
-
-fn answer_of(a: BytesAnswer) -> Answer {
-    match a {
-        BytesAnswer::Refused(r) => Answer {
-            refusal: number_of(r),
-            count: 0,
-        },
-        BytesAnswer::Given(k) => Answer {
-            refusal: 0,
-            count: k,
-        },
-    }
+    s.get(..k).map_or(0, sum)
 }
 
 // Writes with the first `digits` bytes of scratch and the first `room` of the buffer.
@@ -112,44 +96,27 @@ fn write_into(
     digits: usize,
     out: &mut [u8],
     room: usize,
-) -> Answer {
-    if digits <= scratch.len() {
-        if room <= out.len() {
-            return answer_of(write_layer(p, list, &mut scratch[0..digits], &mut out[0..room]));
-        }
-    }
-    Answer {
-        refusal: NOT_MADE,
-        count: 0,
-    }
+) -> Outcome {
+    let scratch = scratch.get_mut(..digits)?;
+    let out = out.get_mut(..room)?;
+    Some(write_layer(p, list, scratch, out))
 }
 
 // Reads the first k bytes of a file into the first `room` bytes of the buffer.
-fn read_into(p: Panel, file: &[u8], k: usize, list: &mut [u8], room: usize) -> Answer {
-    if k <= file.len() {
-        if room <= list.len() {
-            let v = cells_values(read_layer(p, &file[0..k], &mut list[0..room]));
-            return Answer {
-                refusal: v.refusal,
-                count: v.cells.0,
-            };
-        }
-    }
-    Answer {
-        refusal: NOT_MADE,
-        count: 0,
-    }
+fn read_into(p: Panel, file: &[u8], k: usize, list: &mut [u8], room: usize) -> Outcome {
+    let file = file.get(..k)?;
+    let list = list.get_mut(..room)?;
+    Some(read_layer(p, file, list).map(|cells| cells.0))
 }
 
 // Whether scratch and the bytes behind the k written are as promised.
 fn stays(scratch: &[u8], out: &[u8], k: usize) -> bool {
-    if !filled(out, k, FILL) {
-        return false;
-    }
-    if k == 0 {
-        return filled(scratch, 0, FILL);
-    }
-    scratch == CLEARED.as_slice()
+    let scratch_stays = if k == 0 {
+        filled(scratch, 0, FILL)
+    } else {
+        scratch == CLEARED.as_slice()
+    };
+    filled(out, k, FILL) && scratch_stays
 }
 
 // Writes so, with all bytes filled before, and prints what came of it. The bytes written.
@@ -161,10 +128,10 @@ fn write_in(
     out: &mut [u8],
     room: usize,
 ) -> io::Result<usize> {
-    fill(out, FILL);
+    out.fill(FILL);
     let mut scratch = [FILL; SCRATCH];
     let a = write_into(p, list, &mut scratch, digits, out, room);
-    let k = a.count as usize;
+    let k = count_of(a) as usize;
     show(rt, a, sum_front(out, k), stays(&scratch, out, k))?;
     Ok(k)
 }
@@ -178,57 +145,36 @@ fn read_in(
     list: &mut [u8],
     room: usize,
 ) -> io::Result<usize> {
-    fill(list, FILL);
+    list.fill(FILL);
     let a = read_into(p, file, k, list, room);
-    let end = 2 * (a.count as usize);
+    let end = 2 * (count_of(a) as usize);
     show(rt, a, sum_front(list, end), filled(list, end, FILL))?;
     Ok(end)
 }
 
-// Writes a layer of k bytes in a byte too few, with a byte too few of scratch, and in just enough of both.
-fn write_closely(
-    rt: &impl Print,
-    p: Panel,
-    list: &[u8],
-    out: &mut [u8],
-    k: usize,
-) -> io::Result<()> {
-    write_in(rt, p, list, SCRATCH, out, one_less(k))?;
-    write_in(rt, p, list, 9, out, k)?;
-    write_in(rt, p, list, 10, out, k)?;
-    text(rt, b"\n")
-}
-
-// The same after room to spare. The bytes of the layer, which is left in the buffer.
+// Writes a layer with room to spare; then in a byte too few, with a byte too few of scratch, and in just
+// enough of both. The bytes of the layer, which is left in the buffer.
 fn write_four(rt: &impl Print, p: Panel, list: &[u8], out: &mut [u8]) -> io::Result<usize> {
     text(rt, b"write")?;
     let room = out.len();
     let k = write_in(rt, p, list, SCRATCH, out, room)?;
-    write_closely(rt, p, list, out, k)?;
+    for (digits, room) in [(SCRATCH, k.saturating_sub(1)), (9, k), (10, k)] {
+        write_in(rt, p, list, digits, out, room)?;
+    }
+    text(rt, b"\n")?;
     Ok(k)
 }
 
-// Reads the list of a layer of k bytes into nothing, into a byte too few, and into just enough.
-fn read_closely(
-    rt: &impl Print,
-    p: Panel,
-    file: &[u8],
-    k: usize,
-    list: &mut [u8],
-    end: usize,
-) -> io::Result<()> {
-    read_in(rt, p, file, k, list, 0)?;
-    read_in(rt, p, file, k, list, one_less(end))?;
-    read_in(rt, p, file, k, list, end)?;
-    text(rt, b"\n")
-}
-
-// The same after room to spare.
+// Reads the list of a layer of k bytes with room to spare; then into nothing, into a byte too few, and into
+// just enough.
 fn read_four(rt: &impl Print, p: Panel, file: &[u8], k: usize, list: &mut [u8]) -> io::Result<()> {
     text(rt, b"read")?;
     let room = list.len();
     let end = read_in(rt, p, file, k, list, room)?;
-    read_closely(rt, p, file, k, list, end)
+    for room in [0, end.saturating_sub(1), end] {
+        read_in(rt, p, file, k, list, room)?;
+    }
+    text(rt, b"\n")
 }
 
 // A list there and back. The bytes of its layer.
@@ -245,10 +191,7 @@ fn both_ways(
 }
 
 fn print_front(rt: &impl Print, s: &[u8], k: usize) -> io::Result<()> {
-    if k <= s.len() {
-        text(rt, &s[0..k])?;
-    }
-    Ok(())
+    text(rt, s.get(..k).unwrap_or(&[]))
 }
 
 fn layer_case(rt: &impl Print, p: Panel, list: &[u8]) -> io::Result<()> {
@@ -274,17 +217,18 @@ fn write_case(
 // Reads the first k bytes of a file into a buffer, and into none.
 fn read_case(rt: &impl Print, p: Panel, file: &[u8], k: usize) -> io::Result<()> {
     let mut list = [FILL; LIST];
-    read_in(rt, p, file, k, &mut list, LIST)?;
-    read_in(rt, p, file, k, &mut list, 0)?;
+    for room in [LIST, 0] {
+        read_in(rt, p, file, k, &mut list, room)?;
+    }
     text(rt, b"\n")
 }
 
 // Puts a text at a place of a file, if it fits.
 fn put(text: &[u8], file: &mut [u8], at: usize) {
-    if at <= file.len() {
-        if text.len() <= file.len() - at {
-            file[at..at + text.len()].copy_from_slice(text);
-        }
+    if let Some(behind) = file.get_mut(at..)
+        && let Some(place) = behind.get_mut(..text.len())
+    {
+        place.copy_from_slice(text);
     }
 }
 
@@ -296,94 +240,97 @@ fn body_case(rt: &impl Print, p: Panel, body: &[u8]) -> io::Result<()> {
     read_case(rt, p, &file, HEAD_BYTES + body.len())
 }
 
-// Whether the first k bytes are a file.
-fn front_is(s: &[u8], k: usize, file: &[u8]) -> bool {
-    if k <= s.len() {
-        &s[0..k] == file
-    } else {
-        false
-    }
-}
-
 // Writes with room enough.
-fn write_roomy(p: Panel, list: &[u8], out: &mut [u8]) -> Answer {
+fn write_roomy(p: Panel, list: &[u8], out: &mut [u8]) -> Outcome {
     let mut scratch = [FILL; SCRATCH];
-    write_into(p, list, &mut scratch, SCRATCH, out, out.len())
+    let room = out.len();
+    write_into(p, list, &mut scratch, SCRATCH, out, room)
 }
 
 // Whether the layer of the first n bytes of a list is this file.
 fn makes(p: Panel, list: &[u8], n: usize, file: &[u8]) -> bool {
-    if n <= list.len() {
-        let mut out = [FILL; ROOM];
-        let a = write_roomy(p, &list[0..n], &mut out);
-        return front_is(&out, a.count as usize, file);
-    }
-    false
+    let Some(list) = list.get(..n) else {
+        return false;
+    };
+    let mut out = [FILL; ROOM];
+    let k = count_of(write_roomy(p, list, &mut out)) as usize;
+    out.get(..k).is_some_and(|layer| layer == file)
 }
 
-// What the reader makes of a file: 0, no layer; 1, a list that makes this layer again; `OTHER`, anything else.
-fn verdict(p: Panel, file: &[u8]) -> u32 {
+// What the reader makes of a file: no layer; a list that makes this layer again; or anything else.
+#[derive(Clone, Copy, Debug, PartialEq, Eq)]
+enum Verdict {
+    NoLayer,
+    Layer,
+    Other,
+}
+
+fn verdict_on(p: Panel, file: &[u8]) -> Verdict {
     let mut list = [FILL; SHORT];
     let a = read_into(p, file, file.len(), &mut list, SHORT);
-    if a.refusal == 16 {
-        return 0;
+    if a == Some(Err(Refusal::UnknownByte)) {
+        return Verdict::NoLayer;
     }
-    if makes(p, &list, 2 * (a.count as usize), file) {
-        1
+    if makes(p, &list, 2 * (count_of(a) as usize), file) {
+        Verdict::Layer
     } else {
-        OTHER
+        Verdict::Other
     }
 }
 
-// The verdicts on a file with every value at one place.
-fn every_value(p: Panel, other: &mut [u8], i: usize) -> u32
-    requires { i < length other.old }
-{
-    let mut n: u32 = 0;
-    let mut v: u32 = 0;
-    while v < 256 {
-        other[i] = (v % 256) as u8;
-        n = wrapping_add_u32(n, verdict(p, other));
-        v += 1;
-    }
-    n
+// How many files were layers, and how many were taken for anything but a layer or none.
+#[derive(Clone, Copy, Debug, PartialEq, Eq)]
+struct Tally {
+    layers: u32,
+    others: u32,
 }
 
-// Byte i of a file, if it has one, at place i of another.
-fn put_byte(file: &[u8], other: &mut [u8], i: usize)
+fn tallied(t: Tally, v: Verdict) -> Tally {
+    match v {
+        Verdict::NoLayer => t,
+        Verdict::Layer => Tally {
+            layers: t.layers.wrapping_add(1),
+            ..t
+        },
+        Verdict::Other => Tally {
+            others: t.others.wrapping_add(1),
+            ..t
+        },
+    }
+}
+
+// The verdicts on a file with every value at one place, and those before.
+fn every_value(p: Panel, other: &mut [u8], i: usize, before: Tally) -> Tally
     requires { i < length other.old }
 {
-    if i < file.len() {
-        other[i] = file[i];
+    let mut t = before;
+    for v in 0..=u8::MAX {
+        other[i] = v;
+        t = tallied(t, verdict_on(p, other));
     }
+    t
 }
 
 // The same at every place, where the byte of another file is left then.
-fn every_place(p: Panel, file: &[u8], other: &mut [u8]) -> u32 {
-    let mut n: u32 = 0;
-    let mut i = 0;
-    while i < other.len() {
-        n = wrapping_add_u32(n, every_value(p, other, i));
-        put_byte(file, other, i);
-        i += 1;
+fn every_place(p: Panel, file: &[u8], other: &mut [u8]) -> Tally {
+    let mut t = Tally {
+        layers: 0,
+        others: 0,
+    };
+    for i in 0..other.len() {
+        t = every_value(p, other, i, t);
+        if let Some(&b) = file.get(i) {
+            other[i] = b;
+        }
     }
-    n
+    t
 }
 
 // The same of a part of a buffer, with the two numbers that are printed.
-fn verdicts(
-    rt: &impl Print,
-    p: Panel,
-    file: &[u8],
-    other: &mut [u8],
-    from: usize,
-    end: usize,
-) -> io::Result<()> {
-    if from <= end {
-        if end <= other.len() {
-            let n = every_place(p, file, &mut other[from..end]);
-            row(rt, &[n % OTHER, n / OTHER], b"\n")?;
-        }
+fn verdicts(rt: &impl Print, p: Panel, file: &[u8], part: Option<&mut [u8]>) -> io::Result<()> {
+    if let Some(other) = part {
+        let t = every_place(p, file, other);
+        row(rt, &[t.layers, t.others], b"\n")?;
     }
     Ok(())
 }
@@ -399,9 +346,9 @@ fn three_verdicts(
     other: &mut [u8],
 ) -> io::Result<()> {
     if k < other.len() {
-        verdicts(rt, p, file, other, 0, k + 1)?;
-        verdicts(rt, p, file, other, 0, k)?;
-        verdicts(rt, p, file, other, 1, k)?;
+        verdicts(rt, p, file, other.get_mut(..k + 1))?;
+        verdicts(rt, p, file, other.get_mut(..k))?;
+        verdicts(rt, p, file, other.get_mut(1..k))?;
     }
     Ok(())
 }
@@ -409,15 +356,15 @@ fn three_verdicts(
 fn every_case(rt: &impl Print, p: Panel, list: &[u8]) -> io::Result<()> {
     text(rt, b"\n")?;
     let mut file = [FILL; ROOM];
-    let a = write_roomy(p, list, &mut file);
+    let k = count_of(write_roomy(p, list, &mut file)) as usize;
     let mut other = [FILL; ROOM + 1];
     put(&file, &mut other, 1);
-    three_verdicts(rt, p, &file, a.count as usize, &mut other)
+    three_verdicts(rt, p, &file, k, &mut other)
 }
 
 // A decimal digit more. The low half of its byte is its value.
 fn digit_on(n: u32, b: u8) -> u32 {
-    ((10 * (n as u64) + ((b % 16) as u64)) % 4294967296) as u32
+    n.wrapping_mul(10).wrapping_add(u32::from(b % 16))
 }
 
 // A byte more of word j: the word that the next byte is of.
@@ -431,29 +378,26 @@ fn word_on(b: u8, words: &mut [u32], j: usize) -> usize {
     j
 }
 
-// The words of a line as numbers, and how many there are. A blank or the line feed ends each.
-fn words_in(line: &[u8], words: &mut [u32]) -> usize {
+// The words of a line as numbers. A blank or the line feed ends each.
+fn words_in<'a>(line: &[u8], room: &'a mut [u32]) -> &'a [u32] {
     let mut j = 0;
-    let mut i = 0;
-    while i < line.len() {
-        j = word_on(line[i], words, j);
-        i += 1;
+    for &b in line {
+        j = word_on(b, room, j);
     }
-    j
+    room.get(..j).unwrap_or(&[])
 }
 
 // Word i, or 0 past the end.
 fn word_at(words: &[u32], i: usize) -> u32 {
-    if i < words.len() { words[i] } else { 0 }
+    words.get(i).copied().unwrap_or(0)
 }
 
 // The words as bytes.
-fn bytes_in(words: &[u32], list: &mut [u8]) {
-    let mut i = 0;
-    while i < list.len() {
-        list[i] = (word_at(words, i) % 256) as u8;
-        i += 1;
+fn bytes_in<'a>(words: &[u32], room: &'a mut [u8]) -> &'a [u8] {
+    for (byte, word) in room.iter_mut().zip(words) {
+        *byte = (*word % 256) as u8;
     }
+    room.get(..words.len()).unwrap_or(&[])
 }
 
 // The colon and what is done are words too: the panel is the words 2, 3 and 4.
@@ -461,102 +405,116 @@ fn panel_in(words: &[u32]) -> Panel {
     panel_of(word_at(words, 2), word_at(words, 3), word_at(words, 4))
 }
 
-// A case with a list, the bytes up to `end`.
-fn list_case(rt: &impl Print, kind: u8, words: &[u32], list: &[u8], end: usize) -> io::Result<()> {
+// What a case does.
+#[derive(Clone, Copy, Debug, PartialEq, Eq)]
+enum Kind {
+    Layer,
+    Write,
+    Read,
+    Body,
+    Every,
+}
+
+// What it does begins with the third byte from its colon on. A heading has no colon.
+fn kind_in(line: &[u8]) -> Option<Kind> {
+    match line.get(2)? {
+        0 => None,
+        b'l' => Some(Kind::Layer),
+        b'r' => Some(Kind::Read),
+        b'b' => Some(Kind::Body),
+        b'e' => Some(Kind::Every),
+        _ => Some(Kind::Write),
+    }
+}
+
+// A case with a list.
+fn list_case(rt: &impl Print, kind: Kind, words: &[u32], list: &[u8]) -> io::Result<()> {
     let p = panel_in(words);
-    if end <= list.len() {
-        if 7 <= end {
-            match kind {
-                b'l' => layer_case(rt, p, &list[5..end])?,
-                b'e' => every_case(rt, p, &list[5..end])?,
-                _ => write_case(
-                    rt,
-                    p,
-                    &list[7..end],
-                    word_at(words, 6) as usize,
-                    word_at(words, 5) as usize,
-                )?,
-            }
-        }
+    if list.len() < 7 {
+        return Ok(());
     }
-    Ok(())
-}
-
-fn file_case(rt: &impl Print, kind: u8, words: &[u32], file: &[u8]) -> io::Result<()> {
-    let p = panel_in(words);
-    if kind == b'b' {
-        body_case(rt, p, file)
-    } else {
-        read_case(rt, p, file, file.len())
-    }
-}
-
-// The first place from `from` on that has this byte, or `end` if none before it has.
-fn find(s: &[u8], from: usize, end: usize, b: u8) -> usize
-    requires order { from ≤ end }
-    requires room { end ≤ length s.now }
-    ensures low { from ≤ result }
-    ensures high { result ≤ end }
-{
-    for i in from..end {
-        if s[i] == b {
-            return i;
-        }
-    }
-    end
-}
-
-// The case of a line; its file, if it has one, goes up to the next #. Where the next line begins.
-fn one_case(rt: &impl Print, kind: u8, line: &[u8], input: &[u8], at: usize) -> io::Result<usize>
-    requires { at ≤ length input.now }
-    ensures { IfOk result (λ next. at ≤ next) }
-{
-    let mut words = [0u32; WORDS];
-    let end = words_in(line, &mut words);
     match kind {
-        b'b' | b'r' => {
-            let stop = find(input, at, input.len(), b'#');
-            file_case(rt, kind, &words, &input[at..stop])?;
-            Ok(stop + 2)
-        }
-        _ => {
-            let mut list = [0u8; WORDS];
-            bytes_in(&words, &mut list);
-            list_case(rt, kind, &words, &list, end)?;
-            Ok(at)
-        }
+        Kind::Layer => layer_case(rt, p, &list[5..]),
+        Kind::Every => every_case(rt, p, &list[5..]),
+        _ => write_case(
+            rt,
+            p,
+            &list[7..],
+            word_at(words, 6) as usize,
+            word_at(words, 5) as usize,
+        ),
     }
 }
 
-// What a case does begins with the third byte from its colon on. A heading has no colon: 0.
-fn kind_in(line: &[u8]) -> u8 {
-    if 2 < line.len() { line[2] } else { 0 }
-}
-
-// The line from `at` on: where the next one begins.
-fn one_line(rt: &impl Print, input: &[u8], at: usize) -> io::Result<usize>
-    requires { at < length input.now }
-    ensures { IfOk result (λ next. at < next) }
+// The place of the first such byte, or the end of the bytes if there is none.
+fn find(s: &[u8], b: u8) -> usize
+    ensures { result ≤ length s.now }
 {
-    let end = find(input, at, input.len(), b'\n');
+    s.iter().position(|&byte| byte == b).unwrap_or(s.len())
+}
+
+// A case whose file is the lines up to the next #. What is behind the line of that.
+fn file_case<'a>(
+    rt: &impl Print,
+    kind: Kind,
+    words: &[u32],
+    input: &'a [u8],
+) -> io::Result<&'a [u8]>
+    ensures { IfOk result (λ rest. length rest.now ≤ length input.now) }
+{
+    let p = panel_in(words);
+    let stop = find(input, b'#');
+    let file = &input[..stop];
+    if kind == Kind::Body {
+        body_case(rt, p, file)?;
+    } else {
+        read_case(rt, p, file, stop)?;
+    }
+    Ok(input.get(stop + 2..).unwrap_or(&[]))
+}
+
+// The case of a line. What is left of the input behind it.
+fn one_case<'a>(rt: &impl Print, kind: Kind, line: &[u8], input: &'a [u8]) -> io::Result<&'a [u8]>
+    ensures { IfOk result (λ rest. length rest.now ≤ length input.now) }
+{
+    let mut numbers = [0u32; WORDS];
+    let words = words_in(line, &mut numbers);
+    match kind {
+        Kind::Read | Kind::Body => file_case(rt, kind, words, input),
+        _ => {
+            let mut bytes = [0u8; WORDS];
+            list_case(rt, kind, words, bytes_in(words, &mut bytes))?;
+            Ok(input)
+        }
+    }
+}
+
+// The line at the front of the input. What is left behind it.
+fn one_line<'a>(rt: &impl Print, input: &'a [u8]) -> io::Result<&'a [u8]>
+    requires { 0 < length input.now }
+    ensures { IfOk result (λ rest. length rest.now < length input.now) }
+{
+    let end = find(input, b'\n');
     if end == input.len() {
-        return Ok(end);
+        return Ok(&[]);
     }
-    text(rt, &input[at..end])?;
-    let next = end + 1;
-    let colon = find(input, at, end, b':');
-    let kind = kind_in(&input[colon..end]);
-    if kind == 0 {
-        text(rt, b"\n")?;
-        return Ok(next);
+    let line = &input[..end];
+    let rest = &input[end + 1..];
+    text(rt, line)?;
+    let colon = find(line, b':');
+    match kind_in(&line[colon..]) {
+        Some(kind) => one_case(rt, kind, &input[colon..end + 1], rest),
+        None => {
+            text(rt, b"\n")?;
+            Ok(rest)
+        }
     }
-    one_case(rt, kind, &input[colon..next], input, next)
 }
 
 fn all_lines(rt: &impl Print, input: &[u8]) -> io::Result<()> {
-    let mut at = 0;
-    while at < input.len() {
-        at = one_line(rt, input, at)?;
+    let mut rest = input;
+    while !rest.is_empty() {
+        rest = one_line(rt, rest)?;
     }
     Ok(())
 }
@@ -564,10 +522,8 @@ fn all_lines(rt: &impl Print, input: &[u8]) -> io::Result<()> {
 // Round and round the four cells in the corner whose numbers have ten digits.
 fn round(list: &mut [u8]) {
     let corner: [u8; 8] = [127, 1, 128, 1, 128, 2, 127, 2];
-    let mut i = 0;
-    while i < list.len() {
-        list[i] = corner[i % 8];
-        i += 1;
+    for (i, byte) in list.iter_mut().enumerate() {
+        *byte = corner[i % 8];
     }
 }
 

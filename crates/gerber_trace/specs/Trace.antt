@@ -1,6 +1,6 @@
 -- A layer read back, cell by cell: a strict reading that takes exactly the layers of lists (proofs/RoundTrip.antt). The reader's promise does not
 -- name it; the parts of the reader do.
-use Rattle.std.specs.Prelude.{ℕ, zero, suc, ◌+◌, ◌-◌, ◌*◌, ◌/◌, Bool, cond, ◌&&◌, List, [], ◌∷◌, length, drop, leb, ltb, eqb}
+use Rattle.std.specs.Prelude.{ℕ, zero, suc, ◌+◌, ◌-◌, ◌*◌, ◌/◌, Bool, cond, ◌&&◌, List, [], ◌∷◌, length, drop, leb, ltb, eqb, Option, None, Some}
 use Prim.Native.Char.{code}
 use Rattle.grid.specs.declared.Panel.{Panel}
 use Rattle.grid.specs.declared.Cell.{Cell}
@@ -10,9 +10,7 @@ use Rattle.text.specs.Front.{begins, behind_text}
 use Rattle.text.specs.Field.{field, and_then}
 use Rattle.gerber.specs.Layer.{plot_x, plot_y, head_of, flash, move, draw, end_line, straight}
 use Rattle.gerber_trace.specs.declared.Target.{Target}
-use Rattle.gerber_trace.specs.declared.Target.TheVariants as target
-use Rattle.gerber_trace.specs.declared.Advance.{Advance}
-use Rattle.gerber_trace.specs.declared.Advance.TheVariants as advance
+use Rattle.gerber_trace.specs.declared.Trace.{Trace}
 
 -- ---- a line
 
@@ -47,9 +45,9 @@ abbrev pub line_at : Panel → List ℕ → List ℕ → Aim
 line_at p operation l = behind_text nothing (ascii "X") l (behind_x p operation)
 
 -- the same up to a position of the file
-abbrev pub aim_of : List ℕ → Target → Aim
-aim_of file target.Other = nothing
-aim_of file (target.At c next) = cell_and c (drop next file)
+abbrev pub aim_of : List ℕ → Option Target → Aim
+aim_of file None = nothing
+aim_of file (Some t) = cell_and t.cell (drop t.next file)
 
 -- ---- a step
 
@@ -93,10 +91,10 @@ next_of p a b g r =
     cond (same_cell b g) (cond (is_end r) end (aimed p a b (line_at p draw r))) (on_to p b (ahead a b) g r)
 
 -- the same up to a position of the file
-abbrev pub step_of : List ℕ → Advance → Next
-step_of file advance.Other = other
-step_of file advance.End = end
-step_of file (advance.To t) = to t.before t.at t.goal (drop t.next file)
+abbrev pub step_of : List ℕ → Option (Option Trace) → Next
+step_of file None = other
+step_of file (Some None) = end
+step_of file (Some (Some t)) = to t.before t.at t.goal (drop t.next file)
 
 -- ---- the cells
 

@@ -1,4 +1,4 @@
-pub mod Through
+pub mod Takes
 pub mod Lines
 pub mod Draws
 pub mod Made

@@ -1,10 +1,9 @@
 -- Document 02, R-2 and R-6: the writer of a layer: its refusals in order, its answer and the final content of both lent buffers.
-use Rattle.std.specs.Prelude.{ℕ, ◌≤◌, ◌≡◌, true, cond, ◌&&◌, List, [], ◌++◌, length, take, drop, leb}
+use Rattle.std.specs.Prelude.{Result, Ok}
+use Rattle.std.specs.Prelude.{ℕ, ◌≤◌, ◌≡◌, true, ◌&&◌, List, ◌++◌, length, take, drop, leb}
 use Rattle.grid.specs.declared.Panel.{Panel}
-use Rattle.grid.specs.declared.Cell.{Cell}
-use Rattle.grid.specs.declared.Check.{Check}
-use Rattle.grid.specs.declared.Check.TheVariants.{Good}
-use Rattle.grid.specs.declared.BytesAnswer.{BytesAnswer}
+use Rattle.grid.specs.Check.{Check}
+use Rattle.grid.specs.declared.Refusal.{Refusal}
 use Rattle.grid.specs.declared.Refusal.TheVariants.{ShortBuffer}
 use Rattle.grid.specs.Panel.{GoodPanel}
 use Rattle.grid.specs.Bytes.{cells_in}
@@ -14,7 +13,7 @@ use Rattle.list.specs.List.{all_on}
 use Rattle.list.specs.Check.{check_list}
 use Rattle.scratch.specs.Scratch.{zeros_for}
 use Rattle.text.specs.Put.{Put}
-use Rattle.gerber.specs.Layer.{draw, line_to, straight, layer_of}
+use Rattle.gerber.specs.Layer.{layer_of}
 
 -- the bytes of scratch that hold a number's digits
 abbrev pub digit_room : ℕ
@@ -28,10 +27,10 @@ layer_bytes p list = layer_of p (cells_in list)
 abbrev pub check_layer : Panel → List ℕ → List ℕ → List ℕ → Check
 check_layer p list scratch out =
     after (check_list p list)
-    (expect (leb digit_room (length scratch) && leb (length (layer_bytes p list)) (length out)) ShortBuffer Good)
+    (expect (leb digit_room (length scratch) && leb (length (layer_bytes p list)) (length out)) ShortBuffer (Ok tt))
 
 -- the bytes written
-abbrev pub layer_answer : Panel → List ℕ → List ℕ → List ℕ → BytesAnswer
+abbrev pub layer_answer : Panel → List ℕ → List ℕ → List ℕ → Result ℕ Refusal
 layer_answer p list scratch out = bytes_answer (check_layer p list scratch out) (length (layer_bytes p list))
 
 -- the layer, and the bytes behind it as they were; a refusal changes nothing
@@ -45,7 +44,7 @@ layer_scratch p list scratch out =
     answer (check_layer p list scratch out) (λ r. scratch) (zeros_for digit_room scratch)
 
 -- what the writer promises of its answer r, of scratch, s before the call and t after it, and of the buffer, old and new
-pub record WritesLayer (p : Panel) (list s t old new : List ℕ) (r : BytesAnswer) : Type 0 where
+pub record WritesLayer (p : Panel) (list s t old new : List ℕ) (r : Result ℕ Refusal) : Type 0 where
   pub gives : GivesBytes (check_layer p list s old) (length (layer_bytes p list)) r
   pub buffer : new ≡ layer_buffer p list s old
   pub scratch : t ≡ layer_scratch p list s old
@@ -67,7 +66,3 @@ pub record Plottable (p : Panel) (list : List ℕ) : Type 0 where
 pub record PutThrough (s t out : List ℕ) (at : ℕ) (text after : List ℕ) (next : ℕ) : Type 0 where
   pub put : Put out at text after next
   pub rest : drop digit_room t ≡ drop digit_room s
-
--- the draw to b if the direction changes there, coming from a and going on to c; nothing if it stays
-abbrev pub turn_line : Panel → Cell → Cell → Cell → List ℕ
-turn_line p a b c = cond (straight a b c) [] (line_to p draw b [])

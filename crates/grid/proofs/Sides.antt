@@ -1,12 +1,12 @@
 -- Panels of the same sides have the same cells, neighbours and tracks, whatever their pitches; and where both pitches are in their range, the checks
 -- of an order say the same. (`Neighbours` and the colour of a cell are given no panel at all.)
+use Rattle.std.specs.Prelude.{Ok}
 use Prim.Native.Nat.{ℕ}
 use mathlib.Core.Path.{◌≡◌, sym, ap, ◌∙◌}
 use mathlib.Core.Bool.{Bool, true}
 use mathlib.Core.List.{List}
 use Rattle.grid.specs.declared.Cell.{Cell}
-use Rattle.grid.specs.declared.Check.{Check}
-use Rattle.grid.specs.declared.Check.TheVariants.{Good}
+use Rattle.grid.specs.Check.{Check}
 use Rattle.grid.specs.declared.Refusal.TheVariants.{Side, Pitch, EntryOff, ExitOff}
 use Rattle.grid.specs.Panel.{panel, good_sides, GoodSides, good_pitch, on_panel, OnPanel, Neighbours}
 use Rattle.grid.specs.Track.{Track}
@@ -29,10 +29,10 @@ module _ {m n a b : ℕ} where
 -- what every call tests of a panel, and of an order
 module _ (m n a b : ℕ) (u : good_pitch (panel m n a) ≡ true) (v : good_pitch (panel m n b) ≡ true) where
   panel_same : check_panel (panel m n a) ≡ check_panel (panel m n b)
-  panel_same = ap (λ (k : Bool). expect (good_sides (panel m n a)) Side (expect k Pitch Good)) (u ∙ sym v)
+  panel_same = ap (λ (k : Bool). expect (good_sides (panel m n a)) Side (expect k Pitch (Ok tt))) (u ∙ sym v)
 
   pub order_same : (s t : Cell) → check_order (panel m n a) s t ≡ check_order (panel m n b) s t
   order_same s t =
       let p = panel m n a in
-      let rest = expect (on_panel p t) ExitOff Good in
-      ap (λ (k : Check). after (after k (expect (on_panel p s) EntryOff Good)) rest) panel_same
+      let rest = expect (on_panel p t) ExitOff (Ok tt) in
+      ap (λ (k : Check). after (after k (expect (on_panel p s) EntryOff (Ok tt))) rest) panel_same

@@ -1,5 +1,5 @@
 -- A cell list is bytes: x then y for each cell. And where a part of a slice of bytes begins.
-use Rattle.std.specs.Prelude.{ℕ, ◌+◌, ◌*◌, ◌≤◌, ◌≡◌, List, [], ◌∷◌, take}
+use Rattle.std.specs.Prelude.{ℕ, ◌+◌, ◌*◌, ◌≤◌, ◌≡◌, List, [], ◌∷◌, take, get_or}
 use Rattle.std.specs.Borrow.{Bor}
 use Rattle.grid.specs.declared.Cell.{Cell}
 
@@ -12,6 +12,10 @@ pub record InBytes (c : Cell) : Type 0 where
 abbrev pub bytes : List Cell → List ℕ
 bytes [] = []
 bytes (c ∷ l) = c.x ∷ c.y ∷ bytes l
+
+-- the cell of two bytes
+abbrev pub cell_of : List ℕ → Cell
+cell_of b = record { x = get_or b 0 0; y = get_or b 1 0 }
 
 -- the cells that bytes hold; a last byte without its partner is none
 abbrev pub cells_in : List ℕ → List Cell

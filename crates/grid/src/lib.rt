@@ -1,11 +1,12 @@
-// Cells, panels, counts and refusals: what every call takes and answers with, and the tests that
-// the calls share.
+// Cells, panels, orders, counts and refusals: what every call takes and answers with, and the tests
+// that the calls share.
 #![tactic(auto)]
 
-ghost use Rattle.std.specs.Prelude.{◌≡◌, ◌≤◌, ◌+◌};
-ghost use Rattle.grid.specs.Panel.{between, panel, good_sides, good_pitch, area, on_panel, same_cell, dist, turned, turned_cell};
+ghost use Rattle.std.specs.Prelude.{◌≡◌, ◌≤◌, ◌+◌, Ok};
+ghost use Rattle.grid.specs.Panel.{between, panel, good_sides, good_pitch, area, on_panel, dist, turned, turned_cell};
+ghost use Rattle.grid.specs.Bytes.{cell_of};
 ghost use Rattle.grid.specs.Refusal.{number};
-ghost use Rattle.grid.specs.Check.{expect, after, check_panel, check_entry, check_order};
+ghost use Rattle.grid.specs.Check.{expect, check_panel, check_entry, check_order};
 ghost use Rattle.grid.specs.Answer.{cells_values};
 
 // The largest side of a panel.
@@ -18,7 +19,7 @@ const MAX_PITCH: u32 = 10000;
 
 // A panel of `width` columns (m) and `height` rows (n); the centres of neighbouring cells are `pitch`
 // micrometres apart.
-#[derive(Clone, Copy)]
+#[derive(Clone, Copy, Debug, PartialEq, Eq)]
 pub struct Panel {
     pub width: u32,
     pub height: u32,
@@ -26,22 +27,43 @@ pub struct Panel {
 }
 
 // A cell: column x from the left and row y from the top, both from 1.
-#[derive(Clone, Copy)]
+#[derive(Clone, Copy, Debug, PartialEq, Eq)]
 pub struct Cell {
     pub x: u32,
     pub y: u32,
 }
 
+// The two bytes of a cell in a list.
+impl From<[u8; 2]> for Cell {
+    ghost from_gives = { λ b c. c ≡ cell_of b };
+
+    fn from(bytes: [u8; 2]) -> Cell {
+        let [x, y] = bytes;
+        Cell {
+            x: u32::from(x),
+            y: u32::from(y),
+        }
+    }
+}
+
+// What a track is asked for: a panel, and the terminals that the track runs between.
+#[derive(Clone, Copy, Debug, PartialEq, Eq)]
+pub struct Order {
+    pub panel: Panel,
+    pub entry: Cell,
+    pub exit: Cell,
+}
+
 // A number of cells, as document 000 measures a track.
-#[derive(Clone, Copy)]
+#[derive(Clone, Copy, Debug, PartialEq, Eq)]
 pub struct Cells(pub u32);
 
 // A number of steps, as document 001 measures a track: one fewer.
-#[derive(Clone, Copy)]
+#[derive(Clone, Copy, Debug, PartialEq, Eq)]
 pub struct Steps(pub u32);
 
-// Why a call refuses; `number` gives its number, which is document 01's or a request's.
-#[derive(Clone, Copy)]
+// Why a call refuses. `u32::from` gives its number.
+#[derive(Clone, Copy, Debug, PartialEq, Eq)]
 pub enum Refusal {
     Side,
     EntryOff,
@@ -66,46 +88,54 @@ pub enum Refusal {
     NothingRecorded,
 }
 
-// What a test of the input finds.
-#[derive(Clone, Copy)]
-pub enum Check {
-    Good,
-    Refused(Refusal),
-}
+impl From<Refusal> for u32 {
+    ghost from_gives = { λ r n. n ≡ number r };
 
-// What a call answers that gives a number of cells: why it refuses, or how many.
-#[derive(Clone, Copy)]
-pub enum CellsAnswer {
-    Refused(Refusal),
-    Given(Cells),
+    fn from(r: Refusal) -> u32 {
+        match r {
+            Refusal::Side => 1,
+            Refusal::EntryOff => 2,
+            Refusal::ExitOff => 3,
+            Refusal::ShortBuffer => 5,
+            Refusal::ListLength => 6,
+            Refusal::CellOff => 7,
+            Refusal::NotNeighbours => 8,
+            Refusal::Repeated => 9,
+            Refusal::WrongEnds => 11,
+            Refusal::NoExit => 12,
+            Refusal::OneWide => 13,
+            Refusal::Mark => 14,
+            Refusal::StepCount => 15,
+            Refusal::UnknownByte => 16,
+            Refusal::CutShort => 17,
+            Refusal::Pitch => 18,
+            Refusal::BenchSide => 19,
+            Refusal::ProbeBytes => 20,
+            Refusal::TickBack => 21,
+            Refusal::NoSuchEdit => 22,
+            Refusal::NothingRecorded => 23,
+        }
+    }
 }
 
 // The number of the refusal, 0 where nothing is refused, and the cells, 0 where refused.
-#[derive(Clone, Copy)]
+#[derive(Clone, Copy, Debug, PartialEq, Eq)]
 pub struct CellsValues {
     pub refusal: u32,
     pub cells: Cells,
 }
 
-// What a call answers that gives a number of bytes: why it refuses, or how many.
-#[derive(Clone, Copy)]
-pub enum BytesAnswer {
-    Refused(Refusal),
-    Given(u32),
-}
+impl From<Result<Cells, Refusal>> for CellsValues {
+    ghost from_gives = { λ a v. v ≡ cells_values a };
 
-pub fn cells_values(a: CellsAnswer) -> CellsValues
-    ensures { result ≡ cells_values a }
-{
-    match a {
-        CellsAnswer::Refused(r) => CellsValues {
-            refusal: number_of(r),
-            cells: Cells(0),
-        },
-        CellsAnswer::Given(k) => CellsValues {
-            refusal: 0,
-            cells: k,
-        },
+    fn from(a: Result<Cells, Refusal>) -> CellsValues {
+        match a {
+            Err(r) => CellsValues {
+                refusal: u32::from(r),
+                cells: Cells(0),
+            },
+            Ok(cells) => CellsValues { refusal: 0, cells },
+        }
     }
 }
 
@@ -117,39 +147,11 @@ pub fn steps_of(cells: Cells) -> Steps
     Steps(cells.0 - 1)
 }
 
-pub fn number_of(r: Refusal) -> u32
-    ensures { result ≡ number r }
-{
-    match r {
-        Refusal::Side => 1,
-        Refusal::EntryOff => 2,
-        Refusal::ExitOff => 3,
-        Refusal::ShortBuffer => 5,
-        Refusal::ListLength => 6,
-        Refusal::CellOff => 7,
-        Refusal::NotNeighbours => 8,
-        Refusal::Repeated => 9,
-        Refusal::WrongEnds => 11,
-        Refusal::NoExit => 12,
-        Refusal::OneWide => 13,
-        Refusal::Mark => 14,
-        Refusal::StepCount => 15,
-        Refusal::UnknownByte => 16,
-        Refusal::CutShort => 17,
-        Refusal::Pitch => 18,
-        Refusal::BenchSide => 19,
-        Refusal::ProbeBytes => 20,
-        Refusal::TickBack => 21,
-        Refusal::NoSuchEdit => 22,
-        Refusal::NothingRecorded => 23,
-    }
-}
-
 // Whether a is a number from low to high.
 fn between(low: u32, high: u32, a: u32) -> bool
     ensures { result ≡ between low high a }
 {
-    if low <= a { a <= high } else { false }
+    (low..=high).contains(&a)
 }
 
 // The one way that a panel is made.
@@ -180,17 +182,13 @@ pub fn turn_cell(c: Cell) -> Cell
 pub fn distance(a: u32, b: u32) -> u32
     ensures { result ≡ dist a b }
 {
-    if a <= b { b - a } else { a - b }
+    a.abs_diff(b)
 }
 
 fn good_sides(p: Panel) -> bool
     ensures { result ≡ good_sides p }
 {
-    if between(1, MAX_SIDE, p.width) {
-        between(1, MAX_SIDE, p.height)
-    } else {
-        false
-    }
+    between(1, MAX_SIDE, p.width) && between(1, MAX_SIDE, p.height)
 }
 
 fn good_pitch(p: Panel) -> bool
@@ -209,59 +207,35 @@ pub fn area_of(p: Panel) -> usize
 pub fn on_panel(p: Panel, c: Cell) -> bool
     ensures { result ≡ on_panel p c }
 {
-    if between(1, p.width, c.x) {
-        between(1, p.height, c.y)
-    } else {
-        false
-    }
+    between(1, p.width, c.x) && between(1, p.height, c.y)
 }
 
-pub fn same_cell(a: Cell, b: Cell) -> bool
-    ensures { result ≡ same_cell a b }
+// What a test that fails refuses.
+pub fn ensure(ok: bool, r: Refusal) -> Result<(), Refusal>
+    ensures { result ≡ expect ok r (Ok tt) }
 {
-    if a.x == b.x { a.y == b.y } else { false }
+    if ok { Ok(()) } else { Err(r) }
 }
 
-// A test that passes goes on to the tests behind it, a test that fails refuses.
-pub fn expect(ok: bool, r: Refusal, rest: Check) -> Check
-    ensures { result ≡ expect ok r rest }
-{
-    if ok { rest } else { Check::Refused(r) }
-}
-
-// One list of tests after another.
-pub fn after(first: Check, rest: Check) -> Check
-    ensures { result ≡ after first rest }
-{
-    match first {
-        Check::Good => rest,
-        Check::Refused(r) => Check::Refused(r),
-    }
-}
-
-pub fn check_panel(p: Panel) -> Check
+pub fn check_panel(p: Panel) -> Result<(), Refusal>
     ensures { result ≡ check_panel p }
 {
-    let sides = good_sides(p);
-    let pitch = good_pitch(p);
-    let rest = expect(pitch, Refusal::Pitch, Check::Good);
-    expect(sides, Refusal::Side, rest)
+    ensure(good_sides(p), Refusal::Side)?;
+    ensure(good_pitch(p), Refusal::Pitch)
 }
 
-pub fn check_entry(p: Panel, s: Cell) -> Check
+pub fn check_entry(p: Panel, s: Cell) -> Result<(), Refusal>
     ensures { result ≡ check_entry p s }
 {
-    after(
-        check_panel(p),
-        expect(on_panel(p, s), Refusal::EntryOff, Check::Good),
-    )
+    check_panel(p)?;
+    ensure(on_panel(p, s), Refusal::EntryOff)
 }
 
-pub fn check_order(p: Panel, s: Cell, t: Cell) -> Check
-    ensures { result ≡ check_order p s t }
-{
-    after(
-        check_entry(p, s),
-        expect(on_panel(p, t), Refusal::ExitOff, Check::Good),
-    )
+impl Order {
+    pub fn check(self) -> Result<(), Refusal>
+        ensures { result ≡ check_order self.panel self.entry self.exit }
+    {
+        check_entry(self.panel, self.entry)?;
+        ensure(on_panel(self.panel, self.exit), Refusal::ExitOff)
+    }
 }

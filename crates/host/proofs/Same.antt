@@ -5,7 +5,7 @@ use mathlib.Core.List.{List}
 use lib.ListN.{length}
 use Rattle.grid.specs.declared.Panel.{Panel}
 use Rattle.grid.specs.declared.Cell.{Cell}
-use Rattle.grid.specs.declared.Check.{Check}
+use Rattle.grid.specs.Check.{Check}
 use Rattle.grid.specs.Bytes.{cells_in}
 use Rattle.count.specs.Order.{order_class, order_count}
 use Rattle.bench.specs.Bench.{bench_side}

@@ -2,7 +2,7 @@
 use Rattle.std.specs.Prelude.{ℕ, ◌+◌, ◌*◌, ◌/◌, ◌%◌, ◌^◌, ◌≡◌, List, length}
 use Rattle.grid.specs.declared.Panel.{Panel}
 use Rattle.grid.specs.declared.Cell.{Cell}
-use Rattle.grid.specs.declared.Check.{Check}
+use Rattle.grid.specs.Check.{Check}
 use Rattle.grid.specs.Check.{check_order}
 use Rattle.grid.specs.Bytes.{cells_in}
 use Rattle.grid.specs.Answer.{refusal_number, given, cells_answer}

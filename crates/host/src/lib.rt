@@ -10,21 +10,15 @@ ghost use Rattle.bound.specs.Bound.{bound_values};
 ghost use Rattle.bench.specs.Bench.{check_bench};
 ghost use Rattle.host.specs.Host.{packed, PacksBound, PacksDraw, PacksJudge, PacksBenchBound, PacksBenchDraw, PacksBenchJudge};
 
-use bound::{BoundAnswer, bound_values};
-use grid::{Cell, Cells, CellsAnswer, Check, Panel, Refusal, cells_values, number_of, panel_of};
+use bound::BoundValues;
+use count::ClassCount;
+use grid::{Cell, Cells, CellsValues, Order, Refusal, panel_of};
 
 const REFUSAL_UNIT: u64 = 4294967296;
 
 const CLASS_UNIT: u64 = 16777216;
 
-// An order's seven numbers.
-#[derive(Clone, Copy)]
-struct Order {
-    panel: Panel,
-    entry: Cell,
-    exit: Cell,
-}
-
+// An order of its seven numbers, as a C program gives them.
 fn order_of(m: u32, n: u32, pitch: u32, sx: u32, sy: u32, tx: u32, ty: u32) -> Order
     ensures { result ≡ record { panel = panel m n pitch; entry = cell sx sy; exit = cell tx ty } }
 {
@@ -40,24 +34,24 @@ fn pack(refusal: u32, class: u32, count: Cells) -> u64
     requires count_bound { count.0 < 2 ^ 24 }
     ensures { result ≡ packed refusal class count.0 }
 {
-    (refusal as u64) * REFUSAL_UNIT + (class as u64) * CLASS_UNIT + (count.0 as u64)
+    u64::from(refusal) * REFUSAL_UNIT + u64::from(class) * CLASS_UNIT + u64::from(count.0)
 }
 
-fn pack_bound(a: BoundAnswer) -> u64
+fn pack_bound(a: Result<ClassCount, Refusal>) -> u64
     requires a_bound { (bound_values a).class < 2 ^ 8 }
     requires a_bound_2 { (bound_values a).count.0 < 2 ^ 24 }
     ensures { result ≡ packed (bound_values a).refusal (bound_values a).class (bound_values a).count.0 }
 {
-    let v = bound_values(a);
+    let v = BoundValues::from(a);
     pack(v.refusal, v.class, v.count)
 }
 
 // An answer without a class.
-fn pack_cells(a: CellsAnswer) -> u64
+fn pack_cells(a: Result<Cells, Refusal>) -> u64
     requires { (cells_values a).cells.0 < 2 ^ 24 }
     ensures { result ≡ packed (cells_values a).refusal 0 (cells_values a).cells.0 }
 {
-    let v = cells_values(a);
+    let v = CellsValues::from(a);
     pack(v.refusal, 0, v.cells)
 }
 
@@ -66,8 +60,7 @@ fn pack_cells(a: CellsAnswer) -> u64
 pub extern "C" fn foil_bound(m: u32, n: u32, pitch: u32, sx: u32, sy: u32, tx: u32, ty: u32) -> u64
     ensures { PacksBound (panel m n pitch) (cell sx sy) (cell tx ty) result }
 {
-    let o = order_of(m, n, pitch, sx, sy, tx, ty);
-    pack_bound(bound::bound(o.panel, o.entry, o.exit))
+    pack_bound(bound::bound(order_of(m, n, pitch, sx, sy, tx, ty)))
 }
 
 // Draw: refusal · 2^32 + count.
@@ -84,8 +77,7 @@ pub extern "C" fn foil_draw(
 ) -> u64
     ensures { PacksDraw (panel m n pitch) (cell sx sy) (cell tx ty) buffer.old buffer.new result }
 {
-    let o = order_of(m, n, pitch, sx, sy, tx, ty);
-    pack_cells(draw::draw(o.panel, o.entry, o.exit, buffer))
+    pack_cells(draw::draw(order_of(m, n, pitch, sx, sy, tx, ty), buffer))
 }
 
 // Judge: refusal · 2^32 + count.
@@ -104,18 +96,18 @@ pub extern "C" fn foil_judge(
     ensures { PacksJudge (panel m n pitch) (cell sx sy) (cell tx ty) list.now scratch.old scratch.new result }
 {
     let o = order_of(m, n, pitch, sx, sy, tx, ty);
-    pack_cells(judge::judge(o.panel, o.entry, o.exit, list, scratch))
+    pack_cells(judge::judge(o, list, scratch))
 }
 
 // A refusal without class and count.
 fn pack_refusal(r: Refusal) -> u64
     ensures { result ≡ packed (number r) 0 0 }
 {
-    pack(number_of(r), 0, Cells(0))
+    pack(u32::from(r), 0, Cells(0))
 }
 
 // What the bench refuses of a panel: 1, 18, 19.
-fn check_sides(m: u32, n: u32, pitch: u32) -> Check
+fn check_sides(m: u32, n: u32, pitch: u32) -> Result<(), Refusal>
     ensures { result ≡ check_bench (panel m n pitch) }
 {
     bench::check_bench(panel_of(m, n, pitch))
@@ -135,11 +127,10 @@ pub extern "C" fn foil_bench_bound(
 ) -> u64
     ensures { PacksBenchBound (panel m n pitch) (cell sx sy) (cell tx ty) result }
 {
-    let c = check_sides(m, n, pitch);
-    if let Check::Refused(r) = c {
-        return pack_refusal(r);
+    match check_sides(m, n, pitch) {
+        Err(r) => pack_refusal(r),
+        Ok(()) => foil_bound(m, n, pitch, sx, sy, tx, ty),
     }
-    foil_bound(m, n, pitch, sx, sy, tx, ty)
 }
 
 #[unsafe(no_mangle)]
@@ -155,11 +146,10 @@ pub extern "C" fn foil_bench_draw(
 ) -> u64
     ensures { PacksBenchDraw (panel m n pitch) (cell sx sy) (cell tx ty) buffer.old buffer.new result }
 {
-    let c = check_sides(m, n, pitch);
-    if let Check::Refused(r) = c {
-        return pack_refusal(r);
+    match check_sides(m, n, pitch) {
+        Err(r) => pack_refusal(r),
+        Ok(()) => foil_draw(m, n, pitch, sx, sy, tx, ty, buffer),
     }
-    foil_draw(m, n, pitch, sx, sy, tx, ty, buffer)
 }
 
 #[unsafe(no_mangle)]
@@ -176,9 +166,8 @@ pub extern "C" fn foil_bench_judge(
 ) -> u64
     ensures { PacksBenchJudge (panel m n pitch) (cell sx sy) (cell tx ty) list.now scratch.old scratch.new result }
 {
-    let c = check_sides(m, n, pitch);
-    if let Check::Refused(r) = c {
-        return pack_refusal(r);
+    match check_sides(m, n, pitch) {
+        Err(r) => pack_refusal(r),
+        Ok(()) => foil_judge(m, n, pitch, sx, sy, tx, ty, list, scratch),
     }
-    foil_judge(m, n, pitch, sx, sy, tx, ty, list, scratch)
 }

@@ -2,6 +2,7 @@
 -- to there. It holds of any step and verdict that keep the contracts of `take_cell`, on a panel with good sides, and of `verdict`: the step
 -- is given what is kept, the scratch and the next cell, the verdict what is kept, and neither the list. The list is any whose bytes can be
 -- counted in 64 bits.
+use Rattle.std.specs.Prelude.{Ok}
 use Prim.Native.Nat.{ℕ, ◌+◌, ◌*◌, ◌/◌, ◌<◌, ◌^◌}
 use native.Mathlib.Omega.{arith}
 use mathlib.Core.Path.{◌≡◌, sym, ap, subst, ◌∙◌}
@@ -9,8 +10,7 @@ use mathlib.Core.List.{List, [], ◌∷◌, ◌++◌, append_assoc, append-nil}
 use lib.ListN.{length, length-append}
 use Rattle.grid.specs.declared.Panel.{Panel}
 use Rattle.grid.specs.declared.Cell.{Cell}
-use Rattle.grid.specs.declared.Check.{Check}
-use Rattle.grid.specs.declared.Check.TheVariants.{Good}
+use Rattle.grid.specs.Check.{Check}
 use Rattle.grid.specs.Answer.{cells_answer}
 use Rattle.grid.specs.Bytes.{cells_in}
 use Rattle.grid.proofs.Tests.{after_good}
@@ -49,7 +49,7 @@ module _ (p : Panel) (s t : Cell) (step : State → Cell → State) (verdict : K
     pub each_cell_lem : verdict (after start l).kept ≡ cells_check p s t l
     each_cell_lem = (decides (after start l).kept).told p s l (after start l).marks stands
 
-    pub judged : (list : List ℕ) (room : ℕ) → cells_in list ≡ l → sizes_check p s t (length list) room ≡ Good
+    pub judged : (list : List ℕ) (room : ℕ) → cells_in list ≡ l → sizes_check p s t (length list) room ≡ Ok tt
         → judge_of p s t list room ≡ cells_answer (verdict (after start l).kept) ((after start l).kept.bytes / 2)
     judged list room e g =
         let counted : length l ≡ (after start l).kept.bytes / 2 = omega (arith, stands.bytes) in

@@ -1,5 +1,4 @@
 pub mod Checks
-pub mod Verdicts
 pub mod Walks
 pub mod Each
 pub mod Theorem

@@ -1,5 +1,6 @@
 -- Judge accepts a list exactly if it is a track between two cells of a good panel, equal or not, given scratch enough, and the count that it
 -- gives is that of the list. The tests are the parts of a track (list/proofs/Tracks.antt).
+use Rattle.std.specs.Prelude.{Ok, Err}
 use Prim.Native.Nat.{ℕ, ◌*◌, ◌%◌, ◌≤◌}
 use native.Mathlib.Omega.{arith}
 use mathlib.Core.Path.{◌≡◌, refl, sym, ap, ◌∙◌}
@@ -11,9 +12,7 @@ use lib.Seq.{length-take-le}
 use Rattle.grid.specs.declared.Panel.{Panel}
 use Rattle.grid.specs.declared.Cell.{Cell}
 use Rattle.grid.specs.declared.Cells.{Cells}
-use Rattle.grid.specs.declared.Check.TheVariants.{Good}
 use Rattle.grid.specs.declared.Refusal.TheVariants.{Repeated, WrongEnds}
-use Rattle.grid.specs.declared.CellsAnswer.TheVariants.{Refused, Given}
 use Rattle.grid.specs.Panel.{good_panel, area}
 use Rattle.grid.specs.Track.{Track}
 use Rattle.grid.specs.Bytes.{cells_in, front}
@@ -39,7 +38,7 @@ pub record TrackBytes (p : Panel) (s t : Cell) (list : List ℕ) : Type 0 where
 
 module _ (p : Panel) (s t : Cell) (list : List ℕ) (room : ℕ) where
   -- what Judge accepts is a track
-  pub accepted : (k : Cells) → judge_of p s t list room ≡ Given k → TrackBytes p s t list
+  pub accepted : (k : Cells) → judge_of p s t list room ≡ Ok k → TrackBytes p s t list
   accepted k e =
       let (g, n) = cells_good (judge_check p s t list room) (length (cells_in list)) k e in
       let sizes = sizes_check p s t (length list) room in
@@ -51,7 +50,7 @@ module _ (p : Panel) (s t : Cell) (list : List ℕ) (room : ℕ) where
       }
 
   -- every track is accepted, with the number of its cells
-  pub accepts : area p ≤ room → TrackBytes p s t list → judge_of p s t list room ≡ Given (record { 0 = length (cells_in list) })
+  pub accepts : area p ≤ room → TrackBytes p s t list → judge_of p s t list room ≡ Ok (record { 0 = length (cells_in list) })
   accepts h b =
       let w = b.track.walk in
       let a = b.track.within in
@@ -61,30 +60,30 @@ module _ (p : Panel) (s t : Cell) (list : List ℕ) (room : ℕ) where
         whole = is_whole (length list) some b.even;
         enough = h;
       } in
-      sym (answer_good Refused _ (sym (after_good _ (sym (is_sized z)) (is_passed b.track))) refl)
+      sym (answer_good Err _ (sym (after_good _ (sym (is_sized z)) (is_passed b.track))) refl)
 
   -- the count is that of the list
-  pub counted : (k : Cells) → judge_of p s t list room ≡ Given k → k.0 ≡ length (cells_in list)
+  pub counted : (k : Cells) → judge_of p s t list room ≡ Ok k → k.0 ≡ length (cells_in list)
   counted k e = sym (cells_good (judge_check p s t list room) (length (cells_in list)) k e).1
 
   -- and at most 16,384, however long lists may be
-  pub counted_small : (k : Cells) → judge_of p s t list room ≡ Given k → k.0 ≤ 16384
+  pub counted_small : (k : Cells) → judge_of p s t list room ≡ Ok k → k.0 ≤ 16384
   counted_small k e =
       let (g, n) = cells_good (judge_check p s t list room) (length (cells_in list)) k e in
       omega (arith, n, count_small p s t list room g)
 
   -- given scratch enough, Judge accepts exactly the tracks
-  pub judges : area p ≤ room → ((k : Cells) × (judge_of p s t list room ≡ Given k)) ↔ TrackBytes p s t list
+  pub judges : area p ≤ room → ((k : Cells) × (judge_of p s t list room ≡ Ok k)) ↔ TrackBytes p s t list
   judges h = (λ a. accepted a.0 a.1, λ b. (record { 0 = length (cells_in list) }, accepts h b))
 
 -- between equal terminals that one cell is accepted, and nothing else
-pub spot_accepted : (p : Panel) (s : Cell) (list : List ℕ) (room : ℕ) (k : Cells) → judge_of p s s list room ≡ Given k → cells_in list ≡ s ∷ []
+pub spot_accepted : (p : Panel) (s : Cell) (list : List ℕ) (room : ℕ) (k : Cells) → judge_of p s s list room ≡ Ok k → cells_in list ≡ s ∷ []
 spot_accepted p s list room k e = one_cell (accepted p s s list room k e).track
 
 -- every other list of neighbours on the panel is refused there: by 9 where a cell stands twice, else by 11
-pub spot_refused : (p : Panel) (s : Cell) (list : List ℕ) (room : ℕ) → sizes_check p s s (length list) room ≡ Good
-    → check_walk p (cells_in list) ≡ Good → cells_in list ≢ s ∷ []
-    → judge_of p s s list room ≡ Refused (cond (none_twice (cells_in list)) WrongEnds Repeated)
+pub spot_refused : (p : Panel) (s : Cell) (list : List ℕ) (room : ℕ) → sizes_check p s s (length list) room ≡ Ok tt
+    → check_walk p (cells_in list) ≡ Ok tt → cells_in list ≢ s ∷ []
+    → judge_of p s s list room ≡ Err (cond (none_twice (cells_in list)) WrongEnds Repeated)
 spot_refused p s list room z w other = go (none_twice l) refl
   where
     l : List Cell
@@ -99,19 +98,19 @@ spot_refused p s list room z w other = go (none_twice l) refl
         test_fails (runs s s l)
         (λ r. other (one_cell (tests_track {p = p} record { on_panel_lem = walks.0; steps = walks.1; once = e; ends = r })))
 
-    go : (b : Bool) → none_twice l ≡ b → judge_of p s s list room ≡ Refused (cond b WrongEnds Repeated)
+    go : (b : Bool) → none_twice l ≡ b → judge_of p s s list room ≡ Err (cond b WrongEnds Repeated)
     go true e =
-        let ends = expect_no WrongEnds Good (wrong e) in
-        sym (answer_refused Refused _ (sym (after_good _ z (after_good _ w (expect_yes Repeated _ e ends)))))
-    go false e = sym (answer_refused Refused _ (sym (after_good _ z (after_good _ w (expect_no Repeated _ e)))))
+        let ends = expect_no WrongEnds (Ok tt) (wrong e) in
+        sym (answer_refused Err _ (sym (after_good _ z (after_good _ w (expect_yes Repeated _ e ends)))))
+    go false e = sym (answer_refused Err _ (sym (after_good _ z (after_good _ w (expect_no Repeated _ e)))))
 
 -- What Draw promises, Judge accepts: where the first k cells of a buffer are a track between two cells of a good panel, their bytes
 -- are accepted with the count k.
 pub drawn : (p : Panel) (s t : Cell) (k : ℕ) (buffer : List ℕ) (room : ℕ)
     → good_panel p ≡ true → 2 * k ≤ length buffer → Track p s t (front k buffer) → area p ≤ room
-    → judge_of p s t (take (2 * k) buffer) room ≡ Given (record { 0 = k })
+    → judge_of p s t (take (2 * k) buffer) room ≡ Ok (record { 0 = k })
 drawn p s t k buffer room g n track h =
     let e : length (take (2 * k) buffer) ≡ 2 * k = length-take-le (2 * k) buffer n in
     let f : length (cells_in (take (2 * k) buffer)) ≡ k = omega (arith, length_cells (take (2 * k) buffer)) in
     accepts p s t (take (2 * k) buffer) room h (record { panel = g; even = omega arith; track = track })
-    ∙ ap (λ (j : ℕ). Given (record { 0 = j })) f
+    ∙ ap (λ (j : ℕ). Ok (record { 0 = j })) f

@@ -1,5 +1,7 @@
 -- Document 02, R-9: without 10 every list gets the answer that it got with it. The checks as they stood are written out here; which refusal they
 -- had for more than mn cells does not matter.
+use Rattle.std.specs.Prelude.{Result, Ok}
+use Rattle.grid.specs.declared.Cells.{Cells}
 use Prim.Native.Nat.{ℕ}
 use mathlib.Core.Path.{◌≡◌, refl, ap}
 use mathlib.Core.Bool.{Bool, true, false}
@@ -11,9 +13,7 @@ use Rattle.grid.specs.declared.Panel.{Panel}
 use Rattle.grid.specs.declared.Cell.{Cell}
 use Rattle.grid.specs.declared.Refusal.{Refusal}
 use Rattle.grid.specs.declared.Refusal.TheVariants.{CellOff, NotNeighbours, Repeated, WrongEnds}
-use Rattle.grid.specs.declared.Check.{Check}
-use Rattle.grid.specs.declared.Check.TheVariants.{Good}
-use Rattle.grid.specs.declared.CellsAnswer.{CellsAnswer}
+use Rattle.grid.specs.Check.{Check}
 use Rattle.grid.specs.Panel.{area}
 use Rattle.grid.specs.Check.{expect, after}
 use Rattle.grid.specs.Answer.{cells_answer}
@@ -30,16 +30,16 @@ module _ (ten : Refusal) (p : Panel) (s t : Cell) where
       after (check_walk p l)
       (expect (none_twice l) Repeated
       (expect (leb (length l) (area p)) ten
-      (expect (runs s t l) WrongEnds Good)))
+      (expect (runs s t l) WrongEnds (Ok tt))))
 
-  abbrev pub judge_of_with_ten : List ℕ → ℕ → CellsAnswer
+  abbrev pub judge_of_with_ten : List ℕ → ℕ → Result Cells Refusal
   judge_of_with_ten list room =
       cells_answer (after (sizes_check p s t (length list) room) (cells_check_with_ten (cells_in list))) (length (cells_in list))
 
   -- a test that cannot fail behind the others is no test
   spare : (on steps once short : Bool) (k : Check) → (on ≡ true → once ≡ true → short ≡ true)
-      → after (expect on CellOff (expect steps NotNeighbours Good)) (expect once Repeated (expect short ten k))
-      ≡ after (expect on CellOff (expect steps NotNeighbours Good)) (expect once Repeated k)
+      → after (expect on CellOff (expect steps NotNeighbours (Ok tt))) (expect once Repeated (expect short ten k))
+      ≡ after (expect on CellOff (expect steps NotNeighbours (Ok tt))) (expect once Repeated k)
   spare true true true short k h = ap (λ (b : Bool). expect b ten k) (h refl refl)
   spare true true false short k h = refl
   spare true false once short k h = refl

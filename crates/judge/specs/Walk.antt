@@ -1,9 +1,9 @@
 -- Document 02, R-3: Judge walks the list once. The answer is decided by the kept numbers, for whatever list they stand for; and what one
 -- walk over a list keeps.
-use Rattle.std.specs.Prelude.{ℕ, ◌≡◌, List, [], ◌++◌, drop}
+use Rattle.std.specs.Prelude.{ℕ, ◌≡◌, true, List, [], ◌++◌, drop}
 use Rattle.grid.specs.declared.Panel.{Panel}
 use Rattle.grid.specs.declared.Cell.{Cell}
-use Rattle.grid.specs.declared.Check.{Check}
+use Rattle.grid.specs.Check.{Check}
 use Rattle.grid.specs.Panel.{area}
 use Rattle.judge_walk.specs.declared.Kept.{Kept}
 use Rattle.judge_walk.specs.Walk.{Stands}
@@ -20,5 +20,5 @@ pub record Walked (p : Panel) (s : Cell) (l : List Cell) (old : List ℕ) (k : K
   pub ahead : List Cell
   pub parts : l ≡ taken ++ ahead
   pub stands : Stands p s taken k new
-  pub whole : k.off ≡ 0 → ahead ≡ []
+  pub whole : k.on ≡ true → ahead ≡ []
   pub rest : drop (area p) new ≡ drop (area p) old

@@ -3,38 +3,44 @@
 // filled with 255 before, are 0 and 255 after.
 #![tactic(auto)]
 
-use grid::{Cell, Panel, panel_of};
+use grid::{Cell, CellsValues, Order, Panel, panel_of};
 use std::io;
 use trial::PITCH;
-use trial::cells::{count, fill, put, snake};
+use trial::cells::{count, put, snake};
 use trial::print::{row, text};
 
 // The largest number of 32 bits.
 const MAX: u32 = 4294967295;
 
-fn try_order(
-    rt: &impl Print,
-    p: Panel,
-    entry: Cell,
-    exit: Cell,
-    list: &[u8],
-    scratch: &mut [u8],
-) -> io::Result<()> {
-    fill(scratch, 255);
-    let j = judge::judge(p, entry, exit, list, scratch);
+// The ends of the lists on the panel of 3 by 2.
+const ENTRY: Cell = Cell { x: 1, y: 1 };
+
+const EXIT: Cell = Cell { x: 1, y: 2 };
+
+// The list of two cells from the one to the other.
+const TWO_CELLS: &[u8] = b"\x01\x01\x01\x02";
+
+fn try_order(rt: &impl Print, o: Order, list: &[u8], scratch: &mut [u8]) -> io::Result<()> {
+    scratch.fill(255);
+    let v = CellsValues::from(judge::judge(o, list, scratch));
     let zeros = count(scratch, 0);
     let kept = count(scratch, 255);
-    let v = grid::cells_values(j);
     row(rt, &[v.refusal, v.cells.0, zeros, kept], b"\n")
+}
+
+fn between(panel: Panel, entry: Cell, exit: Cell) -> Order {
+    Order { panel, entry, exit }
 }
 
 // A list on the panel of 3 by 2, from (1,1) to (1,2), with 8 bytes of scratch.
 fn try_list_at(rt: &impl Print, list: &[u8], pitch: u32) -> io::Result<()> {
     let mut scratch = [0u8; 8];
-    let p = panel_of(3, 2, pitch);
-    let entry = Cell { x: 1, y: 1 };
-    let exit = Cell { x: 1, y: 2 };
-    try_order(rt, p, entry, exit, list, &mut scratch)
+    try_order(
+        rt,
+        between(panel_of(3, 2, pitch), ENTRY, EXIT),
+        list,
+        &mut scratch,
+    )
 }
 
 // The same with the usual pitch.
@@ -44,9 +50,7 @@ fn try_list(rt: &impl Print, list: &[u8]) -> io::Result<()> {
 
 // The list of two cells (1,1) and (1,2), with some of the order's numbers and of scratch changed.
 fn try_panel(rt: &impl Print, p: Panel, scratch: &mut [u8]) -> io::Result<()> {
-    let entry = Cell { x: 1, y: 1 };
-    let exit = Cell { x: 1, y: 2 };
-    try_order(rt, p, entry, exit, b"\x01\x01\x01\x02", scratch)
+    try_order(rt, between(p, ENTRY, EXIT), TWO_CELLS, scratch)
 }
 
 fn try_sides(rt: &impl Print, width: u32, height: u32, scratch: &mut [u8]) -> io::Result<()> {
@@ -59,10 +63,10 @@ fn try_pitch(rt: &impl Print, pitch: u32, scratch: &mut [u8]) -> io::Result<()> 
 
 fn try_ends_at(rt: &impl Print, ex: u32, ey: u32, tx: u32, ty: u32, pitch: u32) -> io::Result<()> {
     let mut scratch = [0u8; 8];
-    let p = panel_of(3, 2, pitch);
     let entry = Cell { x: ex, y: ey };
     let exit = Cell { x: tx, y: ty };
-    try_order(rt, p, entry, exit, b"\x01\x01\x01\x02", &mut scratch)
+    let o = between(panel_of(3, 2, pitch), entry, exit);
+    try_order(rt, o, TWO_CELLS, &mut scratch)
 }
 
 fn try_ends(rt: &impl Print, ex: u32, ey: u32, tx: u32, ty: u32) -> io::Result<()> {
@@ -267,7 +271,7 @@ fn one_cell(rt: &impl Print) -> io::Result<()> {
 fn try_spot(rt: &impl Print, list: &[u8]) -> io::Result<()> {
     let mut scratch = [0u8; 8];
     let c = Cell { x: 2, y: 1 };
-    try_order(rt, panel_of(3, 2, PITCH), c, c, list, &mut scratch)
+    try_order(rt, between(panel_of(3, 2, PITCH), c, c), list, &mut scratch)
 }
 
 // Equal terminals: the cell itself; another; a cell off the panel; two cells from it, to it and off the panel;
@@ -290,43 +294,18 @@ fn equal_terminals(rt: &impl Print) -> io::Result<()> {
 
 // The smallest panel, with scratch for its cell, with more and with none.
 fn smallest(rt: &impl Print) -> io::Result<()> {
-    let p = panel_of(1, 1, PITCH);
-    let c = Cell { x: 1, y: 1 };
+    let o = between(panel_of(1, 1, PITCH), ENTRY, ENTRY);
+    let one = b"\x01\x01";
     let mut exact = [0u8; 1];
-    try_order(rt, p, c, c, b"\x01\x01", &mut exact)?;
+    try_order(rt, o, one, &mut exact)?;
     let mut more = [0u8; 3];
-    try_order(rt, p, c, c, b"\x01\x01", &mut more)?;
+    try_order(rt, o, one, &mut more)?;
     let mut none = [0u8; 0];
-    try_order(rt, p, c, c, b"\x01\x01", &mut none)
+    try_order(rt, o, one, &mut none)
 }
 
 // The first bytes of the snake, its last cell changed to (x, y), on the panel of 128 by 128 from
 // (1,1) to the exit, with the first bytes of scratch.
-fn try_snake(
-    rt: &impl Print,
-    list: &mut [u8],
-    bytes: usize,
-    x: u8,
-    y: u8,
-    exit: Cell,
-    scratch: &mut [u8],
-    room: usize,
-) -> io::Result<()> {
-    let p = panel_of(128, 128, PITCH);
-    let entry = Cell { x: 1, y: 1 };
-    snake(list);
-    if 2 <= bytes {
-        if bytes <= list.len() {
-            if room <= scratch.len() {
-                list[bytes - 2] = x;
-                list[bytes - 1] = y;
-                try_order(rt, p, entry, exit, &list[..bytes], &mut scratch[..room])?;
-            }
-        }
-    }
-    Ok(())
-}
-
 fn try_large(
     rt: &impl Print,
     bytes: usize,
@@ -337,7 +316,14 @@ fn try_large(
 ) -> io::Result<()> {
     let mut list = [0u8; 65536];
     let mut scratch = [0u8; 65536];
-    try_snake(rt, &mut list, bytes, x, y, exit, &mut scratch, room)
+    snake(&mut list);
+    if 2 <= bytes && bytes <= list.len() && room <= scratch.len() {
+        list[bytes - 2] = x;
+        list[bytes - 1] = y;
+        let o = between(panel_of(128, 128, PITCH), ENTRY, exit);
+        try_order(rt, o, &list[..bytes], &mut scratch[..room])?;
+    }
+    Ok(())
 }
 
 // All cells of the largest panel, with the right exit and another, and with scratch too short; then
@@ -363,16 +349,8 @@ fn try_two_more(rt: &impl Print, a: Cell, b: Cell) -> io::Result<()> {
     snake(&mut list);
     put(&mut list, 16384, a);
     put(&mut list, 16385, b);
-    let entry = Cell { x: 1, y: 1 };
-    let exit = Cell { x: 1, y: 128 };
-    try_order(
-        rt,
-        panel_of(128, 128, PITCH),
-        entry,
-        exit,
-        &list,
-        &mut scratch,
-    )
+    let o = between(panel_of(128, 128, PITCH), ENTRY, Cell { x: 1, y: 128 });
+    try_order(rt, o, &list, &mut scratch)
 }
 
 // A repeat and the last cell once more, which is the exit; a repeat and a cell off the panel, and the other way

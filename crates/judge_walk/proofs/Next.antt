@@ -1,65 +1,31 @@
 -- What stands for a list with a cell behind it, in each arm of the step. A cell off the panel is off whatever follows. A cell of the panel is
 -- looked up among the marks and marked, and becomes the last; its distance from the last one tells whether they are neighbours.
-use Prim.Native.Nat.{ℕ, ◌+◌, ◌*◌}
+use Prim.Native.Nat.{ℕ, ◌+◌}
 use native.Mathlib.Omega.{arith}
 use mathlib.Core.Path.{◌≡◌, refl, sym, ap, subst⁻¹, ◌∙◌}
-use mathlib.Core.Logic.{◌≢◌}
 use mathlib.Core.Bool.{Bool, true, false, not, ◌&&◌, ◌||◌, and-true, true≢false}
 use mathlib.Core.List.{List, [], ◌∷◌, ◌++◌}
-use lib.Bits.{bit_or, bit_xor, or_zero_l, or_add_and, and_le_r, xor_add_and}
 use lib.Dec.{eqb}
 use lib.ListN.{length, get_or, set, length-append, length-set}
-use borrow.Author.Tests.{eqb-true, eqb-false, eq-eqb, ne_eqb}
+use Rattle.std.specs.Prelude.{None, Some}
 use Rattle.grid.specs.declared.Panel.{Panel}
 use Rattle.grid.specs.declared.Cell.{Cell}
-use Rattle.grid.specs.Panel.{cell, GoodSides, on_panel, OnPanel, same_cell, neighbours}
+use Rattle.grid.specs.Panel.{GoodSides, on_panel, OnPanel, same_cell, neighbours}
 use Rattle.grid.specs.Bytes.{InBytes}
-use Rattle.grid.proofs.Facts.{test_fails, and_parts, on, is_on}
-use Rattle.list.specs.List.{squared_distance, all_on, all_steps, among, last_from}
-use Rattle.list.proofs.Apart.{step_by_squares}
+use Rattle.grid.proofs.Facts.{and_parts, on, is_on}
+use Rattle.list.specs.List.{all_on, all_steps, among, last_from}
 use Rattle.list.proofs.Behind.{all_on_append, last_behind, steps_behind, among_behind, none_twice_behind}
-use Rattle.scratch.specs.Scratch.{place, unmarked, Clean}
+use Rattle.scratch.specs.Scratch.{place, unmarked}
 use Rattle.scratch.proofs.Places.{put_rest}
-use Rattle.scratch.proofs.Marks.{unmarked_clean, unmarked_set}
+use Rattle.scratch.proofs.Marks.{unmarked_set}
 use Rattle.judge_walk.specs.declared.Kept.{Kept}
-use Rattle.judge_walk.specs.Walk.{starts, KeptOn, Stands, Takes}
-
--- ---- bits
-
--- two numbers ored are 0 exactly if both are
-pub or_zero : (a b : ℕ) → eqb (bit_or a b) 0 ≡ (eqb a 0 && eqb b 0)
-or_zero a b = by_first (eqb a 0) refl
-  where
-    by_first : (r : Bool) → eqb a 0 ≡ r → eqb (bit_or a b) 0 ≡ (r && eqb b 0)
-    by_first true e = ap (λ (k : ℕ). eqb (bit_or k b) 0) (eqb-true a 0 e) ∙ ap (λ (k : ℕ). eqb k 0) (or_zero_l b)
-    by_first false e =
-        let n : a ≢ 0 = eqb-false a 0 e in
-        ne_eqb (bit_or a b) 0 (omega (arith, n, or_add_and a b, and_le_r a b))
-
--- a number has the bits of 1 exactly if it is 1
-xor_one : (n : ℕ) → eqb (bit_xor n 1) 0 ≡ eqb n 1
-xor_one n = by_one (eqb n 1) refl
-  where
-    by_one : (r : Bool) → eqb n 1 ≡ r → eqb (bit_xor n 1) 0 ≡ r
-    by_one true e = ap (λ (k : ℕ). eqb (bit_xor k 1) 0) (eqb-true n 1 e)
-    by_one false e =
-        let d : n ≢ 1 = eqb-false n 1 e in
-        ne_eqb (bit_xor n 1) 0 (omega (arith, d, xor_add_and n 1, and_le_r n 1))
-
-pub step_kept : (j : ℕ) (a b : Cell) → eqb (bit_or j (bit_xor (squared_distance a b) 1)) 0 ≡ (eqb j 0 && neighbours a b)
-step_kept j a b =
-    or_zero j (bit_xor (squared_distance a b) 1)
-    ∙ ap (λ (r : Bool). eqb j 0 && r) (xor_one (squared_distance a b) ∙ step_by_squares a b)
+use Rattle.judge_walk.specs.Walk.{starts, ends, KeptOn, Stands, Takes}
 
 not_or : (a b : Bool) → not (a || b) ≡ (not a && not b)
 not_or true b = refl
 not_or false b = refl
 
 -- ---- cells of the panel
-
--- a cell that cannot be on it
-pub is_off : (p : Panel) (c : Cell) → (OnPanel p c → ⊥) → on_panel p c ≡ false
-is_off p c n = test_fails (on_panel p c) (λ e. n (on p c e))
 
 -- they are in bytes, and so is the last cell that is kept
 pub in_bytes : {p : Panel} {c : Cell} → GoodSides p → OnPanel p c → InBytes c
@@ -71,35 +37,34 @@ last_in_bytes {p} g d (c ∷ l) b e =
     let (here, there) = and_parts (on_panel p c) (all_on p l) e in
     last_in_bytes g c l (in_bytes g (on p c here)) there
 
-pub kept_in_bytes : {p : Panel} {s : Cell} {l : List Cell} {k : Kept} {marks : List ℕ}
-    → GoodSides p → Stands p s l k marks → k.off ≡ 0 → InBytes (cell k.x k.y)
-kept_in_bytes {l = l} g z f =
-    let e = sym z.off ∙ eq-eqb _ _ f in
-    subst⁻¹ InBytes (z.on e).last (last_in_bytes g (cell 0 0) l (record { across = omega arith; down = omega arith }) e)
+pub kept_in_bytes : {p : Panel} {s c : Cell} {l : List Cell} {k : Kept} {marks : List ℕ}
+    → GoodSides p → Stands p s l k marks → k.on ≡ true → k.last ≡ Some c → InBytes c
+kept_in_bytes {p} {c = c} {l} g z f e = of l (sym z.on ∙ f) (sym e ∙ (z.kept (sym z.on ∙ f)).last)
+  where
+    of : (l : List Cell) → all_on p l ≡ true → Some c ≡ ends l → InBytes c
+    of [] a b = absurd (cc)
+    of (d ∷ l) a b =
+        let (here, there) = and_parts (on_panel p d) (all_on p l) a in
+        let same : c ≡ last_from d l = cc in
+        subst⁻¹ InBytes same (last_in_bytes g d l (in_bytes g (on p d here)) there)
 
--- ---- the start
-
-pub stands_none : (p : Panel) (s : Cell) {marks : List ℕ} → Clean p marks
-    → Stands p s [] (record { off = 0; jump = 0; twice = 0; begins = false; x = 0; y = 0; bytes = 0 }) marks
-stands_none p s {marks} k = record {
-  room = k.room;
-  bytes = refl;
-  off = refl;
-  on = λ _. record { jump = refl; twice = refl; begins = refl; last = refl; marked = λ c o. unmarked_clean marks o k };
-}
+-- the last cell of a list with c behind it is c
+ends_behind : (l : List Cell) (c : Cell) → Some c ≡ ends (l ++ c ∷ [])
+ends_behind [] c = refl
+ends_behind (d ∷ l) c = ap Some (sym (last_behind d l c))
 
 -- ---- the step
 
 -- r is what is kept behind k of a cell of the panel whose place held mark
 pub record Moved (k : Kept) (c : Cell) (mark : ℕ) (r : Kept) : Type 0 where
-  pub off : r.off ≡ k.off
-  pub twice : eqb r.twice 0 ≡ (eqb k.twice 0 && eqb mark 0)
-  pub last : cell r.x r.y ≡ c
+  pub on : r.on ≡ k.on
+  pub once : r.once ≡ (k.once && eqb mark 0)
+  pub last : r.last ≡ Some c
   pub bytes : r.bytes ≡ k.bytes + 2
 
 -- what r keeps of the steps and of the first cell, with c behind the list l
 pub record Steps (s c : Cell) (l : List Cell) (r : Kept) : Type 0 where
-  pub jump : eqb r.jump 0 ≡ all_steps (l ++ c ∷ [])
+  pub steps : r.steps ≡ all_steps (l ++ c ∷ [])
   pub begins : r.begins ≡ starts s (l ++ c ∷ [])
 
 length_behind : (l : List Cell) (c : Cell) → length (l ++ c ∷ []) ≡ length l + 1
@@ -110,45 +75,47 @@ behind_on p l c = all_on_append p l (c ∷ []) ∙ ap (λ (b : Bool). all_on p l
 
 module _ (p : Panel) (s c : Cell) {k r : Kept} {marks : List ℕ} where
   -- the list is off the panel, or c puts it off
-  pub takes_off : r.off ≢ 0 → r.bytes ≡ k.bytes + 2 → ((l : List Cell) → Stands p s l k marks → (all_on p l && on_panel p c) ≡ false)
+  pub takes_off : r.on ≡ false → r.bytes ≡ k.bytes + 2 → ((l : List Cell) → Stands p s l k marks → (all_on p l && on_panel p c) ≡ false)
       → Takes p s k c marks r marks
   takes_off o b e = record {
     next = λ l z. record {
       room = z.room;
       bytes = omega (arith, b, z.bytes, length_behind l c);
-      off = ne_eqb _ _ o ∙ sym (behind_on p l c ∙ e l z);
-      on = λ a. absurd (true≢false (sym a ∙ behind_on p l c ∙ e l z));
+      on = o ∙ sym (behind_on p l c ∙ e l z);
+      kept = λ a. absurd (true≢false (sym a ∙ behind_on p l c ∙ e l z));
     };
     rest = refl;
   }
 
   -- c is the first cell, or it follows the last one
-  pub first : r.jump ≡ k.jump → r.begins ≡ same_cell c s → k.bytes ≡ 0
-      → (l : List Cell) → k.bytes ≡ 2 * length l → KeptOn p s l k marks → Steps s c l r
-  first j b e [] n z = record { jump = ap (λ (i : ℕ). eqb i 0) j ∙ z.jump; begins = b }
-  first j b e (d ∷ l) n z = absurd (omega arith)
+  pub first : r.steps ≡ k.steps → r.begins ≡ same_cell c s → k.last ≡ None → (l : List Cell) → KeptOn p s l k marks → Steps s c l r
+  first j b e [] z = record { steps = j ∙ z.steps; begins = b }
+  first j b e (d ∷ l) z = let last = z.last in absurd (cc)
 
-  pub later : eqb r.jump 0 ≡ (eqb k.jump 0 && neighbours (cell k.x k.y) c) → r.begins ≡ k.begins → k.bytes ≢ 0
-      → (l : List Cell) → k.bytes ≡ 2 * length l → KeptOn p s l k marks → Steps s c l r
-  later j b e [] n z = absurd (e n)
-  later j b e (d ∷ l) n z = record {
-    jump = j ∙ (λ i. z.jump i && neighbours (z.last i) c) ∙ sym (steps_behind d l c);
-    begins = b ∙ z.begins;
-  }
+  pub later : {d : Cell} → r.steps ≡ (k.steps && neighbours d c) → r.begins ≡ k.begins → k.last ≡ Some d
+      → (l : List Cell) → KeptOn p s l k marks → Steps s c l r
+  later j b e [] z = let last = z.last in absurd (cc)
+  later {d} j b e (a ∷ l) z =
+      let last = z.last in
+      let same : d ≡ last_from a l = cc in
+      record {
+        steps = j ∙ (λ i. z.steps i && neighbours (same i) c) ∙ sym (steps_behind a l c);
+        begins = b ∙ z.begins;
+      }
 
   -- a cell of the panel is marked
-  module _ {at : ℕ} (f : k.off ≡ 0) (o : OnPanel p c) (e : at ≡ place p c) (m : Moved k c (get_or marks at 0) r)
-      (steps : (l : List Cell) → k.bytes ≡ 2 * length l → KeptOn p s l k marks → Steps s c l r) where
+  module _ {at : ℕ} (f : k.on ≡ true) (o : OnPanel p c) (e : at ≡ place p c) (m : Moved k c (get_or marks at 0) r)
+      (steps : (l : List Cell) → KeptOn p s l k marks → Steps s c l r) where
     stands_on : (l : List Cell) → Stands p s l k marks → Stands p s (l ++ c ∷ []) r (set marks at 1)
     stands_on l z = record {
       room = omega (arith, z.room, length-set marks at 1);
       bytes = omega (arith, m.bytes, z.bytes, length_behind l c);
-      off = ap (λ (i : ℕ). eqb i 0) m.off ∙ z.off ∙ sym (behind_on p l c ∙ ap (λ (b : Bool). all_on p l && b) (is_on o) ∙ and-true (all_on p l));
-      on = λ _. record {
-        jump = (steps l z.bytes kept).jump;
-        twice = m.twice ∙ (λ i. kept.twice i && met i) ∙ sym (none_twice_behind l c);
-        begins = (steps l z.bytes kept).begins;
-        last = m.last ∙ sym (last_behind (cell 0 0) l c);
+      on = m.on ∙ z.on ∙ sym (behind_on p l c ∙ ap (λ (b : Bool). all_on p l && b) (is_on o) ∙ and-true (all_on p l));
+      kept = λ _. record {
+        steps = (steps l kept).steps;
+        once = m.once ∙ (λ i. kept.once i && met i) ∙ sym (none_twice_behind l c);
+        begins = (steps l kept).begins;
+        last = m.last ∙ ends_behind l c;
         marked = λ d q. ap (λ (j : ℕ). unmarked p (set marks j 1) d) e ∙ unmarked_set marks o z.room q
             ∙ ap (λ (b : Bool). not (same_cell c d) && b) (kept.marked d q)
             ∙ sym (ap not (among_behind d l c) ∙ not_or (same_cell c d) (among d l));
@@ -156,7 +123,7 @@ module _ (p : Panel) (s c : Cell) {k r : Kept} {marks : List ℕ} where
     }
       where
         kept : KeptOn p s l k marks
-        kept = z.on (sym z.off ∙ eq-eqb _ _ f)
+        kept = z.kept (sym z.on ∙ f)
 
         met : eqb (get_or marks at 0) 0 ≡ not (among c l)
         met = ap (λ (j : ℕ). eqb (get_or marks j 0) 0) e ∙ kept.marked c o

@@ -1,9 +1,9 @@
 -- Document 02, R-3: what Judge keeps of the cells that it has passed. The kept numbers and the scratch stand for a list of cells; whatever
 -- list that is, they and the next cell say what stands for the list with that cell behind it, with no look back into the list.
-use Rattle.std.specs.Prelude.{ℕ, ◌*◌, ◌≤◌, ◌≡◌, Bool, true, false, not, ◌&&◌, List, [], ◌∷◌, ◌++◌, eqb, length, drop}
+use Rattle.std.specs.Prelude.{ℕ, ◌*◌, ◌≤◌, ◌≡◌, Bool, true, false, not, List, [], ◌∷◌, ◌++◌, Option, None, Some, length, drop}
 use Rattle.grid.specs.declared.Panel.{Panel}
 use Rattle.grid.specs.declared.Cell.{Cell}
-use Rattle.grid.specs.Panel.{cell, area, OnPanel, same_cell}
+use Rattle.grid.specs.Panel.{area, OnPanel, same_cell}
 use Rattle.list.specs.List.{all_on, all_steps, among, none_twice, last_from}
 use Rattle.scratch.specs.Scratch.{unmarked, Clean}
 use Rattle.judge_walk.specs.declared.Kept.{Kept}
@@ -13,13 +13,18 @@ abbrev pub starts : Cell → List Cell → Bool
 starts s [] = false
 starts s (c ∷ l) = same_cell c s
 
--- what is kept of a list whose cells are all on the panel: the tests of its steps, of repeats and of the first cell; the last cell, (0, 0)
--- where there is none; and of each cell of the panel whether it stands in the list, which is so where its place in scratch is not 0
+-- the last cell, if there is one
+abbrev pub ends : List Cell → Option Cell
+ends [] = None
+ends (c ∷ l) = Some (last_from c l)
+
+-- what is kept of a list whose cells are all on the panel: the tests of its steps, of repeats and of the first cell; the last cell; and of
+-- each cell of the panel whether it stands in the list, which is so where its place in scratch is not 0
 pub record KeptOn (p : Panel) (s : Cell) (l : List Cell) (k : Kept) (marks : List ℕ) : Type 0 where
-  pub jump : eqb k.jump 0 ≡ all_steps l
-  pub twice : eqb k.twice 0 ≡ none_twice l
+  pub steps : k.steps ≡ all_steps l
+  pub once : k.once ≡ none_twice l
   pub begins : k.begins ≡ starts s l
-  pub last : cell k.x k.y ≡ last_from (cell 0 0) l
+  pub last : k.last ≡ ends l
   pub marked : (c : Cell) → OnPanel p c → unmarked p marks c ≡ not (among c l)
 
 -- the kept numbers and the scratch stand for a list (an abstraction relation): how many bytes it has, whether a cell is off the panel, and
@@ -27,22 +32,13 @@ pub record KeptOn (p : Panel) (s : Cell) (l : List Cell) (k : Kept) (marks : Lis
 pub record Stands (p : Panel) (s : Cell) (l : List Cell) (k : Kept) (marks : List ℕ) : Type 0 where
   pub room : area p ≤ length marks
   pub bytes : k.bytes ≡ 2 * length l
-  pub off : eqb k.off 0 ≡ all_on p l
-  pub on : all_on p l ≡ true → KeptOn p s l k marks
+  pub on : k.on ≡ all_on p l
+  pub kept : all_on p l ≡ true → KeptOn p s l k marks
 
 -- they stand for some list
 pub record StandsForSome (p : Panel) (s : Cell) (k : Kept) (marks : List ℕ) : Type 0 where
   pub list : List Cell
   pub stands : Stands p s list k marks
-
--- r is kept behind k, where a cell c of the panel, whose place held a mark, becomes the last
-pub record Noted (k : Kept) (c : Cell) (mark : ℕ) (r : Kept) : Type 0 where
-  pub twice : eqb r.twice 0 ≡ (eqb k.twice 0 && eqb mark 0)
-  pub last : cell r.x r.y ≡ c
-  pub off : r.off ≡ k.off
-  pub jump : r.jump ≡ k.jump
-  pub begins : r.begins ≡ k.begins
-  pub bytes : r.bytes ≡ k.bytes
 
 -- before the first cell, in clean scratch: they stand for the empty list
 pub record Begins (k : Kept) : Type 0 where

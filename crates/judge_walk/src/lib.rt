@@ -4,26 +4,25 @@
 
 ghost use Rattle.std.specs.Prelude.{◌+◌, ◌<◌, ◌^◌, ◌≡◌, true};
 ghost use Rattle.grid.specs.Panel.{good_sides};
-ghost use Rattle.judge_walk.specs.Walk.{Noted, StandsForSome, Takes, Begins};
+ghost use Rattle.judge_walk.specs.Walk.{StandsForSome, Takes, Begins};
 
-use grid::{Cell, Panel, same_cell};
-use list::squared_distance;
+use grid::{Cell, Order, on_panel};
+use list::adjacent;
 use scratch::place_of;
 
 // The kept numbers of a list of cells.
-#[derive(Clone, Copy)]
+#[derive(Clone, Copy, Debug, PartialEq, Eq)]
 pub struct Kept {
-    // Not 0 where some cell is off the panel.
-    pub off: u8,
-    // Not 0 where some two successive cells are not neighbours.
-    pub jump: u32,
-    // Not 0 where some cell stands twice.
-    pub twice: u8,
+    // Every cell is on the panel.
+    pub on: bool,
+    // Each two successive cells are neighbours.
+    pub steps: bool,
+    // No cell stands twice.
+    pub once: bool,
     // The first cell is the entry.
     pub begins: bool,
-    // The last cell; (0, 0) where there is none.
-    pub x: u32,
-    pub y: u32,
+    // The last cell, if there is one.
+    pub last: Option<Cell>,
     // The bytes of the list.
     pub bytes: usize,
 }
@@ -33,50 +32,47 @@ pub fn start() -> Kept
     ensures { Begins result }
 {
     Kept {
-        off: 0,
-        jump: 0,
-        twice: 0,
+        on: true,
+        steps: true,
+        once: true,
         begins: false,
-        x: 0,
-        y: 0,
+        last: None,
         bytes: 0,
     }
 }
 
-// A cell of the panel, whose place held a mark, becomes the last. The mark is kept by its bits, without
-// a branch. After an 8 marks no longer matter, since 9 is tested behind it; to ask would cost more.
-fn noted(k: Kept, c: Cell, mark: u8) -> Kept
-    ensures { Noted k c mark result }
-{
-    let mut next = k;
-    next.twice = k.twice | mark;
-    next.x = c.x;
-    next.y = c.y;
-    next
-}
-
-// Takes the next cell.
-pub fn take_cell(p: Panel, entry: Cell, k: Kept, c: Cell, scratch: &mut [u8]) -> Kept
-    requires good { good_sides p ≡ true }
-    requires stands { StandsForSome p entry k scratch.old }
+// Takes the next cell. What is kept of it is kept without a branch: after a jump marks no longer
+// matter, but to ask would cost more.
+pub fn take_cell(o: Order, k: Kept, c: Cell, scratch: &mut [u8]) -> Kept
+    requires good { good_sides o.panel ≡ true }
+    requires stands { StandsForSome o.panel o.entry k scratch.old }
     requires fits { k.bytes + 2 < 2 ^ 64 }
-    ensures { Takes p entry k c scratch.old result scratch.new }
+    ensures { Takes o.panel o.entry k c scratch.old result scratch.new }
 {
-    let mut next = k;
-    next.bytes = k.bytes + 2;
-    // The panel's test written out: by a call of on_panel the walk is slower (docs/PERFORMANCE.md).
-    if k.off != 0 || c.x < 1 || p.width < c.x || c.y < 1 || p.height < c.y {
-        next.off = 1;
-        return next;
+    let bytes = k.bytes + 2;
+    if !k.on || !on_panel(o.panel, c) {
+        return Kept {
+            on: false,
+            bytes,
+            ..k
+        };
     }
-    let at = place_of(p, c);
-    next = noted(next, c, scratch[at]);
+    let at = place_of(o.panel, c);
+    let next = Kept {
+        once: k.once & (scratch[at] == 0),
+        last: Some(c),
+        bytes,
+        ..k
+    };
     scratch[at] = 1;
-    if k.bytes == 0 {
-        next.begins = same_cell(c, entry);
-        return next;
+    match k.last {
+        None => Kept {
+            begins: c == o.entry,
+            ..next
+        },
+        Some(last) => Kept {
+            steps: k.steps & adjacent(last, c),
+            ..next
+        },
     }
-    // Some bit is set unless the distance is 1.
-    next.jump = k.jump | (squared_distance(Cell { x: k.x, y: k.y }, c) ^ 1);
-    next
 }

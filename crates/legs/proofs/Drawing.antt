@@ -1,56 +1,26 @@
 -- Legs drawn one after the other: a prefix is written, then the rest of the buffer is lent to the next drawing. One law serves every number of legs.
 use Prim.Native.Nat.{ℕ, ◌+◌, ◌-◌, ◌*◌, ◌≤◌, ◌<◌}
 use mathlib.Core.Path.{◌≡◌, refl, sym, ap, ◌∙◌, subst}
-use mathlib.Core.Bool.{Bool, cond}
-use mathlib.Core.List.{List, [], ◌∷◌, ◌++◌, append-nil, append_assoc, reverse}
+use mathlib.Core.List.{List, [], ◌∷◌, ◌++◌, append_assoc}
 use native.Mathlib.Omega.{arith}
 use lib.ListN.{length, take, drop, get_or, length-append, take-append-drop}
-use lib.Seq.{take-take}
 use borrow.Rule.Slice.PartMut.{put_mid}
 use Rattle.grid.specs.declared.Cell.{Cell}
 use Rattle.grid.specs.declared.Cells.{Cells}
 use Rattle.grid.specs.Bytes.{bytes}
 use Rattle.grid.proofs.Lists.{take_next}
 use Rattle.line.specs.Rectangle.{Inside}
-use Rattle.line.specs.Drawn.{written}
 use Rattle.line.proofs.Drawn.{part_behind, part_long, written_long}
-use Rattle.corner.specs.Cells.{corner_cells}
-use Rattle.corner.specs.Drawn.{Ready}
 use Rattle.corner.proofs.First.{track_most}
 use Rattle.plan.specs.declared.Leg.{Leg}
-use Rattle.plan.specs.Leg.{leg_count, total, leg_cells, legs_cells}
+use Rattle.plan.specs.Leg.{total, leg_cells, legs_cells}
 use Rattle.plan.specs.Drawing.{Each, Drawable, Room, Written}
 use Rattle.plan.proofs.Chain.{total_append, length_legs}
-
--- ---- one leg
-
-pub ready : {g : Leg} {buf : List ℕ} → Room (g ∷ []) buf → Ready g.a g.b g.t buf
-ready {g} r = elim r.each [
-  | Each.more d n ↦ record {
-    corner = d.corner;
-    opposite = d.opposite;
-    inside = d.inside;
-    room = let h = r.room in omega arith;
-  }
-]
-
--- walked back where b is set, else forth
-pub leg_written : (g : Leg) (b : Bool) {r : Cells} {old new : List ℕ} → g.back ≡ b → r.0 ≡ leg_count g
-    → new ≡ written (cond b (reverse (corner_cells g.a g.b g.t)) (corner_cells g.a g.b g.t)) (leg_count g) old → Written (g ∷ []) r old new
-leg_written g b {r} {old} e q w =
-    let l = corner_cells g.a g.b g.t in
-    let z : leg_count g ≡ leg_count g + 0 = omega arith in
-    record {
-      count = q ∙ z;
-      content = w ∙ (λ i. written (cond (sym e i) (reverse l) l) (z i) old) ∙ ap (λ (k : List Cell). written k (leg_count g + 0) old) (sym (append-nil (leg_cells g)));
-    }
 
 -- a leg's corners are bytes, so that its cells are at most 256 by 256
 legs_most : {l : List Leg} → Each Drawable l → total l ≤ 65536 * length l
 legs_most Each.none = omega arith
 legs_most (Each.more d e) = omega (arith, track_most d.corner d.opposite d.inside, legs_most e)
-
--- ---- legs after legs
 
 each_first : {P : Leg → Type 0} (l k : List Leg) → Each P (l ++ k) → Each P l
 each_first [] k e = Each.none
@@ -113,11 +83,9 @@ module _ (l k : List Leg) {old : List ℕ} (room : Room (l ++ k) old) where
         sum : 2 * r.0 + 2 * total k ≡ 2 * total (l ++ k)
         sum = omega (arith, w.count, total_append l k)
 
--- the first i legs of an array are drawn, then the next one, d standing for a leg that is not there
+-- the first i legs of a list are drawn, then the next one, d standing for a leg that is not there
 module _ (l : List Leg) {i : ℕ} (d : Leg) (there : i < length l) where
-  pub room_next : {n : ℕ} {old : List ℕ} → i < n → Room (take n l) old → Room (take i l ++ (get_or l i d ∷ [])) old
-  room_next {n} {old} more room =
-      let behind = drop (i + 1) (take n l) in
-      let whole = subst (λ (k : List Leg). Room k old) (sym (take-append-drop (i + 1) (take n l))) room in
-      subst (λ (k : List Leg). Room k old) (take-take (i + 1) n l (omega arith) ∙ take_next d l i there)
-      (room_first (take (i + 1) (take n l)) behind whole)
+  pub room_next : {old : List ℕ} → Room l old → Room (take i l ++ (get_or l i d ∷ [])) old
+  room_next {old} room =
+      let whole = subst (λ (k : List Leg). Room k old) (sym (take-append-drop (i + 1) l)) room in
+      subst (λ (k : List Leg). Room k old) (take_next d l i there) (room_first (take (i + 1) l) (drop (i + 1) l) whole)

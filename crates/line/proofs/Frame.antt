@@ -1,6 +1,8 @@
 -- A rectangle coordinate by coordinate, and its lines there and back. Rows and columns are one law: a `Frame` says where the p-th cell of the q-th line lies.
-use Rattle.std.proofs.Common.{◌≡◌, ℕ, suc, ◌+◌, ◌*◌, ◌%◌, Bool, true, false, cond, ◌≢◌, sym, refl, ap, ◌∙◌, mul_comm, add_comm, arith, eq-eqb, ne_eqb}
+use Rattle.std.proofs.Common.{◌≡◌, ℕ, suc, ◌+◌, ◌*◌, ◌%◌, Bool, cond, ◌≢◌, sym, refl, ap, ◌∙◌, mul_comm, add_comm, arith, eq-eqb, ne_eqb}
 use Rattle.grid.specs.declared.Cell.{Cell}
+use Rattle.line.specs.declared.Along.{Along}
+use Rattle.line.specs.declared.Along.TheVariants.{Rows, Columns}
 use Rattle.grid.specs.Panel.{cell, dist, apart, Neighbours}
 use Rattle.grid.proofs.Facts.{cell_eq}
 use Rattle.line.specs.Rectangle.{Inside, cells_between, ahead, turning, sweep_end}
@@ -36,7 +38,7 @@ in_bytes s t i = record { across = below (inside_x i) s.across t.across; down = 
 -- ---- rows and columns
 
 -- E p q is the p-th cell of the q-th line
-pub record Frame (row : Bool) (E : ℕ → ℕ → Cell) : Type 0 where
+pub record Frame (way : Along) (E : ℕ → ℕ → Cell) : Type 0 where
   pub along : Cell → ℕ
   pub over : Cell → ℕ
   pub inside : {p q p' q' : ℕ} {c : Cell} → Between p p' (along c) → Between q q' (over c) → Inside (E p q) (E p' q') c
@@ -45,10 +47,10 @@ pub record Frame (row : Bool) (E : ℕ → ℕ → Cell) : Type 0 where
   pub beside : (p q s : ℕ) → dist q s ≡ 1 → Neighbours (E p q) (E p s)
   pub sides : (p q p' q' : ℕ) → dist (E p q).x (E p' q').x + dist (E p q).y (E p' q').y ≡ dist p p' + dist q q'
   pub size : (p q p' q' : ℕ) → cells_between (E p q) (E p' q') ≡ (dist p p' + 1) * (dist q q' + 1)
-  pub end : (p q p' q' : ℕ) → sweep_end row (E p q) (E p' q') ≡ E (turning (dist q q' + 1) p p') q'
-  pub sweeps : (p q p' q' : ℕ) → sweep row (E p q) (E p' q') ≡ lines E p p' (ahead q q') (suc (dist q q'))
+  pub end : (p q p' q' : ℕ) → sweep_end way (E p q) (E p' q') ≡ E (turning (dist q q' + 1) p p') q'
+  pub sweeps : (p q p' q' : ℕ) → sweep way (E p q) (E p' q') ≡ lines E p p' (ahead q q') (suc (dist q q'))
 
-unfoldable pub in_rows : Frame true (λ p q. cell p q)
+unfoldable pub in_rows : Frame Rows (λ p q. cell p q)
 unfolding apart cells_between sweep_end sweep
 in_rows = record {
   along = λ c. c.x;
@@ -63,7 +65,7 @@ in_rows = record {
   sweeps = λ p q p' q'. refl;
 }
 
-unfoldable pub in_columns : Frame false (λ p q. cell q p)
+unfoldable pub in_columns : Frame Columns (λ p q. cell q p)
 unfolding apart cells_between sweep_end sweep
 in_columns = record {
   along = λ c. c.y;
@@ -98,10 +100,10 @@ turning_next k p q =
     (λ e. turning_even (suc k) p q (omega arith) ∙ sym (turning_odd k q p e))
 
 -- a single line ends in the target
-pub sweep_row : (a t : Cell) → a.y ≡ t.y → sweep_end true a t ≡ t
+pub sweep_row : (a t : Cell) → a.y ≡ t.y → sweep_end Rows a t ≡ t
 unfolding sweep_end
 sweep_row a t e = let z = dist_same e in cell_eq (turning_odd _ _ _ (omega arith)) refl
 
-pub sweep_column : (a t : Cell) → a.x ≡ t.x → sweep_end false a t ≡ t
+pub sweep_column : (a t : Cell) → a.x ≡ t.x → sweep_end Columns a t ≡ t
 unfolding sweep_end
 sweep_column a t e = let z = dist_same e in cell_eq refl (turning_odd _ _ _ (omega arith))

@@ -3,5 +3,5 @@ pub mod Frame
 pub mod Line
 pub mod Written
 pub mod Drawn
-pub mod Snake
+pub mod Snaked
 pub mod Sweep

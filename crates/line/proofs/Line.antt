@@ -1,13 +1,12 @@
 -- A straight line is a track. Cell i of a line is i steps ahead of its first cell (`Along`), in a row or in a column (`Axis`), and i steps on in number
 -- (`Unit`): one law for the four directions.
-use Rattle.std.proofs.Common.{◌≡◌, ℕ, zero, suc, ◌+◌, ◌-◌, ◌*◌, ◌%◌, ◌<◌, ◌≤◌, Bool, cond, leb, ◌≢◌, List, [], ◌∷◌, ◌++◌, reverse, length, sym, refl, ap, ◌∙◌, subst, subst₂, suc-le-suc, zero-le, add-mul, add-one, arith, le-leb}
+use Rattle.std.proofs.Common.{◌≡◌, ℕ, zero, suc, ◌+◌, ◌-◌, ◌*◌, ◌%◌, ◌<◌, ◌≤◌, Bool, cond, ◌≢◌, List, [], ◌∷◌, ◌++◌, reverse, length, sym, refl, ap, ◌∙◌, subst, subst₂, suc-le-suc, zero-le, add-mul, add-one, arith, le-leb}
 use mathlib.Core.List.{reverse-append}
 use borrow.Author.Tests.{lt-leb}
 use Rattle.grid.specs.declared.Cell.{Cell}
 use Rattle.grid.specs.Panel.{cell, dist, apart, Neighbours}
 use Rattle.grid.specs.Track.{Walk, All, Once, TrackIn}
 use Rattle.grid.proofs.Facts.{cell_eq}
-use Rattle.grid.proofs.Tests.{both_branches}
 use Rattle.line.specs.Rectangle.{Inside, ahead}
 use Rattle.line.specs.Line.{line, cell_number, cell_of, numbered, step_to}
 use Rattle.line.specs.Drawn.{InBytes}
@@ -219,10 +218,6 @@ row_unit y h = record { least = omega arith; most = omega arith; more = λ p i. 
 pub column_unit : (x : ℕ) → x ≤ 255 → Unit (λ y. cell x y) 256
 unfolding cell_number
 column_unit x h = record { least = omega arith; most = omega arith; more = λ p i. omega arith; small = λ p l. record { across = h; down = l } }
-
-pub step_small : (u p q : ℕ) → 1 ≤ u → u ≤ 65535 → step_to u p q ≤ 65535
-unfolding step_to
-step_small u p q l h = both_branches (λ (k : ℕ). k ≤ 65535) (leb p q) u (65536 - u) (λ e. h) (λ e. omega arith)
 
 module _ {e : ℕ → Cell} {u : ℕ} (U : Unit e u) (p q : ℕ) (hp : p ≤ 255) (hq : q ≤ 255) where
   near : {i r : ℕ} → Along p q i r → r ≤ 255

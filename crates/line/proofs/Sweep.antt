@@ -1,23 +1,26 @@
 -- All lines of a rectangle, there and back from a corner: the numbers that the code writes are their cells, and these are a track, the first line and
 -- then the lines of what remains from the corner beside its end. From where they end they are the same lines, the last cell first.
-use Rattle.std.proofs.Common.{◌≡◌, ℕ, zero, suc, ◌+◌, ◌-◌, ◌*◌, ◌%◌, ◌<◌, ◌≤◌, Bool, true, false, cond, ◌≢◌, List, ◌++◌, reverse, length, sym, refl, ap, ◌∙◌, subst, subst₂, append_assoc, append-nil, suc-le-suc, zero-le, add_comm, mul-zero, mul-suc, add-one, arith, length-append, le-leb}
+use Rattle.std.proofs.Common.{◌≡◌, ℕ, zero, suc, ◌+◌, ◌-◌, ◌*◌, ◌%◌, ◌<◌, ◌≤◌, Bool, cond, ◌≢◌, List, ◌++◌, reverse, length, sym, refl, ap, ◌∙◌, subst, subst₂, append_assoc, append-nil, suc-le-suc, zero-le, add_comm, mul-zero, mul-suc, add-one, arith, length-append, le-leb}
 use mathlib.Core.List.{reverse-append}
 use borrow.Author.Tests.{lt-leb}
 use Rattle.grid.specs.declared.Cell.{Cell}
+use Rattle.line.specs.declared.Along.{Along}
+use Rattle.line.specs.declared.Along.TheVariants.{Rows, Columns}
 use Rattle.grid.specs.Panel.{dist}
 use Rattle.grid.specs.Track.{TrackIn}
 use Rattle.grid.proofs.Facts.{dist_sym}
 use Rattle.grid.proofs.Track.{join}
+use Rattle.line.specs.Along.{seen, other, unit}
 use Rattle.line.specs.Rectangle.{Inside, cells_between, ahead, turning, sweep_end}
-use Rattle.line.specs.Line.{line, cell_number, step_to, snake, all_lines}
+use Rattle.line.specs.Line.{line, cell_number, step_to, snake}
 use Rattle.line.specs.Sweep.{line_from, lines, sweep}
-use Rattle.line.specs.Drawn.{Bytes, InBytes, ReadySnake, ReadyLines, written}
+use Rattle.line.specs.Drawn.{Bytes, InBytes}
 use Rattle.line.proofs.Between.{between_sym, start_between, below, by_le, lt_le, dist_same, dist_eq, dist_small, dist_up, dist_down}
 use Rattle.line.proofs.Between.{ahead_up, ahead_down, Cut, cut}
 use Rattle.line.proofs.Frame.{Frame, in_rows, in_columns, turning_even, turning_odd, turning_next, turning_once}
 use Rattle.line.proofs.Line.{Axis, in_row, in_column, line_track, length_line, line_same, line_back}
 use Rattle.line.proofs.Line.{ahead_start, ahead_stop, ahead_next, ahead_back}
-use Rattle.line.proofs.Line.{Unit, row_unit, column_unit, number_small, step_small, line_numbered, stepped}
+use Rattle.line.proofs.Line.{Unit, row_unit, column_unit, line_numbered, stepped}
 
 -- ---- lines there and back, by their cells
 
@@ -104,26 +107,6 @@ step_next v q q' h l =
     let w = dist_down g in
     ap (λ (b : Bool). cond b v (65536 - v)) (lt-leb (ahead q q' 1) q' (omega arith) ∙ sym (lt-leb q q' e)))
 
--- the lines by the numbers that the code computes: what drawing them asks for, and what is then written
-module _ {f u v p q p' q' s r c n k : ℕ} {old : List ℕ} (a : ReadyLines f u v p q p' q' old)
-    (es : s ≡ step_to u p p') (er : r ≡ step_to u p' p) (ec : c ≡ step_to v q q') (en : n ≡ dist p p') (ek : k ≡ dist q q') where
-  pub ask_snake : ReadySnake f s r c (n + 1) (k + 1) old
-  ask_snake =
-      let g : (n + 1) * (k + 1) ≡ (dist p p' + 1) * (dist q q' + 1) = λ j. (en j + 1) * (ek j + 1) in
-      record {
-        start = a.start;
-        forth = omega (arith, step_small u p p' a.step a.step_most);
-        home = omega (arith, step_small u p' p a.step a.step_most);
-        beside = omega (arith, step_small v q q' a.over a.over_most);
-        some = omega arith;
-        most = omega (arith, dist_small p p' a.sides.left a.sides.right);
-        room = omega (arith, a.room);
-      }
-
-  pub snake_lines : {new : List ℕ} → new ≡ written (snake f s r c (n + 1) (k + 1)) ((n + 1) * (k + 1)) old
-      → new ≡ written (all_lines f u v p q p' q') ((dist p p' + 1) * (dist q q' + 1)) old
-  snake_lines w = w ∙ (λ j. written (snake f (es j) (er j) (ec j) (en j + 1) (ek j + 1)) ((en j + 1) * (ek j + 1)) old)
-
 pub row_bytes : {a b : Cell} → InBytes a → InBytes b → Bytes a.x a.y b.x b.y
 row_bytes s t = record { left = s.across; top = s.down; right = t.across; bottom = t.down }
 
@@ -131,7 +114,7 @@ pub column_bytes : {a b : Cell} → InBytes a → InBytes b → Bytes a.y a.x b.
 column_bytes s t = record { left = s.down; top = s.across; right = t.down; bottom = t.across }
 
 -- a frame whose lines, and the ways across them, go by steps in number
-pub record Numbered {row : Bool} {E : ℕ → ℕ → Cell} (F : Frame row E) (u v : ℕ) : Type 0 where
+pub record Numbered {way : Along} {E : ℕ → ℕ → Cell} (F : Frame way E) (u v : ℕ) : Type 0 where
   pub axis : (q : ℕ) → Axis (λ p. E p q)
   pub unit : (q : ℕ) → q ≤ 255 → Unit (λ p. E p q) u
   pub unit_over : (p : ℕ) → p ≤ 255 → Unit (λ q. E p q) v
@@ -152,7 +135,7 @@ turns f u c p p' k = snake f (step_to u p p') (step_to u p' p) c (dist p p' + 1)
 
 -- ---- the lines are a track
 
-module _ {row : Bool} {E : ℕ → ℕ → Cell} (F : Frame row E) where
+module _ {way : Along} {E : ℕ → ℕ → Cell} (F : Frame way E) where
   swept : ((q : ℕ) → Axis (λ p. E p q)) → (k p q p' q' : ℕ) → dist q q' ≡ k → From (E p q) (E p' q') (E (turning (k + 1) p p') q') (lines E p p' (ahead q q') (suc k))
   swept axis zero p q p' q' d =
       subst₂ (λ (r : ℕ) (l : List Cell). From (E p q) (E p' r) (E (turning 1 p p') r) l) (dist_eq q q' d)
@@ -170,13 +153,13 @@ module _ {row : Bool} {E : ℕ → ℕ → Cell} (F : Frame row E) where
       (line_track (axis q) p p') (F.beside p' q (ahead q q' 1) C.beside)
       (swept axis k p' (ahead q q' 1) p q' (omega (arith, C.left))))
 
-  sweep_in : ((q : ℕ) → Axis (λ p. E p q)) → (p q p' q' : ℕ) → From (E p q) (E p' q') (sweep_end row (E p q) (E p' q')) (sweep row (E p q) (E p' q'))
+  sweep_in : ((q : ℕ) → Axis (λ p. E p q)) → (p q p' q' : ℕ) → From (E p q) (E p' q') (sweep_end way (E p q) (E p' q')) (sweep way (E p q) (E p' q'))
   sweep_in axis p q p' q' =
       subst₂ (λ (c : Cell) (l : List Cell). From (E p q) (E p' q') c l) (sym (F.end p q p' q')) (sym (F.sweeps p q p' q')) (swept axis (dist q q') p q p' q' refl)
 
   -- from where the lines end they have the same cells, the last one first
   pub sweep_home : (p q p' q' : ℕ) {x o : ℕ} → x ≡ turning (dist q q' + 1) p p' → o ≡ turning (dist q q' + 1) p' p
-      → sweep row (E x q') (E o q) ≡ reverse (sweep row (E p q) (E p' q'))
+      → sweep way (E x q') (E o q) ≡ reverse (sweep way (E p q) (E p' q'))
   sweep_home p q p' q' {x} {o} e f =
       let n = add-one (dist q q') in
       let e' = e ∙ ap (λ (k : ℕ). turning k p p') n in
@@ -185,27 +168,27 @@ module _ {row : Bool} {E : ℕ → ℕ → Cell} (F : Frame row E) where
       ∙ (λ j. lines E (e' j) (f' j) (ahead q' q) (suc (dist_sym q' q j)))
       ∙ lines_home E p p' q q' ∙ ap reverse (sym (F.sweeps p q p' q'))
 
-  pub line_home : (p q p' q' : ℕ) → q ≡ q' → sweep row (E p' q') (E p q) ≡ reverse (sweep row (E p q) (E p' q'))
+  pub line_home : (p q p' q' : ℕ) → q ≡ q' → sweep way (E p' q') (E p q) ≡ reverse (sweep way (E p q) (E p' q'))
   line_home p q p' q' e =
       let z = dist_same e in
       sweep_home p q p' q' (sym (turning_odd _ p p' (omega arith))) (sym (turning_odd _ p' p (omega arith)))
 
-  length_in : (p q p' q' : ℕ) → length (sweep row (E p q) (E p' q')) ≡ cells_between (E p q) (E p' q')
+  length_in : (p q p' q' : ℕ) → length (sweep way (E p q) (E p' q')) ≡ cells_between (E p q) (E p' q')
   length_in p q p' q' =
       ap length (F.sweeps p q p' q') ∙ length_lines E p p' (ahead q q') (suc (dist q q'))
       ∙ ap (λ (k : ℕ). (dist p p' + 1) * k) (sym (add-one (dist q q'))) ∙ sym (F.size p q p' q')
 
-pub sweep_track : (row : Bool) (a b : Cell) → TrackIn (Inside a b) a (sweep_end row a b) (sweep row a b)
-sweep_track true a b = sweep_in in_rows in_row a.x a.y b.x b.y
-sweep_track false a b = sweep_in in_columns in_column a.y a.x b.y b.x
+pub sweep_track : (way : Along) (a b : Cell) → TrackIn (Inside a b) a (sweep_end way a b) (sweep way a b)
+sweep_track Rows a b = sweep_in in_rows in_row a.x a.y b.x b.y
+sweep_track Columns a b = sweep_in in_columns in_column a.y a.x b.y b.x
 
-pub length_sweep : (row : Bool) (a b : Cell) → length (sweep row a b) ≡ cells_between a b
-length_sweep true a b = length_in in_rows a.x a.y b.x b.y
-length_sweep false a b = length_in in_columns a.y a.x b.y b.x
+pub length_sweep : (way : Along) (a b : Cell) → length (sweep way a b) ≡ cells_between a b
+length_sweep Rows a b = length_in in_rows a.x a.y b.x b.y
+length_sweep Columns a b = length_in in_columns a.y a.x b.y b.x
 
 -- ---- the numbers that the code writes are these cells
 
-module _ {row : Bool} {E : ℕ → ℕ → Cell} {F : Frame row E} {u v : ℕ} (N : Numbered F u v) where
+module _ {way : Along} {E : ℕ → ℕ → Cell} {F : Frame way E} {u v : ℕ} (N : Numbered F u v) where
   -- the number where the next line begins
   next : {p q p' q' c : ℕ} → Bytes p q p' q' → 1 ≤ dist q q' → c ≡ step_to v q q'
       → (cell_number (E p q) + step_to u p p' * (dist p p' + 1 - 1) + c) % 65536 ≡ cell_number (E p' (ahead q q' 1))
@@ -238,32 +221,26 @@ module _ {row : Bool} {E : ℕ → ℕ → Cell} {F : Frame row E} {u v : ℕ} (
           let b = C.behind (ahead q q' 1) (start_between _ _) in
           record { left = s.right; top = below b s.top s.bottom; right = s.left; bottom = s.bottom }
 
-  -- what drawing them asks for
-  pub ask_lines : {p q p' q' f : ℕ} {buf : List ℕ} → Bytes p q p' q' → f ≡ cell_number (E p q)
-      → 2 * cells_between (E p q) (E p' q') ≤ length buf → ReadyLines f u v p q p' q' buf
-  ask_lines {p} {q} {p'} {q'} s e l =
-      let along = N.unit q s.top in
-      let over = N.unit_over p s.left in
-      record {
-        start = omega (arith, e, number_small (along.small p s.left));
-        step = along.least;
-        step_most = along.most;
-        over = over.least;
-        over_most = over.most;
-        sides = s;
-        room = omega (arith, F.size p q p' q', l);
-      }
+  pub all_numbered : {p q p' q' : ℕ} → Bytes p q p' q'
+      → turns (cell_number (E p q)) u (step_to v q q') p p' (dist q q' + 1) ≡ sweep way (E p q) (E p' q')
+  all_numbered {p} {q} {p'} {q'} s =
+      ap (turns (cell_number (E p q)) u (step_to v q q') p p') (add-one (dist q q'))
+      ∙ by_numbers (dist q q') p q p' q' (step_to v q q') s refl (λ z. refl) ∙ sym (F.sweeps p q p' q')
 
-  -- what the code has written
-  pub sweep_written : {way : Bool} {p q p' q' f : ℕ} (old : List ℕ) {new : List ℕ} → way ≡ row → Bytes p q p' q' → f ≡ cell_number (E p q)
-      → new ≡ written (all_lines f u v p q p' q') ((dist p p' + 1) * (dist q q' + 1)) old
-      → new ≡ written (sweep way (E p q) (E p' q')) (cells_between (E p q) (E p' q')) old
-  sweep_written {way} {p} {q} {p'} {q'} {f} old z s e w = w ∙ (λ j. written (cells j) (sym (F.size p q p' q') j) old)
-    where
-      cells : all_lines f u v p q p' q' ≡ sweep way (E p q) (E p' q')
-      cells =
-          (λ j. turns' (e j) (add-one (dist q q') j)) ∙ by_numbers (dist q q') p q p' q' (step_to v q q') s refl (λ z. refl)
-          ∙ sym (F.sweeps p q p' q') ∙ ap (λ (b : Bool). sweep b (E p q) (E p' q')) (sym z)
-        where
-          turns' : ℕ → ℕ → List Cell
-          turns' f k = turns f u (step_to v q q') p p' k
+-- the numbers that the code computes
+pub snake_of : (w : Along) (a b : Cell) → InBytes a → InBytes b
+    → snake (cell_number a) (step_to (unit w) (seen w a).x (seen w b).x) (step_to (unit w) (seen w b).x (seen w a).x)
+    (step_to (unit (other w)) (seen w a).y (seen w b).y) (dist (seen w a).x (seen w b).x + 1) (dist (seen w a).y (seen w b).y + 1)
+    ≡ sweep w a b
+snake_of Rows a b s t = all_numbered numbered_rows (row_bytes s t)
+snake_of Columns a b s t = all_numbered numbered_columns (column_bytes s t)
+
+pub snake_size : (w : Along) (a b : Cell)
+    → (dist (seen w a).x (seen w b).x + 1) * (dist (seen w a).y (seen w b).y + 1) ≡ cells_between a b
+snake_size Rows a b = sym (in_rows.size a.x a.y b.x b.y)
+snake_size Columns a b = sym (in_columns.size a.y a.x b.y b.x)
+
+-- a line of a rectangle in bytes
+pub side_small : (w : Along) {a b : Cell} → InBytes a → InBytes b → dist (seen w a).x (seen w b).x ≤ 255
+side_small Rows s t = dist_small _ _ s.across t.across
+side_small Columns s t = dist_small _ _ s.down t.down

@@ -1,3 +1,4 @@
+pub mod Along
 pub mod Rectangle
 pub mod Line
 pub mod Sweep

@@ -1,7 +1,9 @@
 -- A rectangle of cells is given by two opposite corners a and b, in either order. Its lines are its rows, or else its columns.
-use Rattle.std.specs.Prelude.{ℕ, ◌+◌, ◌-◌, ◌*◌, ◌%◌, ◌≤◌, min, max, Bool, true, false, cond, ◌==◌, nat_le}
+use Rattle.std.specs.Prelude.{ℕ, ◌+◌, ◌-◌, ◌*◌, ◌%◌, ◌≤◌, min, max, cond, ◌==◌, nat_le}
 use Rattle.grid.specs.declared.Cell.{Cell}
 use Rattle.grid.specs.Panel.{cell, dist}
+use Rattle.line.specs.declared.Along.{Along}
+use Rattle.line.specs.declared.Along.TheVariants.{Rows, Columns}
 
 -- c lies in the rectangle
 pub record Inside (a b c : Cell) : Type 0 where
@@ -23,6 +25,6 @@ unfoldable pub turning : ℕ → ℕ → ℕ → ℕ
 turning k p q = cond (k % 2 == 0) p q
 
 -- where all rows, or all columns, there and back from the corner a end
-unfoldable pub sweep_end : Bool → Cell → Cell → Cell
-sweep_end true a b = cell (turning (dist a.y b.y + 1) a.x b.x) b.y
-sweep_end false a b = cell b.x (turning (dist a.x b.x + 1) a.y b.y)
+unfoldable pub sweep_end : Along → Cell → Cell → Cell
+sweep_end Rows a b = cell (turning (dist a.y b.y + 1) a.x b.x) b.y
+sweep_end Columns a b = cell b.x (turning (dist a.x b.x + 1) a.y b.y)

@@ -1,7 +1,9 @@
 -- Which cells the lines of a rectangle have, in their order: all rows, or all columns, there and back from a corner (boustrophedon).
-use Rattle.std.specs.Prelude.{ℕ, zero, suc, ◌+◌, Bool, true, false, List, [], ◌++◌}
+use Rattle.std.specs.Prelude.{ℕ, zero, suc, ◌+◌, List, [], ◌++◌}
 use Rattle.grid.specs.declared.Cell.{Cell}
 use Rattle.grid.specs.Panel.{cell, dist}
+use Rattle.line.specs.declared.Along.{Along}
+use Rattle.line.specs.declared.Along.TheVariants.{Rows, Columns}
 use Rattle.line.specs.Rectangle.{ahead}
 use Rattle.line.specs.Line.{line}
 
@@ -15,6 +17,6 @@ lines E p p' f zero = []
 lines E p p' f (suc k) = line_from E p p' (f 0) ++ lines E p' p (λ j. f (suc j)) k
 
 -- all rows, or all columns, of the rectangle of a and b, from the corner a
-unfoldable pub sweep : Bool → Cell → Cell → List Cell
-sweep true a b = lines (λ x y. cell x y) a.x b.x (ahead a.y b.y) (suc (dist a.y b.y))
-sweep false a b = lines (λ y x. cell x y) a.y b.y (ahead a.x b.x) (suc (dist a.x b.x))
+unfoldable pub sweep : Along → Cell → Cell → List Cell
+sweep Rows a b = lines (λ x y. cell x y) a.x b.x (ahead a.y b.y) (suc (dist a.y b.y))
+sweep Columns a b = lines (λ y x. cell x y) a.y b.y (ahead a.x b.x) (suc (dist a.x b.x))

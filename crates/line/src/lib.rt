@@ -3,14 +3,53 @@
 #![tactic(auto)]
 
 ghost use Rattle.std.specs.Prelude.{◌≡◌, ◌+◌, ◌-◌, ◌*◌, ◌%◌, ◌≤◌, length};
-ghost use Rattle.grid.specs.Panel.{dist};
+ghost use Rattle.line.specs.Along.{seen, other, unit};
 ghost use Rattle.line.specs.Rectangle.{cells_between};
-ghost use Rattle.line.specs.Line.{line, cell_number, numbered, step_to, snake, all_lines};
+ghost use Rattle.line.specs.Line.{line, cell_number, numbered, step_to, snake};
 ghost use Rattle.line.specs.Sweep.{sweep};
-ghost use Rattle.line.specs.Drawn.{InBytes, ReadySnake, ReadyLines, written};
+ghost use Rattle.line.specs.Drawn.{InBytes, written};
 
-use grid::{Cell, distance};
-use std::num::wrapping_add_u16;
+use grid::{Cell, distance, turn_cell};
+
+// The lines of a rectangle: all its rows, or all its columns.
+#[derive(Clone, Copy, Debug, PartialEq, Eq)]
+pub enum Along {
+    Rows,
+    Columns,
+}
+
+impl Along {
+    // A cell as the lines have it: x is its place in its line, and y its line.
+    #[inline]
+    pub fn seen(self, c: Cell) -> Cell
+        ensures { result ≡ seen self c }
+    {
+        match self {
+            Along::Rows => c,
+            Along::Columns => turn_cell(c),
+        }
+    }
+
+    #[inline]
+    pub fn other(self) -> Along
+        ensures { result ≡ other self }
+    {
+        match self {
+            Along::Rows => Along::Columns,
+            Along::Columns => Along::Rows,
+        }
+    }
+
+    // How much more in number the next cell of a line is.
+    fn unit(self) -> u16
+        ensures { result ≡ unit self }
+    {
+        match self {
+            Along::Rows => 1,
+            Along::Columns => 256,
+        }
+    }
+}
 
 // n cells from the number `first` on, each `step` further: one loop for the four directions, since
 // taking away is adding modulo 65536. The compiler stores eight cells at a time.
@@ -22,88 +61,97 @@ fn draw_line(first: u16, step: u16, n: usize, buf: &mut [u8])
     for i in 0..n {
         buf[2 * i] = (cell % 256) as u8;
         buf[2 * i + 1] = (cell / 256) as u8;
-        cell = wrapping_add_u16(cell, step);
-    }
-}
-
-// One of several lines: also the number where the next one begins, `across` from this one's end.
-fn draw_next(from: u32, way: u32, across: u32, n: usize, buf: &mut [u8]) -> u32
-    requires { ReadySnake from way way across n 1 buf.old }
-    ensures next { result ≡ (from + way * (n - 1) + across) % 65536 }
-    ensures buf_after { buf.new ≡ written (line (numbered from way) n) n buf.old }
-{
-    draw_line(from as u16, way as u16, n, buf);
-    (from + way * ((n - 1) as u32) + across) % 65536
-}
-
-// Lines of n cells there and back, in pairs, so that both steps are known before the loop.
-fn draw_snake(
-    first: u32,
-    there: u32,
-    back: u32,
-    across: u32,
-    n: usize,
-    lines: usize,
-    buf: &mut [u8],
-)
-    requires { ReadySnake first there back across n lines buf.old }
-    ensures { buf.new ≡ written (snake first there back across n lines) (n * lines) buf.old }
-{
-    let mut from = first;
-    let mut at: usize = 0;
-    for i in 0..lines / 2 {
-        let middle = draw_next(from, there, across, n, &mut buf[at..]);
-        from = draw_next(middle, back, across, n, &mut buf[at + 2 * n..]);
-        at = at + 4 * n;
-    }
-    if lines % 2 == 1 {
-        draw_next(from, there, across, n, &mut buf[at..]);
+        cell = cell.wrapping_add(step);
     }
 }
 
 // The step from p towards q, where one cell further is `unit` more.
-fn step_to(unit: u32, p: u32, q: u32) -> u32
-    requires { unit ≤ 65536 }
+#[tactic(auto, unfolding(crate::specs::Line::step_to))]
+fn step_to(unit: u16, p: u32, q: u32) -> u16
+    requires { 1 ≤ unit }
     ensures { result ≡ step_to unit p q }
 {
-    if p <= q { unit } else { 65536 - unit }
+    if p <= q { unit } else { unit.wrapping_neg() }
 }
 
-fn cell_number(c: Cell) -> u32
+#[tactic(auto, unfolding(crate::specs::Line::cell_number))]
+fn cell_number(c: Cell) -> u16
     requires { InBytes c }
     ensures { result ≡ cell_number c }
 {
-    c.x + 256 * c.y
+    (c.x + 256 * c.y) as u16
 }
 
-// The lines q to q2, each from p to p2, there and back from the number `first` on: the next cell of a
-// line is `unit` more in number, that of the next line `over` more.
-fn draw_lines(first: u32, unit: u32, over: u32, p: u32, q: u32, p2: u32, q2: u32, buf: &mut [u8])
-    requires { ReadyLines first unit over p q p2 q2 buf.old }
-    ensures { buf.new ≡ written (all_lines first unit over p q p2 q2) ((dist p p2 + 1) * (dist q q2 + 1)) buf.old }
-{
-    draw_snake(
-        first,
-        step_to(unit, p, p2),
-        step_to(unit, p2, p),
-        step_to(over, q, q2),
-        (distance(p, p2) + 1) as usize,
-        (distance(q, q2) + 1) as usize,
-        buf,
-    );
+// Lines there and back, by the numbers of their cells: that of the first cell, the steps along a line there
+// and along one back, and the step from a line's end to the next line.
+#[derive(Clone, Copy)]
+struct Snake {
+    first: u16,
+    there: u16,
+    back: u16,
+    across: u16,
+    cells: usize,
+    lines: usize,
+    ghost some: { 1 ≤ cells },
+    ghost most: { cells ≤ 256 },
+}
+
+impl Snake {
+    // All lines of the rectangle of a and b, there and back from the corner a.
+    fn of(along: Along, a: Cell, b: Cell) -> Snake
+        requires corner { InBytes a }
+        requires opposite { InBytes b }
+        ensures cells { snake result.first result.there result.back result.across result.cells result.lines ≡ sweep along a b }
+        ensures size { result.cells * result.lines ≡ cells_between a b }
+    {
+        let from = along.seen(a);
+        let to = along.seen(b);
+        let unit = along.unit();
+        Snake {
+            first: cell_number(a),
+            there: step_to(unit, from.x, to.x),
+            back: step_to(unit, to.x, from.x),
+            across: step_to(along.other().unit(), from.y, to.y),
+            cells: distance(from.x, to.x) as usize + 1,
+            lines: distance(from.y, to.y) as usize + 1,
+        }
+    }
+
+    // One of the lines: also the number where the next one begins.
+    fn draw_next(self, from: u16, way: u16, buf: &mut [u8]) -> u16
+        requires { 2 * self.cells ≤ length buf.old }
+        ensures next { result ≡ (from + way * (self.cells - 1) + self.across) % 65536 }
+        ensures buf_after { buf.new ≡ written (line (numbered from way) self.cells) self.cells buf.old }
+    {
+        draw_line(from, way, self.cells, buf);
+        let last = from.wrapping_add(way.wrapping_mul((self.cells - 1) as u16));
+        last.wrapping_add(self.across)
+    }
+
+    // Two lines a turn, so that both steps are known before the loop.
+    fn draw(self, buf: &mut [u8])
+        requires { 2 * (self.cells * self.lines) ≤ length buf.old }
+        ensures { buf.new ≡ written (snake self.first self.there self.back self.across self.cells self.lines) (self.cells * self.lines) buf.old }
+    {
+        let mut from = self.first;
+        let mut at = 0;
+        for _ in 0..self.lines / 2 {
+            let middle = self.draw_next(from, self.there, &mut buf[at..]);
+            from = self.draw_next(middle, self.back, &mut buf[at + 2 * self.cells..]);
+            at += 4 * self.cells;
+        }
+        if self.lines % 2 == 1 {
+            self.draw_next(from, self.there, &mut buf[at..]);
+        }
+    }
 }
 
 // All rows or all columns of the rectangle of a and b, there and back from the corner a.
-pub fn draw_sweep(row: bool, a: Cell, b: Cell, buf: &mut [u8])
+pub fn draw_sweep(along: Along, a: Cell, b: Cell, buf: &mut [u8])
     requires fact_1 { InBytes a }
     requires fact_2 { InBytes b }
     requires fact_3 { 2 * cells_between a b ≤ length buf.old }
-    ensures { buf.new ≡ written (sweep row a b) (cells_between a b) buf.old }
+    ensures { buf.new ≡ written (sweep along a b) (cells_between a b) buf.old }
 {
-    let first = cell_number(a);
-    if row {
-        draw_lines(first, 1, 256, a.x, a.y, b.x, b.y, buf);
-    } else {
-        draw_lines(first, 256, 1, a.y, a.x, b.y, b.x, buf);
-    }
+    Snake::of(along, a, b).draw(buf);
 }

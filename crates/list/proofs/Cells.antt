@@ -18,14 +18,6 @@ cells_next b i h =
     ∙ ap (λ (r : List ℕ). cells_in (get_or b i 0 ∷ r)) (drop-cons b (suc i) 0 (omega arith))
     ∙ rw (add-one, add-two)
 
-short : (b : List ℕ) → length b ≤ 1 → cells_in b ≡ []
-short [] h = refl
-short (x ∷ []) h = refl
-short (x ∷ y ∷ b) h = absurd (omega arith)
-
-pub cells_end : (b : List ℕ) (i : ℕ) → length b ≤ i + 1 → cells_in (drop i b) ≡ []
-cells_end b i h = short (drop i b) (omega (arith, length-drop i b))
-
 pub length_cells : (b : List ℕ) → length (cells_in b) ≡ length b / 2
 length_cells [] = refl
 length_cells (x ∷ []) = refl

@@ -1,4 +1,5 @@
 -- What the checks of a list say where they refuse nothing, and the other way round.
+use Rattle.std.specs.Prelude.{Ok}
 use Prim.Native.Nat.{ℕ, ◌≤◌}
 use native.Mathlib.Omega.{arith}
 use mathlib.Core.Path.{◌≡◌, refl, sym, ap, ◌∙◌}
@@ -9,7 +10,6 @@ use lib.ListN.{length}
 use borrow.Author.Tests.{leb-true, le-leb}
 use Rattle.grid.specs.declared.Cell.{Cell}
 use Rattle.grid.specs.declared.Panel.{Panel}
-use Rattle.grid.specs.declared.Check.TheVariants.{Good}
 use Rattle.grid.specs.declared.Refusal.TheVariants.{StepCount}
 use Rattle.grid.specs.Panel.{area, good_panel}
 use Rattle.grid.specs.Check.{check_panel}
@@ -22,10 +22,10 @@ use Rattle.list.specs.Check.{check_walk, check_list}
 use Rattle.list.proofs.Cells.{length_cells}
 use Rattle.list.proofs.Whole.{whole, is_whole}
 
-pub walk_good : (p : Panel) (l : List Cell) → check_walk p l ≡ Good → (all_on p l ≡ true) × (all_steps l ≡ true)
+pub walk_good : (p : Panel) (l : List Cell) → check_walk p l ≡ Ok tt → (all_on p l ≡ true) × (all_steps l ≡ true)
 walk_good p l e = (expect_passed (all_on p l) _ _ e, expect_passed (all_steps l) _ _ (expect_rest (all_on p l) _ _ e))
 
-pub is_walk_good : (p : Panel) (l : List Cell) → all_on p l ≡ true → all_steps l ≡ true → check_walk p l ≡ Good
+pub is_walk_good : (p : Panel) (l : List Cell) → all_on p l ≡ true → all_steps l ≡ true → check_walk p l ≡ Ok tt
 is_walk_good p l o n = sym (expect_yes _ _ o (expect_yes _ _ n refl))
 
 -- what a list that Write does not refuse says
@@ -36,7 +36,7 @@ pub record GoodList (p : Panel) (l : List Cell) : Type 0 where
   pub some : 1 ≤ length l
   pub few : length l ≤ area p
 
-module _ (p : Panel) (list : List ℕ) (e : check_list p list ≡ Good) where
+module _ (p : Panel) (list : List ℕ) (e : check_list p list ≡ Ok tt) where
   pub list_whole : whole_cells (length list) ≡ true
   list_whole = expect_passed (whole_cells (length list)) _ _ (after_rest (check_panel p) _ e)
 
@@ -53,7 +53,7 @@ module _ (p : Panel) (list : List ℕ) (e : check_list p list ≡ Good) where
         few = leb-true _ _ (expect_passed (leb (length l) (area p)) _ _ (after_rest (check_walk p l) _ w));
       }
 
-pub is_list_good : (p : Panel) (l : List Cell) → GoodList p l → check_list p (bytes l) ≡ Good
+pub is_list_good : (p : Panel) (l : List Cell) → GoodList p l → check_list p (bytes l) ≡ Ok tt
 is_list_good p l g =
     let back = cells_bytes l in
     let whole : whole_cells (length (bytes l)) ≡ true = is_whole (length (bytes l)) (omega (arith, g.some, length_bytes l)) (omega (arith, length_bytes l)) in

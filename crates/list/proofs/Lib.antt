@@ -7,3 +7,4 @@ pub mod Indexed
 pub mod Checks
 pub mod Behind
 pub mod Apart
+pub mod Paired

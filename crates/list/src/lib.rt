@@ -2,13 +2,13 @@
 // before its buffer.
 #![tactic(auto)]
 
-ghost use Rattle.std.specs.Prelude.{◌≡◌, ◌+◌, ◌*◌, ◌<◌, ◌≤◌, length, get_or, set};
+ghost use Rattle.std.specs.Prelude.{◌≡◌, ◌/◌, ◌+◌, ◌*◌, ◌<◌, ◌≤◌, length, map, get_or, set};
 ghost use Rattle.grid.specs.Panel.{max_side, dist, neighbours};
-ghost use Rattle.grid.specs.Bytes.{InBytes, cells_in};
+ghost use Rattle.grid.specs.Bytes.{InBytes, cells_in, cell_of};
 ghost use Rattle.list.specs.List.{cell_at, squared_distance, whole_cells, all_on, all_steps};
 ghost use Rattle.list.specs.Check.{check_walk, check_list};
 
-use grid::{Cell, Check, Panel, Refusal, area_of, check_panel};
+use grid::{Cell, Panel, Refusal, area_of, check_panel, ensure};
 
 pub fn byte_at(s: &[u8], i: usize) -> u32
     requires { i < length s.now }
@@ -41,21 +41,24 @@ pub fn put_cell(list: &mut [u8], i: usize, c: Cell)
 pub fn whole_cells(bytes: usize) -> bool
     ensures { result ≡ whole_cells bytes }
 {
-    if 1 <= bytes { bytes % 2 == 0 } else { false }
+    1 <= bytes && bytes % 2 == 0
+}
+
+// The bytes of each cell of a list; a last byte without its partner is none.
+pub fn pairs(list: &[u8]) -> &[[u8; 2]]
+    ensures cells { map cell_of result.now ≡ cells_in list.now }
+    ensures count { length result.now ≡ length list.now / 2 }
+{
+    list.as_chunks::<2>().0
 }
 
 // Whether every cell of the list is on the panel.
 pub fn all_on_panel(p: Panel, list: &[u8]) -> bool
     ensures { result ≡ all_on p (cells_in list.now) }
 {
-    let mut i = 0;
-    while i + 1 < list.len() {
-        if !grid::on_panel(p, cell_at(list, i)) {
-            return false;
-        }
-        i += 2;
-    }
-    true
+    pairs(list)
+        .iter()
+        .all(|&pair| grid::on_panel(p, Cell::from(pair)))
 }
 
 // The square of how far two coordinates are apart.
@@ -83,58 +86,33 @@ pub fn adjacent(a: Cell, b: Cell) -> bool
     squared_distance(a, b) == 1
 }
 
-// Whether the cells whose x stand at i and at i + 2 are neighbours.
-fn step_at(list: &[u8], i: usize) -> bool
-    requires { i + 3 < length list.now }
-    ensures { result ≡ neighbours (cell_at list.now i) (cell_at list.now (i + 2)) }
-{
-    adjacent(cell_at(list, i), cell_at(list, i + 2))
-}
-
 // Whether each two successive cells of the list are neighbours.
 fn all_adjacent(list: &[u8]) -> bool
     ensures { result ≡ all_steps (cells_in list.now) }
 {
-    let mut i = 0;
-    while i + 3 < list.len() {
-        if !step_at(list, i) {
+    for i in 1..list.len() / 2 {
+        if !adjacent(cell_at(list, 2 * (i - 1)), cell_at(list, 2 * i)) {
             return false;
         }
-        i += 2;
     }
     true
 }
 
 // 7, then 8.
-fn check_walk(p: Panel, list: &[u8]) -> Check
+fn check_walk(p: Panel, list: &[u8]) -> Result<(), Refusal>
     ensures { result ≡ check_walk p (cells_in list.now) }
 {
-    if !all_on_panel(p, list) {
-        return Check::Refused(Refusal::CellOff);
-    }
-    if !all_adjacent(list) {
-        return Check::Refused(Refusal::NotNeighbours);
-    }
-    Check::Good
+    ensure(all_on_panel(p, list), Refusal::CellOff)?;
+    ensure(all_adjacent(list), Refusal::NotNeighbours)
 }
 
 // What Write refuses whatever the buffer.
-pub fn check_list(p: Panel, list: &[u8]) -> Check
+#[tactic(auto, using(crate::proofs::Cells::length_cells))]
+pub fn check_list(p: Panel, list: &[u8]) -> Result<(), Refusal>
     ensures { result ≡ check_list p list.now }
 {
-    let c = check_panel(p);
-    if let Check::Refused(r) = c {
-        return Check::Refused(r);
-    }
-    if !whole_cells(list.len()) {
-        return Check::Refused(Refusal::ListLength);
-    }
-    let w = check_walk(p, list);
-    if let Check::Refused(r) = w {
-        return Check::Refused(r);
-    }
-    if area_of(p) < list.len() / 2 {
-        return Check::Refused(Refusal::StepCount);
-    }
-    Check::Good
+    check_panel(p)?;
+    ensure(whole_cells(list.len()), Refusal::ListLength)?;
+    check_walk(p, list)?;
+    ensure(list.len() / 2 <= area_of(p), Refusal::StepCount)
 }

@@ -1,4 +1,4 @@
 pub mod Examples
-pub mod Entries
-pub mod Turns
+pub mod EntryBytes
+pub mod Rising
 pub mod Marks

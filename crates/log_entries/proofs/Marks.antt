@@ -6,7 +6,6 @@ use mathlib.Core.Path.{◌≡◌, refl, sym, ap, subst, ◌∙◌}
 use mathlib.Core.Bool.{Bool, true, false, cond, not, ◌||◌}
 use mathlib.Core.List.{List, [], ◌∷◌, ◌++◌}
 use lib.ListN.{length, take, get_or, set, length-set}
-use lib.Seq.{take_all}
 use Rattle.grid.specs.declared.Panel.{Panel}
 use Rattle.grid.specs.declared.Cell.{Cell}
 use Rattle.grid.specs.Panel.{cell, area, OnPanel, same_cell}
@@ -53,9 +52,6 @@ pub record Marking (p : Panel) (m : ℕ) (l : List Cell) (old new : List ℕ) (i
   pub changed : Changed p (added m) (take i l) old new
   pub once : none_twice (take i l) ≡ true
 
-pub none_marked : (p : Panel) (m : ℕ) (l : List Cell) (s : List ℕ) → Marking p m l s s 0
-none_marked p m l s = record { changed = none_changed p (added m) s; once = refl }
-
 -- the next cell, whose place is at
 module _ {p : Panel} {m : ℕ} (l : List Cell) {old new : List ℕ} (i : ℕ) (k : Marking p m l old new i) (b : HoldsBelow p m old) (h : i < length l)
     (o : OnPanel p (nth l i)) {at : ℕ} (e : at ≡ place p (nth l i)) where
@@ -86,11 +82,3 @@ module _ {p : Panel} {m : ℕ} (l : List Cell) {old new : List ℕ} (i : ℕ) (k
       where
         next : take (i + 1) l ≡ take i l ++ c ∷ []
         next = take_next (cell 0 0) l i h
-
--- all are marked
-module _ {p : Panel} {m : ℕ} (l : List Cell) {old new : List ℕ} (i : ℕ) (k : Marking p m l old new i) (h : length l ≤ i) where
-  pub all_once : true ≡ none_twice l
-  all_once = sym (ap none_twice (sym (take_all i l h)) ∙ k.once)
-
-  pub all_changed : Changed p (added m) l old new
-  all_changed = subst (λ (t : List Cell). Changed p (added m) t old new) (take_all i l h) k.changed

@@ -1,21 +1,15 @@
 -- Document 02, R-11: a log is a list of entries (time-stamped events), each a cell and the tick at which it was burned or seen. The entries that
 -- bytes hold, and what is refused of a log, in order.
-use Rattle.std.specs.Prelude.{ℕ, ◌+◌, ◌*◌, ◌%◌, Bool, true, ◌&&◌, List, [], ◌∷◌, map, leb, eqb, get_or}
+use Rattle.std.specs.Prelude.{ℕ, ◌+◌, ◌*◌, ◌%◌, Bool, true, ◌&&◌, List, [], ◌∷◌, map, leb, eqb, get_or, Ok}
 use Rattle.grid.specs.declared.Panel.{Panel}
 use Rattle.grid.specs.declared.Cell.{Cell}
-use Rattle.grid.specs.declared.Check.{Check}
-use Rattle.grid.specs.declared.Check.TheVariants.{Good}
 use Rattle.grid.specs.declared.Refusal.TheVariants.{CellOff, Repeated, TickBack}
 use Rattle.grid.specs.Panel.{cell}
-use Rattle.grid.specs.Check.{expect}
+use Rattle.grid.specs.Check.{Check, expect}
 use Rattle.list.specs.List.{all_on, none_twice}
+use Rattle.log_entries.specs.declared.Entry.{Entry}
 
--- an entry: which cell, and when
-pub record Entry : Type 0 where
-  pub cell : Cell
-  pub tick : ℕ
-
--- that of a cell at a tick
+-- the entry of a cell at a tick
 abbrev pub entry : Cell → ℕ → Entry
 entry c t = record { cell = c; tick = t }
 
@@ -33,9 +27,13 @@ entries_in (x ∷ y ∷ []) = []
 entries_in (x ∷ []) = []
 entries_in [] = []
 
--- the tick of the entry whose x stands at a byte
-abbrev pub tick_at : List ℕ → ℕ → ℕ
-tick_at b i = high_first (get_or b (i + 2) 0) (get_or b (i + 3) 0) (get_or b (i + 4) 0) (get_or b (i + 5) 0)
+-- the entry of six bytes
+abbrev pub entry_of : List ℕ → Entry
+entry_of b = entry (cell (get_or b 0 0) (get_or b 1 0)) (high_first (get_or b 2 0) (get_or b 3 0) (get_or b 4 0) (get_or b 5 0))
+
+-- those of six bytes each
+abbrev pub entries_of : List (List ℕ) → List Entry
+entries_of l = map entry_of l
 
 -- a number of bytes that holds entries and nothing else
 abbrev pub whole_entries : ℕ → Bool
@@ -60,4 +58,4 @@ rises l = rises_from 0 l
 
 -- 7, some cell is off the panel; 9, some cell stands twice; 21, some tick is below the one before it
 abbrev pub log_check : Panel → List Entry → Check
-log_check p l = expect (all_on p (cells_of l)) CellOff (expect (none_twice (cells_of l)) Repeated (expect (rises l) TickBack Good))
+log_check p l = expect (all_on p (cells_of l)) CellOff (expect (none_twice (cells_of l)) Repeated (expect (rises l) TickBack (Ok tt)))

@@ -5,7 +5,8 @@ use Rattle.grid.specs.declared.Cell.{Cell}
 use Rattle.grid.specs.Panel.{area, OnPanel}
 use Rattle.list.specs.List.{among}
 use Rattle.scratch.specs.Scratch.{held}
-use Rattle.log_entries.specs.Log.{Entry, cells_of}
+use Rattle.log_entries.specs.declared.Entry.{Entry}
+use Rattle.log_entries.specs.Log.{cells_of}
 
 -- scratch enough for the panel, and every place holds less than m
 pub record HoldsBelow (p : Panel) (m : ℕ) (s : List ℕ) : Type 0 where

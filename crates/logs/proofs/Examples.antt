@@ -1,12 +1,13 @@
 -- Computed: the four numbers of two logs, and which refusal comes first. A wrong definition shows here.
+use Rattle.std.specs.Prelude.{Err}
 use Prim.Native.Nat.{ℕ}
 use mathlib.Core.Path.{◌≡◌, refl}
 use mathlib.Core.List.{List, [], ◌∷◌}
-use Rattle.grid.specs.declared.Check.{Check}
-use Rattle.grid.specs.declared.Check.TheVariants.{Refused}
+use Rattle.grid.specs.Check.{Check}
 use Rattle.grid.specs.declared.Refusal.TheVariants.{Side, Pitch, ListLength, ShortBuffer, CellOff, Repeated, TickBack}
 use Rattle.grid.specs.Panel.{panel, cell}
-use Rattle.log_entries.specs.Log.{Entry, entry}
+use Rattle.log_entries.specs.declared.Entry.{Entry}
+use Rattle.log_entries.specs.Log.{entry}
 use Rattle.logs.specs.Counts.{in_both, only_in, seen_earlier}
 use Rattle.logs.specs.Logs.{sizes_check, entries_check}
 
@@ -26,11 +27,11 @@ abbrev sized : ℕ → ℕ → ℕ → Check
 sized a b room = sizes_check (panel 3 2 4000) a b room
 
 -- 1 before 18 before 6 before 5
-pub sizes_shown : (sizes_check (panel 129 2 0) 5 5 0 ≡ Refused Side)
-    × (sizes_check (panel 3 2 999) 5 5 0 ≡ Refused Pitch)
-    × (sized 5 6 0 ≡ Refused ListLength)
-    × (sized 6 4 0 ≡ Refused ListLength)
-    × (sized 0 12 5 ≡ Refused ShortBuffer)
+pub sizes_shown : (sizes_check (panel 129 2 0) 5 5 0 ≡ Err Side)
+    × (sizes_check (panel 3 2 999) 5 5 0 ≡ Err Pitch)
+    × (sized 5 6 0 ≡ Err ListLength)
+    × (sized 6 4 0 ≡ Err ListLength)
+    × (sized 0 12 5 ≡ Err ShortBuffer)
 sizes_shown = (refl, refl, refl, refl, refl)
 
 abbrev off : List Entry
@@ -46,9 +47,9 @@ abbrev checked : List Entry → List Entry → Check
 checked a b = entries_check (panel 3 2 4000) a b
 
 -- the laser's 21 and 9 before the camera's 7, its 21 before the camera's 9; the camera's where the laser's log is good
-pub order_shown : (checked back off ≡ Refused TickBack)
-    × (checked twice off ≡ Refused Repeated)
-    × (checked back twice ≡ Refused TickBack)
-    × (checked [] off ≡ Refused CellOff)
-    × (checked burned back ≡ Refused TickBack)
+pub order_shown : (checked back off ≡ Err TickBack)
+    × (checked twice off ≡ Err Repeated)
+    × (checked back twice ≡ Err TickBack)
+    × (checked [] off ≡ Err CellOff)
+    × (checked burned back ≡ Err TickBack)
 order_shown = (refl, refl, refl, refl, refl)

@@ -1,7 +1,9 @@
 -- What the checks say where they refuse nothing, what scratch holds between them, and what the call answers.
+use Rattle.std.specs.Prelude.{Result, Ok}
+use Rattle.logs.specs.declared.LogCounts.{LogCounts}
 use Prim.Native.Nat.{ℕ, ◌+◌, ◌≤◌}
 use native.Mathlib.Omega.{arith}
-use mathlib.Core.Path.{◌≡◌, refl, sym, ap, ◌∙◌}
+use mathlib.Core.Path.{◌≡◌, refl, ap, ◌∙◌}
 use mathlib.Core.Bool.{Bool, true, false, cond}
 use mathlib.Core.List.{List}
 use lib.Dec.{leb}
@@ -10,22 +12,20 @@ use borrow.Author.Tests.{leb-true}
 use Rattle.grid.specs.declared.Panel.{Panel}
 use Rattle.grid.specs.declared.Cell.{Cell}
 use Rattle.grid.specs.declared.Refusal.{Refusal}
-use Rattle.grid.specs.declared.Check.{Check}
-use Rattle.grid.specs.declared.Check.TheVariants.{Good, Refused}
+use Rattle.grid.specs.Check.{Check}
 use Rattle.grid.specs.Panel.{good_sides, area, OnPanel}
 use Rattle.grid.specs.Check.{check_panel}
 use Rattle.grid.proofs.Answers.{read_off}
 use Rattle.grid.proofs.Passed.{expect_passed, expect_rest, after_passed, after_rest}
-use Rattle.grid.proofs.Tests.{both_branches, after_good, after_refused, answer_good, answer_refused}
+use Rattle.grid.proofs.Tests.{both_branches, after_good, answer_good}
 use Rattle.list.specs.List.{all_on, among, none_twice}
 use Rattle.scratch.specs.Scratch.{held, cleared, Clean}
 use Rattle.scratch.proofs.Marks.{held_clean}
-use Rattle.log_entries.specs.Log.{Entry, entries_in, whole_entries, cells_of, rises, log_check}
+use Rattle.log_entries.specs.declared.Entry.{Entry}
+use Rattle.log_entries.specs.Log.{entries_in, whole_entries, cells_of, rises, log_check}
 use Rattle.log_entries.specs.Marks.{HoldsBelow, Changed, added, Adds}
-use Rattle.logs.specs.declared.LogsAnswer.{LogsAnswer}
-use Rattle.logs.specs.declared.LogsAnswer.TheVariants as answers
 use Rattle.logs.specs.Logs.{sizes_check, logs_answer, logs_values, GivesCounts, Compares}
-use Rattle.logs.specs.Walk.{GoodLog, Marked, entries_answer}
+use Rattle.logs.specs.Walk.{GoodLog, BothGood, HoldsMarks, entries_answer}
 
 -- ---- the sizes
 
@@ -36,7 +36,7 @@ pub record Sized (p : Panel) (burned seen room : ℕ) : Type 0 where
   pub camera : whole_entries seen ≡ true
   pub enough : area p ≤ room
 
-pub sized : (p : Panel) (burned seen room : ℕ) → sizes_check p burned seen room ≡ Good → Sized p burned seen room
+pub sized : (p : Panel) (burned seen room : ℕ) → sizes_check p burned seen room ≡ Ok tt → Sized p burned seen room
 sized p burned seen room e =
     let first = after_rest (check_panel p) _ e in
     let second = expect_rest (whole_entries burned) _ _ first in
@@ -49,7 +49,7 @@ sized p burned seen room e =
 
 -- ---- the logs
 
-pub good_log : (p : Panel) (l : List Entry) → log_check p l ≡ Good → GoodLog p l
+pub good_log : (p : Panel) (l : List Entry) → log_check p l ≡ Ok tt → GoodLog p l
 good_log p l e =
     let once = expect_rest (all_on p (cells_of l)) _ _ e in
     record {
@@ -60,9 +60,6 @@ good_log p l e =
 
 -- scratch is clean, then has the laser's marks, then the camera's too
 module _ {p : Panel} {clean : List ℕ} (k : Clean p clean) where
-  pub none_held : HoldsBelow p 1 clean
-  none_held = record { room = k.room; less = λ c o. omega (arith, held_clean clean o k) }
-
   module _ {burned : List Cell} {first : List ℕ} (g : Changed p (added 1) burned clean first) where
     laser_held : (c : Cell) → OnPanel p c → held p first c ≡ cond (among c burned) 1 0
     laser_held c o = g.holds c o ∙ ap (λ (n : ℕ). cond (among c burned) (n + 1) n) (held_clean clean o k)
@@ -83,38 +80,29 @@ module _ {p : Panel} {clean : List ℕ} (k : Clean p clean) where
         more true = refl
         more false = omega arith
 
-pub marked : {p : Panel} (burned seen : List Entry) {clean first second : List ℕ} → good_sides p ≡ true → Clean p clean
-    → GoodLog p burned → Adds p 1 burned clean first → GoodLog p seen → Adds p 2 seen first second → Marked p burned seen second
-marked burned seen s k b g c f = record {
-  sides = s;
-  laser = b;
-  camera = c;
-  room = omega (arith, k.room, g.size, f.size);
-  marks = both_held k g f;
-}
+pub both_good : {p : Panel} (burned seen : List Entry) → good_sides p ≡ true → log_check p burned ≡ Ok tt → log_check p seen ≡ Ok tt
+    → BothGood p burned seen
+both_good {p} burned seen s b c = record { sides = s; laser = good_log p burned b; camera = good_log p seen c }
+
+pub marked : {p : Panel} (burned seen : List Entry) {clean first second : List ℕ} → Clean p clean
+    → Adds p 1 burned clean first → Adds p 2 seen first second → HoldsMarks p burned seen second
+marked burned seen k g f = record { room = omega (arith, k.room, g.size, f.size); marks = both_held k g f }
 
 -- ---- the answer
 
-gives_counts : (c : Check) (burned seen : List Entry) {r : LogsAnswer} → r ≡ logs_answer c burned seen → GivesCounts c burned seen r
+gives_counts : (c : Check) (burned seen : List Entry) {r : Result LogCounts Refusal} → r ≡ logs_answer c burned seen → GivesCounts c burned seen r
 gives_counts c burned seen e = record {
   answers = e;
-  number = read_off (λ (a : LogsAnswer). (logs_values a).refusal) c _ _ e;
-  both = read_off (λ (a : LogsAnswer). (logs_values a).counts.both.0) c _ _ e;
-  only_burned = read_off (λ (a : LogsAnswer). (logs_values a).counts.only_burned.0) c _ _ e;
-  only_seen = read_off (λ (a : LogsAnswer). (logs_values a).counts.only_seen.0) c _ _ e;
-  earlier = read_off (λ (a : LogsAnswer). (logs_values a).counts.earlier.0) c _ _ e;
+  number = read_off (λ (a : Result LogCounts Refusal). (logs_values a).refusal) c _ _ e;
+  both = read_off (λ (a : Result LogCounts Refusal). (logs_values a).counts.both.0) c _ _ e;
+  only_burned = read_off (λ (a : Result LogCounts Refusal). (logs_values a).counts.only_burned.0) c _ _ e;
+  only_seen = read_off (λ (a : Result LogCounts Refusal). (logs_values a).counts.only_seen.0) c _ _ e;
+  earlier = read_off (λ (a : Result LogCounts Refusal). (logs_values a).counts.earlier.0) c _ _ e;
 }
 
--- the promise, where the sizes are refused and where they are good
+-- the promise, where the sizes are good
 module _ (p : Panel) (burned seen old : List ℕ) where
-  pub sizes_refused : {r : Refusal} → sizes_check p (length burned) (length seen) (length old) ≡ Refused r
-      → Compares p burned seen old old (answers.Refused r)
-  sizes_refused e = record {
-    gives = gives_counts _ _ _ (answer_refused _ _ (sym (after_refused _ e)));
-    scratch = answer_refused _ _ e;
-  }
-
-  pub sizes_good : sizes_check p (length burned) (length seen) (length old) ≡ Good → {r : LogsAnswer} {new : List ℕ}
+  pub sizes_good : sizes_check p (length burned) (length seen) (length old) ≡ Ok tt → {r : Result LogCounts Refusal} {new : List ℕ}
       → r ≡ entries_answer p (entries_in burned) (entries_in seen) → new ≡ cleared p old
       → Compares p burned seen old new r
   sizes_good z e f = record {

@@ -3,8 +3,8 @@ use Prim.Native.Nat.{ℕ, ◌+◌, ◌≤◌, ◌<◌}
 use native.Mathlib.Omega.{arith}
 use mathlib.Core.Path.{◌≡◌, refl, sym, ap, subst, ◌∙◌}
 use mathlib.Core.Bool.{true}
-use mathlib.Core.List.{List, [], ◌∷◌}
-use lib.ListN.{length, take, drop, set, length-set, drop_of_length-le}
+use mathlib.Core.List.{List, ◌∷◌}
+use lib.ListN.{length, take, drop, set, length-set}
 use borrow.Author.Tests.{le-leb, lt-leb}
 use Rattle.grid.specs.declared.Panel.{Panel}
 use Rattle.grid.specs.declared.Cell.{Cell}
@@ -14,9 +14,10 @@ use Rattle.grid.proofs.Tests.{cond_yes, cond_no}
 use Rattle.list.specs.List.{nth, none_twice}
 use Rattle.list.proofs.Indexed.{new_index}
 use Rattle.scratch.specs.Scratch.{place}
-use Rattle.log_entries.specs.Log.{Entry, entry, nth_entry, cells_of}
+use Rattle.log_entries.specs.declared.Entry.{Entry}
+use Rattle.log_entries.specs.Log.{entry, nth_entry, cells_of}
 use Rattle.log_entries.specs.Marks.{Changed, erased}
-use Rattle.log_entries.proofs.Entries.{length_cells_of}
+use Rattle.log_entries.proofs.EntryBytes.{length_cells_of}
 use Rattle.log_entries.proofs.Marks.{one_more}
 use Rattle.logs.specs.Walk.{ahead, Passes}
 
@@ -26,16 +27,7 @@ pub record Passing (p : Panel) (l : List Entry) (passed t : ℕ) (old new : List
   pub size : length new ≡ length old
   pub gone : (base : List ℕ) → Changed p erased (take passed (cells_of l)) base old → Changed p erased (take i (cells_of l)) base new
 
-pub none_passed : (p : Panel) (l : List Entry) (passed t : ℕ) (s : List ℕ) → Passing p l passed t s s passed
-none_passed p l passed t s = record { to_come = refl; size = refl; gone = λ base g. g }
-
 module _ {p : Panel} (l : List Entry) {passed t : ℕ} {old new : List ℕ} (i : ℕ) (k : Passing p l passed t old new i) where
-  -- no entry is left
-  pub all_passed : length l ≤ i → Passes p l passed t old i new
-  all_passed h =
-      let none : drop i l ≡ [] = drop_of_length-le l {i = i} h in
-      record { left = none ∙ sym (ap (ahead t) none) ∙ k.to_come; gone = k.gone }
-
   module _ (h : i < length l) where
     next : drop i l ≡ nth_entry l i ∷ drop (i + 1) l
     next = drop_next (entry (cell 0 0) 0) l i h

@@ -13,7 +13,8 @@ use Rattle.grid.specs.Panel.{same_cell}
 use Rattle.grid.proofs.Facts.{and_parts, same_eq}
 use Rattle.list.specs.List.{among, none_twice}
 use Rattle.list.proofs.Behind.{same_sym}
-use Rattle.log_entries.specs.Log.{Entry, cells_of}
+use Rattle.log_entries.specs.declared.Entry.{Entry}
+use Rattle.log_entries.specs.Log.{cells_of}
 use Rattle.logs.specs.declared.LogCounts.{LogCounts}
 use Rattle.logs.specs.Counts.{tally, logged, logged_later, in_both, only_in, seen_earlier, counts_of}
 

@@ -1,4 +1,5 @@
 -- The laws of the request, of whatever numbers Compare gives: they match the lengths of the logs, and cells seen earlier are in both.
+use Rattle.std.specs.Prelude.{Ok, Err}
 use Prim.Native.Nat.{ℕ, ◌+◌, ◌*◌, ◌%◌, ◌≤◌}
 use native.Mathlib.Omega.{arith}
 use mathlib.Core.Path.{◌≡◌, sym, ap, ◌∙◌}
@@ -6,16 +7,15 @@ use mathlib.Core.List.{List}
 use lib.ListN.{length}
 use borrow.Author.Tests.{eqb-true}
 use Rattle.grid.specs.declared.Panel.{Panel}
-use Rattle.grid.specs.declared.Check.{Check}
-use Rattle.grid.specs.declared.Check.TheVariants.{Good}
+use Rattle.grid.specs.Check.{Check}
 use Rattle.grid.specs.Answer.{given}
 use Rattle.grid.proofs.Answers.{behind_good}
 use Rattle.grid.proofs.Facts.{clash}
 use Rattle.grid.proofs.Passed.{after_passed, after_rest}
-use Rattle.log_entries.specs.Log.{Entry, entries_in, log_check}
-use Rattle.log_entries.proofs.Entries.{length_entries}
+use Rattle.log_entries.specs.declared.Entry.{Entry}
+use Rattle.log_entries.specs.Log.{entries_in, log_check}
+use Rattle.log_entries.proofs.EntryBytes.{length_entries}
 use Rattle.logs.specs.declared.LogCounts.{LogCounts}
-use Rattle.logs.specs.declared.LogsAnswer.TheVariants.{Refused, Given}
 use Rattle.logs.specs.Counts.{in_both, only_in, seen_earlier, counts_of}
 use Rattle.logs.specs.Logs.{sizes_check, compare_check, Compares}
 use Rattle.logs.specs.Walk.{GoodLog}
@@ -28,7 +28,7 @@ pub record Totals (burned seen : List ℕ) (k : LogCounts) : Type 0 where
   pub seen_entries : 6 * (k.both.0 + k.only_seen.0) ≡ length seen
   pub among_both : k.earlier.0 ≤ k.both.0
 
-module _ (p : Panel) (burned seen : List ℕ) {old new : List ℕ} {k : LogCounts} (c : Compares p burned seen old new (Given k)) where
+module _ (p : Panel) (burned seen : List ℕ) {old new : List ℕ} {k : LogCounts} (c : Compares p burned seen old new (Ok k)) where
   abbrev laser : List Entry
   laser = entries_in burned
 
@@ -39,9 +39,9 @@ module _ (p : Panel) (burned seen : List ℕ) {old new : List ℕ} {k : LogCount
   sizes = sizes_check p (length burned) (length seen) (length old)
 
   -- nothing was refused
-  fine : compare_check p burned seen (length old) ≡ Good
+  fine : compare_check p burned seen (length old) ≡ Ok tt
   fine =
-      (behind_good (compare_check p burned seen (length old)) Refused (Given (counts_of laser camera)) (Given k) (λ r q. clash (cc))
+      (behind_good (compare_check p burned seen (length old)) Err (Ok (counts_of laser camera)) (Ok k) (λ r q. clash (cc))
       (sym c.gives.answers)).0
 
   value : (n : ℕ) → given (compare_check p burned seen (length old)) n ≡ n

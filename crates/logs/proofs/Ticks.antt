@@ -11,7 +11,8 @@ use borrow.Author.Tests.{leb-true, leb-false, le-leb, lt-ltb, le-ltb}
 use Rattle.grid.specs.Panel.{same_cell}
 use Rattle.grid.proofs.Facts.{and_parts, and_both}
 use Rattle.grid.proofs.Tests.{both_branches, cond_yes}
-use Rattle.log_entries.specs.Log.{Entry, rises_from, rises}
+use Rattle.log_entries.specs.declared.Entry.{Entry}
+use Rattle.log_entries.specs.Log.{rises_from, rises}
 use Rattle.logs.specs.Counts.{logged, logged_later}
 use Rattle.logs.specs.Walk.{ahead}
 

@@ -5,8 +5,9 @@ use mathlib.Core.Path.{◌≡◌, refl, sym, ap, ◌∙◌}
 use mathlib.Core.Bool.{Bool, true, false, cond, not, ◌||◌, true≢false}
 use mathlib.Core.List.{List, [], ◌∷◌}
 use lib.Dec.{leb, eqb}
-use lib.ListN.{length, take, drop, get_or, take-append-drop, drop_of_length-le}
+use lib.ListN.{length, take, drop, get_or, take-append-drop}
 use borrow.Author.Tests.{leb-true}
+use Rattle.std.specs.Int.{from_bool}
 use Rattle.grid.specs.declared.Panel.{Panel}
 use Rattle.grid.specs.declared.Cell.{Cell}
 use Rattle.grid.specs.Panel.{good_sides, cell, OnPanel}
@@ -17,12 +18,12 @@ use Rattle.list.proofs.Behind.{among_append, once_apart}
 use Rattle.list.proofs.Indexed.{among_index}
 use Rattle.pigeonhole.proofs.Long.{tested_few}
 use Rattle.scratch.specs.Scratch.{place}
-use Rattle.log_entries.specs.Log.{Entry, entry, nth_entry, cells_of, rises_from}
+use Rattle.log_entries.specs.declared.Entry.{Entry}
+use Rattle.log_entries.specs.Log.{entry, nth_entry, cells_of, rises_from}
 use Rattle.log_entries.specs.Marks.{Changed, erased}
-use Rattle.log_entries.proofs.Entries.{length_cells_of, nth_cell, on_entry}
-use Rattle.log_entries.proofs.Marks.{none_changed}
+use Rattle.log_entries.proofs.EntryBytes.{length_cells_of, nth_cell, on_entry}
 use Rattle.logs.specs.Counts.{tally, logged, logged_later, in_both, seen_earlier}
-use Rattle.logs.specs.Walk.{GoodLog, Marked, ahead, Passes}
+use Rattle.logs.specs.Walk.{GoodLog, BothGood, HoldsMarks, ahead, Passes}
 use Rattle.logs.proofs.Ticks.{ahead_on, later_is_ahead}
 use Rattle.logs.proofs.Tallies.{tally_most}
 
@@ -35,6 +36,10 @@ read_mark true true h = absurd (true≢false (h refl))
 read_mark true false h = (refl, refl)
 read_mark false true h = (refl, refl)
 read_mark false false h = (refl, refl)
+
+one_if : (b : Bool) → from_bool b ≡ cond b 1 0
+one_if true = refl
+one_if false = refl
 
 cells_drop : (i : ℕ) (l : List Entry) → cells_of (drop i l) ≡ drop i (cells_of l)
 cells_drop zero l = refl
@@ -59,32 +64,15 @@ few {p} l g q = omega (arith, length_cells_of l, tested_few p (cells_of l) q.on 
 
 module _ {p : Panel} (b s : List Entry) {base new : List ℕ} {both earlier passed : ℕ} (i : ℕ)
     (w : Walking p b s base new both earlier passed i) where
-  pub all_walked : length s ≤ i → (both ≡ in_both s b) × (earlier ≡ seen_earlier b s)
-  all_walked h =
-      let none : drop i s ≡ [] = drop_of_length-le s {i = i} h in
-      let nothing : tally (logged b) (drop i s) ≡ 0 = ap (tally (logged b)) none in
-      let nothing_later : tally (logged_later b) (drop i s) ≡ 0 = ap (tally (logged_later b)) none in
-      (omega (arith, w.both_all), omega (arith, w.earlier_all))
-
   pub erased_now : {t r : ℕ} {now : List ℕ} → Passes p b passed t new r now → Changed p erased (take r (cells_of b)) base now
   erased_now q = q.gone base w.gone
 
-module _ {p : Panel} (b s : List Entry) {base : List ℕ} (m : Marked p b s base) where
-  pub none_walked : Walking p b s base base 0 0 0 0
-  none_walked = record {
-    last = 0;
-    up = m.camera.up;
-    to_come = λ t h. refl;
-    gone = none_changed p erased base;
-    both_all = omega arith;
-    earlier_all = omega arith;
-  }
-
+module _ {p : Panel} (b s : List Entry) {base : List ℕ} (good : BothGood p b s) where
   module _ {new : List ℕ} {both earlier passed : ℕ} (i : ℕ) (w : Walking p b s base new both earlier passed i) where
     -- what is counted is no more
     pub most : (both ≤ 16384) × (earlier ≤ 16384)
     most =
-        let small = few s m.sides m.camera in
+        let small = few s good.sides good.camera in
         (omega (arith, w.both_all, tally_most (logged b) s), omega (arith, w.earlier_all, tally_most (logged_later b) s))
 
     -- the next entry, before which the laser's are passed up to its tick
@@ -105,7 +93,7 @@ module _ {p : Panel} (b s : List Entry) {base : List ℕ} (m : Marked p b s base
       same = nth_cell s i
 
       inside : OnPanel p c
-      inside = on_entry p s i m.camera.on h
+      inside = on_entry p s i good.camera.on h
 
       there : among c (cells_of s) ≡ true
       there = among_index (cells_of s) i (omega (arith, length_cells_of s))
@@ -129,12 +117,12 @@ module _ {p : Panel} (b s : List Entry) {base : List ℕ} (m : Marked p b s base
 
       later : logged_later b e ≡ left_in
       later =
-          later_is_ahead e b m.laser.up
+          later_is_ahead e b good.laser.up
           ∙ ap (λ (l : List Entry). logged l e) (sym left)
           ∙ (λ j. among (sym same j) (cells_drop r b j))
 
       -- what its place holds tells both
-      module _ {at : ℕ} (here : at ≡ place p c) where
+      module _ {at : ℕ} (m : HoldsMarks p b s base) (here : at ≡ place p c) where
         holds : get_or now at 0 ≡ cond passed_by 0 (cond (passed_by || left_in) 1 0 + 2)
         holds =
             ap (λ (k : ℕ). get_or now k 0) here
@@ -143,12 +131,12 @@ module _ {p : Panel} (b s : List Entry) {base : List ℕ} (m : Marked p b s base
 
         told : (not (eqb (get_or now at 0) 2) ≡ logged b e) × (eqb (get_or now at 0) 3 ≡ logged_later b e)
         told =
-            let once = ap none_twice (take-append-drop r (cells_of b)) ∙ m.laser.once in
+            let once = ap none_twice (take-append-drop r (cells_of b)) ∙ good.laser.once in
             let (is-in, is_later) = read_mark passed_by left_in (once_apart c (take r (cells_of b)) (drop r (cells_of b)) once) in
             (ap (λ (k : ℕ). not (eqb k 2)) holds ∙ is-in ∙ sym in_log, ap (λ (k : ℕ). eqb k 3) holds ∙ is_later ∙ sym later)
 
         -- k and j are added to what is counted
-        module _ {k j : ℕ} (f : k ≡ cond (not (eqb (get_or now at 0) 2)) 1 0) (g : j ≡ cond (eqb (get_or now at 0) 3) 1 0) where
+        module _ {k j : ℕ} (f : k ≡ from_bool (not (eqb (get_or now at 0) 2))) (g : j ≡ from_bool (eqb (get_or now at 0) 3)) where
           counted : (t : Entry → Bool) (n : ℕ) {a : ℕ} → a ≡ cond (t e) 1 0 → n + tally t (drop i s) ≡ tally t s
               → n + a + tally t (drop (i + 1) s) ≡ tally t s
           counted t n one all = let more : tally t (drop i s) ≡ cond (t e) 1 0 + tally t (drop (i + 1) s) = ap (tally t) next in omega arith
@@ -159,6 +147,6 @@ module _ {p : Panel} (b s : List Entry) {base : List ℕ} (m : Marked p b s base
             up = rising.1;
             to_come = λ t up. ap (ahead t) left ∙ ahead_on up b;
             gone = erased_now b s i w q;
-            both_all = counted (logged b) both (f ∙ ap (λ (a : Bool). cond a 1 0) told.0) w.both_all;
-            earlier_all = counted (logged_later b) earlier (g ∙ ap (λ (a : Bool). cond a 1 0) told.1) w.earlier_all;
+            both_all = counted (logged b) both (f ∙ one_if (not (eqb (get_or now at 0) 2)) ∙ ap (λ (a : Bool). cond a 1 0) told.0) w.both_all;
+            earlier_all = counted (logged_later b) earlier (g ∙ one_if (eqb (get_or now at 0) 3) ∙ ap (λ (a : Bool). cond a 1 0) told.1) w.earlier_all;
           }

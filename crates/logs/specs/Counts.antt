@@ -4,7 +4,8 @@
 use Rattle.std.specs.Prelude.{ℕ, ◌+◌, Bool, false, cond, not, ◌&&◌, ◌||◌, List, [], ◌∷◌, ltb}
 use Rattle.grid.specs.Panel.{same_cell}
 use Rattle.list.specs.List.{among}
-use Rattle.log_entries.specs.Log.{Entry, cells_of}
+use Rattle.log_entries.specs.declared.Entry.{Entry}
+use Rattle.log_entries.specs.Log.{cells_of}
 use Rattle.logs.specs.declared.LogCounts.{LogCounts}
 
 -- how many entries of a log pass a test (countP)

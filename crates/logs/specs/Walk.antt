@@ -1,13 +1,15 @@
 -- The walk over both logs in the order of ticks: what it is given and what it passes. No public call's promise cites this.
-use Rattle.std.specs.Prelude.{ℕ, ◌+◌, ◌≤◌, ◌≡◌, true, cond, List, [], ◌∷◌, leb, length, take, drop}
+use Rattle.std.specs.Prelude.{ℕ, ◌+◌, ◌≤◌, ◌≡◌, true, cond, List, [], ◌∷◌, leb, length, take, drop, Result}
 use Rattle.grid.specs.declared.Panel.{Panel}
 use Rattle.grid.specs.declared.Cell.{Cell}
+use Rattle.grid.specs.declared.Refusal.{Refusal}
 use Rattle.grid.specs.Panel.{good_sides, area, OnPanel}
 use Rattle.list.specs.List.{all_on, among, none_twice}
 use Rattle.scratch.specs.Scratch.{held}
-use Rattle.log_entries.specs.Log.{Entry, cells_of, rises}
+use Rattle.log_entries.specs.declared.Entry.{Entry}
+use Rattle.log_entries.specs.Log.{cells_of, rises}
 use Rattle.log_entries.specs.Marks.{Changed, erased}
-use Rattle.logs.specs.declared.LogsAnswer.{LogsAnswer}
+use Rattle.logs.specs.declared.LogCounts.{LogCounts}
 use Rattle.logs.specs.Logs.{entries_check, logs_answer}
 
 -- a log that passes its tests
@@ -16,11 +18,14 @@ pub record GoodLog (p : Panel) (l : List Entry) : Type 0 where
   pub once : none_twice (cells_of l) ≡ true
   pub up : rises l ≡ true
 
--- two such logs of a panel with good sides, and in scratch 1 at the places of the laser's cells, 2 at the camera's, 3 where both are
-pub record Marked (p : Panel) (burned seen : List Entry) (scratch : List ℕ) : Type 0 where
+-- two such logs of a panel with good sides
+pub record BothGood (p : Panel) (burned seen : List Entry) : Type 0 where
   pub sides : good_sides p ≡ true
   pub laser : GoodLog p burned
   pub camera : GoodLog p seen
+
+-- in scratch: 1 at the places of the laser's cells, 2 at the camera's, 3 where both are
+pub record HoldsMarks (p : Panel) (burned seen : List Entry) (scratch : List ℕ) : Type 0 where
   pub room : area p ≤ length scratch
   pub marks : (c : Cell) → OnPanel p c
       → held p scratch c ≡ cond (among c (cells_of burned)) 1 0 + cond (among c (cells_of seen)) 2 0
@@ -37,5 +42,5 @@ pub record Passes (p : Panel) (l : List Entry) (passed t : ℕ) (old : List ℕ)
   pub gone : (base : List ℕ) → Changed p erased (take passed (cells_of l)) base old → Changed p erased (take r (cells_of l)) base new
 
 -- the answer behind the sizes: what the logs are refused for, or the four numbers
-abbrev pub entries_answer : Panel → List Entry → List Entry → LogsAnswer
+abbrev pub entries_answer : Panel → List Entry → List Entry → Result LogCounts Refusal
 entries_answer p burned seen = logs_answer (entries_check p burned seen) burned seen

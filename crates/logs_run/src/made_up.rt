@@ -1,13 +1,13 @@
 // Panels and logs made up by a fixed sequence, and Compare on them beside the peer.
-use crate::call::{Job, Told, called, same_numbers};
-use crate::log::{entries_in, put_entry};
-use crate::peer::{expected, place_in, size_refusal};
-use grid::{Cell, Panel, area_of, panel_of};
+use crate::call::{Job, called};
+use crate::log::{cell_of, entries, front, put_entry};
+use crate::peer::{check_sizes, expected};
+use grid::{Cell, Panel, Refusal, area_of, panel_of};
+use logs::LogCounts;
 use std::io;
-use std::num::wrapping_sub_u32;
 use trial::PITCH;
-use trial::cells::{fill, filled};
-use trial::numbers::{add, at_most, below, made_up, one_less, pick};
+use trial::cells::filled;
+use trial::numbers::{below, made_up, pick};
 use trial::print::{named, row, text};
 
 // How many pairs of logs are made up.
@@ -23,21 +23,21 @@ const LOG: usize = 384;
 
 const SCRATCH: usize = 44;
 
-// A tally: how often each number up to 21 was the refusal, 0 for none; how many cells were counted as in
-// both logs, and as seen earlier; and how often the totals, or the answer or a byte of scratch, were not
-// what they must be.
-const BOTH: usize = 22;
-
-const EARLIER: usize = 23;
-
-const WRONG_TOTALS: usize = 24;
-
-const DIFFERENT: usize = 25;
+// How often each number up to 21 was the refusal, 0 for none; how many cells were counted as in both logs, and
+// as seen earlier; and how often the totals, or the answer or a byte of scratch, were not what they must be.
+#[derive(Clone, Copy, Debug, PartialEq, Eq)]
+struct Tally {
+    refusals: [u32; 22],
+    both: u32,
+    earlier: u32,
+    wrong_totals: u32,
+    different: u32,
+}
 
 // ---- logs
 
 // How many entries a log has, and the tick of the last.
-#[derive(Clone, Copy)]
+#[derive(Clone, Copy, Debug, PartialEq, Eq)]
 struct Made {
     entries: u32,
     tick: u32,
@@ -46,21 +46,25 @@ struct Made {
 // A number from 1 to the side; for a fault from 0 to one more.
 fn drawn(side: u32, a: u32, fault: bool) -> u32 {
     if fault {
-        return below(add(side, 2), a);
+        return below(side.wrapping_add(2), a);
     }
-    add(below(side, a), 1)
+    below(side, a).wrapping_add(1)
 }
 
 // A tick that is none, one or two steps later; for a fault one earlier.
 fn later(tick: u32, step: u32, a: u32, fault: bool) -> u32 {
     if fault {
-        return wrapping_sub_u32(tick, 1);
+        return tick.wrapping_sub(1);
     }
-    match a % 3 {
-        0 => tick,
-        1 => add(tick, step),
-        _ => add(tick, add(step, step)),
-    }
+    tick.wrapping_add(step.wrapping_mul(a % 3))
+}
+
+// Whether one of the log's first n entries has the cell.
+fn has_among(log: &[u8], n: u32, c: Cell) -> bool {
+    entries(log)
+        .iter()
+        .take(n as usize)
+        .any(|&entry| cell_of(entry) == c)
 }
 
 // One entry more, unless its cell stands already. Now and then there is a fault: its cell may be off the
@@ -71,13 +75,13 @@ fn make_up_entry(p: Panel, step: u32, a: u32, log: &mut [u8], m: Made) -> Made {
         x: drawn(p.width, a, fault == 0),
         y: drawn(p.height, a / 64, fault == 0),
     };
-    if place_in(log, m.entries, c) != m.entries && fault != 1 {
+    if has_among(log, m.entries, c) && fault != 1 {
         return m;
     }
     let tick = later(m.tick, step, a / 4096, fault == 2);
     put_entry(log, m.entries, c, tick);
     Made {
-        entries: add(m.entries, 1),
+        entries: m.entries.wrapping_add(1),
         tick,
     }
 }
@@ -91,13 +95,14 @@ fn make_up_log(p: Panel, code: u32, k: u32, log: &mut [u8]) -> u32 {
         tick: FIRST[which],
     };
     for i in 0..pick(code, k, 64) {
-        m = make_up_entry(p, step, made_up(code, add(k, add(i, 1))), log, m);
+        let a = made_up(code, k.wrapping_add(i).wrapping_add(1));
+        m = make_up_entry(p, step, a, log, m);
     }
     m.entries
 }
 
-// Every fourth time there is a fault: 1, 18, 6 of either log, 5.
-fn spoiled(j: Job, fault: u32) -> Job {
+// Every fourth time there is a fault: 1, 18, 6 of either log, 5. The buffers of the logs have more bytes.
+fn spoiled<'a>(j: Job<'a>, burned: &'a [u8], seen: &'a [u8], fault: u32) -> Job<'a> {
     let p = j.panel;
     let mut next = j;
     match fault {
@@ -105,103 +110,118 @@ fn spoiled(j: Job, fault: u32) -> Job {
         1 => next.panel = panel_of(p.width, 129, p.pitch),
         2 => next.panel = panel_of(p.width, p.height, 999),
         3 => next.panel = panel_of(p.width, p.height, 10001),
-        4 => next.burned = one_less(j.burned),
-        5 => next.burned = j.burned % 512 + 1,
-        6 => next.seen = one_less(j.seen),
-        7 => next.seen = j.seen % 512 + 3,
-        8 => next.scratch = one_less(area_of(p)),
-        9 => next.scratch = 0,
+        4 => next.burned = front(burned, j.burned.len().saturating_sub(1)),
+        5 => next.burned = front(burned, j.burned.len() + 1),
+        6 => next.seen = front(seen, j.seen.len().saturating_sub(1)),
+        7 => next.seen = front(seen, j.seen.len() + 3),
+        8 => next.room = area_of(p).saturating_sub(1),
+        9 => next.room = 0,
         _ => {}
     }
     next
-}
-
-// What Compare is called with for logs with so many entries: up to three bytes of scratch to spare.
-fn made_up_job(p: Panel, code: u32, lasers: u32, cameras: u32) -> Job {
-    let good = Job {
-        panel: p,
-        burned: (lasers % 64 * 6) as usize,
-        seen: (cameras % 64 * 6) as usize,
-        scratch: area_of(p) % 64 + (pick(code, 1, 4) as usize),
-    };
-    spoiled(good, pick(code, 2, 40))
 }
 
 // ---- one pair
 
 // Whether the first bytes are 0 and the others as before.
 fn zeros_before(scratch: &[u8], zeros: usize, before: u8) -> bool {
-    let k = at_most(zeros, scratch.len());
+    let k = zeros.min(scratch.len());
     filled(&scratch[..k], 0, 0) && filled(scratch, k, before)
 }
 
 // How many bytes of scratch must be 0 after the call.
 fn zeros_after(j: Job) -> usize {
-    if size_refusal(j) == 0 {
-        return area_of(j.panel);
+    match check_sizes(j) {
+        Ok(()) => area_of(j.panel),
+        Err(_) => 0,
     }
-    0
 }
 
 // The totals of the numbers, beside the lengths of the logs.
-fn right_totals(j: Job, t: Told) -> bool {
-    add(t.both, t.only_burned) == entries_in(j.burned)
-        && add(t.both, t.only_seen) == entries_in(j.seen)
-        && t.earlier <= t.both
+fn right_totals(j: Job, k: LogCounts) -> bool {
+    let burned = k.both.0.wrapping_add(k.only_burned.0);
+    let seen = k.both.0.wrapping_add(k.only_seen.0);
+    burned as usize == entries(j.burned).len()
+        && seen as usize == entries(j.seen).len()
+        && k.earlier.0 <= k.both.0
 }
 
-// Where an answer is tallied.
-fn outcome(j: Job, t: Told, alike: bool) -> usize {
-    if t.refusal == 0 && !right_totals(j, t) {
-        return WRONG_TOTALS;
+fn one_more(count: &mut u32) {
+    *count = count.wrapping_add(1);
+}
+
+impl Tally {
+    // An answer more, and whether it and the scratch are as they must be.
+    fn count(&mut self, j: Job, answer: Result<LogCounts, Refusal>, alike: bool) {
+        if let Ok(k) = answer {
+            self.both = self.both.wrapping_add(k.both.0);
+            self.earlier = self.earlier.wrapping_add(k.earlier.0);
+            if !right_totals(j, k) {
+                one_more(&mut self.wrong_totals);
+                return;
+            }
+        }
+        if !alike {
+            one_more(&mut self.different);
+            return;
+        }
+        let refusal = answer.err().map_or(0, |r| u32::from(r)) as usize;
+        if let Some(count) = self.refusals.get_mut(refusal) {
+            one_more(count);
+        }
     }
-    if !alike {
-        return DIFFERENT;
-    }
-    t.refusal as usize
 }
 
-fn more(tally: &mut [u32], at: usize, k: u32) {
-    if at < tally.len() {
-        tally[at] = add(tally[at], k);
-    }
+fn compare_answers(j: Job, before: u8, tally: &mut Tally) {
+    let mut scratch = [before; SCRATCH];
+    let answer = called(j, &mut scratch);
+    let alike = answer == expected(j) && zeros_before(&scratch, zeros_after(j), before);
+    tally.count(j, answer, alike);
 }
 
-fn compare_answers(j: Job, burned: &[u8], seen: &[u8], before: u8, tally: &mut [u32]) {
-    let mut scratch = [0u8; SCRATCH];
-    fill(&mut scratch, before);
-    let t = called(j, burned, seen, &mut scratch);
-    let alike = same_numbers(t, expected(j, burned, seen))
-        && zeros_before(&scratch, zeros_after(j), before);
-    more(tally, outcome(j, t, alike), 1);
-    more(tally, BOTH, t.both);
-    more(tally, EARLIER, t.earlier);
-}
-
-fn try_made_up(code: u32, tally: &mut [u32]) {
+// Up to three bytes of scratch to spare.
+fn try_made_up(code: u32, tally: &mut Tally) {
     let mut burned = [0u8; LOG];
     let mut seen = [0u8; LOG];
-    let p = panel_of(add(pick(code, 3, 6), 1), add(pick(code, 4, 6), 1), PITCH);
-    let lasers = make_up_log(p, code, 16, &mut burned);
-    let cameras = make_up_log(p, code, 96, &mut seen);
-    let job = made_up_job(p, code, lasers, cameras);
-    let before = (pick(code, 5, 256) % 256) as u8;
-    compare_answers(job, &burned, &seen, before, tally);
-}
-
-fn all_made_up(tally: &mut [u32]) {
-    for code in 0..PAIRS {
-        try_made_up(code, tally);
-    }
+    let panel = panel_of(
+        pick(code, 3, 6).wrapping_add(1),
+        pick(code, 4, 6).wrapping_add(1),
+        PITCH,
+    );
+    let lasers = make_up_log(panel, code, 16, &mut burned);
+    let cameras = make_up_log(panel, code, 96, &mut seen);
+    let good = Job {
+        panel,
+        burned: front(&burned, (lasers % 64 * 6) as usize),
+        seen: front(&seen, (cameras % 64 * 6) as usize),
+        room: area_of(panel) % 64 + (pick(code, 1, 4) as usize),
+    };
+    let job = spoiled(good, &burned, &seen, pick(code, 2, 40));
+    compare_answers(job, (pick(code, 5, 256) % 256) as u8, tally);
 }
 
 pub fn run(rt: &impl Print) -> io::Result<()> {
-    let mut tally = [0u32; 26];
-    all_made_up(&mut tally);
+    let mut tally = Tally {
+        refusals: [0; 22],
+        both: 0,
+        earlier: 0,
+        wrong_totals: 0,
+        different: 0,
+    };
+    for code in 0..PAIRS {
+        try_made_up(code, &mut tally);
+    }
     named(rt, b"made up, pairs of logs ", PAIRS)?;
     text(
         rt,
         b"\nrefused by 0 (none) to 21; in both, seen earlier, wrong totals, different:\n",
     )?;
-    row(rt, &tally, b"\n")
+    row(rt, &tally.refusals, b" ")?;
+    let others = [
+        tally.both,
+        tally.earlier,
+        tally.wrong_totals,
+        tally.different,
+    ];
+    row(rt, &others, b"\n")
 }

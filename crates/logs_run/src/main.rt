@@ -13,16 +13,15 @@ mod log;
 mod made_up;
 mod peer;
 
-use crate::call::{Job, Told, called, same_numbers};
-use crate::log::{Rows, put_entry, put_rows};
+use crate::call::{Job, called, numbers_of};
+use crate::log::{Rows, front, put_entry, put_rows};
 use crate::peer::expected;
-use grid::{Cell, Panel, area_of, panel_of};
+use grid::{Cell, Panel, Refusal, area_of, panel_of};
+use logs::LogCounts;
 use std::io;
-use std::num::wrapping_sub_usize;
 use std::time::CpuClock;
 use trial::PITCH;
-use trial::cells::{count, fill};
-use trial::numbers::at_most;
+use trial::cells::count;
 use trial::print::{row, text};
 use trial::times::{micros, say, say_time, turn_from};
 
@@ -40,10 +39,11 @@ fn say_turn(
     name: &[u8],
     j: Job,
     start: u64,
-    t: Told,
+    answer: Result<LogCounts, Refusal>,
 ) -> io::Result<()> {
-    let turn = turn_from(rt, start, t.earlier);
-    if j.seen < 6 * ENTRIES {
+    let [_, _, _, _, earlier] = numbers_of(answer);
+    let turn = turn_from(rt, start, earlier);
+    if j.seen.len() < 6 * ENTRIES {
         return Ok(());
     }
     say(rt, name)?;
@@ -54,137 +54,78 @@ fn say_turn(
 fn try_peer(
     rt: &(impl CpuClock + Eprint + Print),
     j: Job,
-    burned: &[u8],
-    seen: &[u8],
-    t: Told,
+    answer: Result<LogCounts, Refusal>,
 ) -> io::Result<()> {
     let start = micros(rt);
-    let e = expected(j, burned, seen);
+    let e = expected(j);
     say_turn(rt, b"peer ", j, start, e)?;
-    if !same_numbers(t, e) {
+    if answer != e {
         text(rt, b"the peer differs\n")?;
     }
     Ok(())
 }
 
-fn try_job(
-    rt: &(impl CpuClock + Eprint + Print),
-    j: Job,
-    burned: &[u8],
-    seen: &[u8],
-    scratch: &mut [u8],
-) -> io::Result<()> {
-    fill(scratch, 255);
+fn try_job(rt: &(impl CpuClock + Eprint + Print), j: Job, scratch: &mut [u8]) -> io::Result<()> {
+    scratch.fill(255);
     let start = micros(rt);
-    let t = called(j, burned, seen, scratch);
-    say_turn(rt, b"compare ", j, start, t)?;
+    let answer = called(j, scratch);
+    say_turn(rt, b"compare ", j, start, answer)?;
     let zeros = count(scratch, 0);
     let kept = count(scratch, 255);
-    row(
-        rt,
-        &[
-            t.refusal,
-            t.both,
-            t.only_burned,
-            t.only_seen,
-            t.earlier,
-            zeros,
-            kept,
-        ],
-        b"\n",
-    )?;
-    if j.burned <= 6 * ENTRIES && j.seen <= 6 * ENTRIES {
-        try_peer(rt, j, burned, seen, t)?;
+    row(rt, &numbers_of(answer), b" ")?;
+    row(rt, &[zeros, kept], b"\n")?;
+    if j.burned.len() <= 6 * ENTRIES && j.seen.len() <= 6 * ENTRIES {
+        try_peer(rt, j, answer)?;
     }
     Ok(())
 }
 
 // ---- logs as text
 
-// How far a line is read: how many bytes both logs have by now, and how many of them are the laser's.
-#[derive(Clone, Copy)]
-struct Reading {
-    bytes: usize,
-    lasers: usize,
-}
-
-const START: Reading = Reading {
-    bytes: 0,
-    lasers: 0,
-};
-
 // What a character stands for: a digit for its number, any other one for itself.
-fn value_of(b: u8) -> u8 {
-    if b < 48 {
-        return b;
-    }
-    if 57 < b {
-        return b;
-    }
-    b - 48
-}
-
-fn put_byte(pair: &mut [u8], at: usize, b: u8) {
-    if at < pair.len() {
-        pair[at] = b;
+fn value_of(character: u8) -> u8 {
+    if character.is_ascii_digit() {
+        character - b'0'
+    } else {
+        character
     }
 }
 
-// The camera's log stands behind the laser's.
-fn try_read(
+// A pair of logs, with up to twelve entries, the camera's behind a stroke. An entry has six characters: x, y
+// and the four bytes of the tick. So much scratch is lent, of 130 bytes.
+fn try_line(
     rt: &(impl CpuClock + Eprint + Print),
-    p: Panel,
+    panel: Panel,
     room: usize,
-    r: Reading,
-    pair: &[u8],
+    line: &[u8],
 ) -> io::Result<()> {
     let mut scratch = [0u8; 130];
-    let lasers = at_most(r.lasers, pair.len());
+    let mut values = [0u8; 73];
+    for (i, &character) in line.iter().take(73).enumerate() {
+        values[i] = value_of(character);
+    }
+    let mut logs = front(&values, line.len()).split(|&b| b == b'/');
     let j = Job {
-        panel: p,
-        burned: lasers,
-        seen: wrapping_sub_usize(r.bytes, lasers),
-        scratch: room,
+        panel,
+        burned: logs.next().unwrap_or(&[]),
+        seen: logs.next().unwrap_or(&[]),
+        room,
     };
-    try_job(rt, j, pair, &pair[lasers..], &mut scratch)
+    try_job(rt, j, &mut scratch)
 }
 
-fn read_character(
-    rt: &(impl CpuClock + Eprint + Print),
-    p: Panel,
-    room: usize,
-    b: u8,
-    r: Reading,
-    pair: &mut [u8],
-) -> io::Result<Reading> {
-    let mut next = r;
-    if b == b'\n' {
-        try_read(rt, p, room, r, pair)?;
-        return Ok(START);
-    }
-    if b == b'/' {
-        next.lasers = r.bytes;
-        return Ok(next);
-    }
-    put_byte(pair, r.bytes, value_of(b));
-    next.bytes = r.bytes % 256 + 1;
-    Ok(next)
-}
-
-// A pair of logs to a line, with up to twelve entries, the camera's behind a stroke. An entry has six
-// characters: x, y and the four bytes of the tick. So much scratch is lent, of 130 bytes.
+// A pair to a line.
 fn try_lines(
     rt: &(impl CpuClock + Eprint + Print),
     p: Panel,
     room: usize,
     lines: &[u8],
 ) -> io::Result<()> {
-    let mut pair = [0u8; 72];
-    let mut r = START;
-    let mut i = 0;
-    while i < lines.len() {
-        r = read_character(rt, p, room, lines[i], r, &mut pair)?;
-        i += 1;
+    for line in lines.split(|&b| b == b'\n') {
+        // Nothing stands behind the last line feed.
+        if !line.is_empty() {
+            try_line(rt, p, room, line)?;
+        }
     }
     Ok(())
 }
@@ -500,14 +441,13 @@ fn try_rows(
     put_rows(&mut seen, camera);
     put_entry(&mut burned, 16384, behind, MAX);
     put_entry(&mut seen, 16384, behind, MAX);
-    let panel = laser.panel;
     let j = Job {
-        panel,
-        burned: lasers % 65536 * 6,
-        seen: cameras % 65536 * 6,
-        scratch: 16386,
+        panel: laser.panel,
+        burned: front(&burned, lasers % 65536 * 6),
+        seen: front(&seen, cameras % 65536 * 6),
+        room: 16386,
     };
-    try_job(rt, j, &burned, &seen, &mut scratch)
+    try_job(rt, j, &mut scratch)
 }
 
 fn rows_of(panel: Panel, backwards: bool, first: u32) -> Rows {

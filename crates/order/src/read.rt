@@ -2,39 +2,30 @@
 ghost use Rattle.std.specs.Prelude.{◌≡◌};
 ghost use Rattle.order.specs.Line.{line_in};
 
-use crate::Line;
-use grid::{Cell, panel_of};
-use text::{BLANK, LINE_FEED, Number, read_field};
+use grid::{Cell, Order, panel_of};
+use text::{BLANK, LINE_FEED, read_field};
 
-// Six numbers with a blank behind each, and the pitch with a line feed.
-pub fn read_line(input: &[u8]) -> Line
+// Six numbers with a blank behind each, and the pitch with a line feed; nothing where the line has another form.
+pub fn read_line(input: &[u8]) -> Option<Order>
     ensures { result ≡ line_in input.now }
 {
     let mut first = [0u32; 6];
     let mut from = 0;
-    let mut i = 0;
-    while i < 6 {
-        let a = read_field(input, from, BLANK);
-        let Number::Until(v, next) = a else {
-            return Line::Other;
-        };
-        first[i] = v;
-        from = next;
-        i += 1;
+    for i in 0..6 {
+        let field = read_field(input, from, BLANK)?;
+        first[i] = field.value;
+        from = field.next;
     }
-    let b = read_field(input, from, LINE_FEED);
-    let Number::Until(pitch, _) = b else {
-        return Line::Other;
-    };
-    Line::Order(
-        panel_of(first[0], first[1], pitch),
-        Cell {
+    let pitch = read_field(input, from, LINE_FEED)?.value;
+    Some(Order {
+        panel: panel_of(first[0], first[1], pitch),
+        entry: Cell {
             x: first[2],
             y: first[3],
         },
-        Cell {
+        exit: Cell {
             x: first[4],
             y: first[5],
         },
-    )
+    })
 }

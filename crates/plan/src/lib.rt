@@ -6,7 +6,7 @@ use grid::Cell;
 
 // A leg of a track: the corner track from the corner `a` of a rectangle to its cell `t`, `b` being
 // the opposite corner; walked from `t` to `a` where `back` is set.
-#[derive(Clone, Copy)]
+#[derive(Clone, Copy, Debug, PartialEq, Eq)]
 pub struct Leg {
     pub a: Cell,
     pub b: Cell,
@@ -15,7 +15,7 @@ pub struct Leg {
 }
 
 // A chain of legs in disjoint rectangles, each starting beside the end of the one before.
-#[derive(Clone, Copy)]
+#[derive(Clone, Copy, Debug, PartialEq, Eq)]
 pub enum Plan {
     One(Leg),
     Two(Leg, Leg),

@@ -4,7 +4,7 @@
 ghost use Rattle.plot.specs.Plot.{Plots};
 
 use gerber_write::{DIGIT_ROOM, put_layer};
-use order::{CELLS, Drawing, draw_line};
+use order::{CELLS, draw_line};
 use printout::put_refused;
 
 // Bytes enough for the layer of any track.
@@ -15,13 +15,12 @@ pub fn answer(input: &[u8], out: &mut [u8; LAYER]) -> usize
     ensures { Plots input.now out.old out.new result }
 {
     let mut cells = [0; CELLS];
-    let d = draw_line(input, &mut cells);
-    match d {
-        Drawing::Refused(r) => put_refused(grid::number_of(r), out),
-        Drawing::Given(p, found) => {
-            let end = 2 * (found.count.0 as usize);
+    match draw_line(input, &mut cells) {
+        Err(r) => put_refused(u32::from(r), out),
+        Ok(d) => {
+            let end = 2 * (d.found.count.0 as usize);
             let mut digits = [0; DIGIT_ROOM];
-            put_layer(p, &cells[..end], &mut digits, out)
+            put_layer(d.panel, &cells[..end], &mut digits, out)
         }
     }
 }

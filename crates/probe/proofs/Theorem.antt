@@ -1,5 +1,6 @@
 -- What a sheet says of a probe where nothing is refused, in the words of tracks: the position given is the only place of its cell on the track,
 -- and a missed probe's nearest cell is the earliest of the nearest.
+use Rattle.std.specs.Prelude.{Ok}
 use Prim.Native.Nat.{ℕ, suc, ◌≤◌, ◌<◌}
 use native.Mathlib.Omega.{arith}
 use mathlib.Core.Path.{◌≡◌, refl, sym, ap, subst⁻¹, ◌∙◌}
@@ -10,8 +11,7 @@ use lib.ListN.{length, get_or, length-map}
 use borrow.Author.Tests.{eq-eqb, ne_eqb}
 use Rattle.grid.specs.declared.Panel.{Panel}
 use Rattle.grid.specs.declared.Cell.{Cell}
-use Rattle.grid.specs.declared.Check.{Check}
-use Rattle.grid.specs.declared.Check.TheVariants.{Good}
+use Rattle.grid.specs.Check.{Check}
 use Rattle.grid.specs.Panel.{cell}
 use Rattle.grid.specs.Track.{Track}
 use Rattle.grid.specs.Bytes.{cells_in}
@@ -26,20 +26,19 @@ use Rattle.probe_walk.specs.Probes.{position, nearest_missed}
 use Rattle.probe_walk.proofs.Positions.{is_not_on, place_given, place_only}
 use Rattle.probe_walk.proofs.Nearest.{Nearest, nearest_right}
 use Rattle.probe_walk.proofs.Sheets.{placed_nth, placed_unused}
-use Rattle.probe.specs.declared.ProbeSheet.{ProbeSheet}
-use Rattle.probe.specs.Probe.{few_probes, probe_check, sheet, probe_of}
+use Rattle.probe.specs.Probe.{few_probes, probe_check, SheetValues, sheet, probe_of}
 
-module _ (p : Panel) (s t : Cell) (list probes : List ℕ) (room : ℕ) (good : probe_check p s t list probes room ≡ Good) where
+module _ (p : Panel) (s t : Cell) (list probes : List ℕ) (room : ℕ) (good : probe_check p s t list probes room ≡ Ok tt) where
   abbrev q : List Cell
   q = cells_in probes
 
   abbrev l : List Cell
   l = cells_in list
 
-  abbrev r : ProbeSheet
+  abbrev r : SheetValues
   r = probe_of p s t list probes room
 
-  is_given : r ≡ sheet Good q l
+  is_given : r ≡ sheet (Ok tt) q l
   is_given = ap (λ (c : Check). sheet c q l) good
 
   tests : TrackTests p s t l
@@ -58,10 +57,10 @@ module _ (p : Panel) (s t : Cell) (list probes : List ℕ) (room : ℕ) (good : 
       c = nth q i
 
       at_place : get_or r.positions i 0 ≡ position c l
-      at_place = ap (λ (a : ProbeSheet). get_or a.positions i 0) is_given ∙ placed_nth 0 (λ c. position c l) q i 0 h
+      at_place = ap (λ (a : SheetValues). get_or a.positions i 0) is_given ∙ placed_nth 0 (λ c. position c l) q i 0 h
 
       near_place : get_or r.nearest i (cell 0 0) ≡ nearest_missed l c
-      near_place = ap (λ (a : ProbeSheet). get_or a.nearest i (cell 0 0)) is_given ∙ placed_nth (cell 0 0) (nearest_missed l) q i (cell 0 0) h
+      near_place = ap (λ (a : SheetValues). get_or a.nearest i (cell 0 0)) is_given ∙ placed_nth (cell 0 0) (nearest_missed l) q i (cell 0 0) h
 
       -- it holds suc k exactly if the cell with the number k of the track, from 0, is the probe's
       pub found : (k : ℕ) → (get_or r.positions i 0 ≡ suc k) ↔ ((k < length l) × (nth l k ≡ c))
@@ -84,8 +83,8 @@ module _ (p : Panel) (s t : Cell) (list probes : List ℕ) (room : ℕ) (good : 
     -- a place that is not
     pub unused : length q ≤ i → (get_or r.positions i 0 ≡ 0) × (get_or r.nearest i (cell 0 0) ≡ cell 0 0)
     unused h = (
-      ap (λ (a : ProbeSheet). get_or a.positions i 0) is_given
+      ap (λ (a : SheetValues). get_or a.positions i 0) is_given
           ∙ placed_unused 0 (map (λ c. position c l) q) i (omega (arith, length-map q (λ c. position c l))),
-      ap (λ (a : ProbeSheet). get_or a.nearest i (cell 0 0)) is_given
+      ap (λ (a : SheetValues). get_or a.nearest i (cell 0 0)) is_given
           ∙ placed_unused (cell 0 0) (map (nearest_missed l) q) i (omega (arith, length-map q (nearest_missed l))),
     )

@@ -1,11 +1,10 @@
 // Orders, lists and probes made up by a fixed sequence, and Probe on them beside the peer.
-use crate::peer::expected_sheet;
-use grid::{Cell, Panel, area_of, cells_values, panel_of};
-use probe::ProbeSheet;
+use crate::peer::{expected_sheet, numbers_of};
+use grid::{Cell, Order, Panel, area_of, panel_of};
 use std::io;
 use trial::PITCH;
-use trial::cells::{Order, cell_at, cells_in, fill, put};
-use trial::numbers::{add, at_most, one_less, pick};
+use trial::cells::{cell_at, cells_in, put};
+use trial::numbers::pick;
 use trial::plain::{Sheet, different};
 use trial::print::{named, text};
 
@@ -41,17 +40,12 @@ struct Job {
     probes: usize,
 }
 
-// The number before a; 0 has none and stays.
-fn previous(a: u32) -> u32 {
-    if 0 < a { a - 1 } else { 0 }
-}
-
 // ---- the sequence
 
 fn pick_cell(p: Panel, code: u32, k: u32) -> Cell {
     Cell {
-        x: add(pick(code, k, p.width), 1),
-        y: add(pick(code, add(k, 1), p.height), 1),
+        x: pick(code, k, p.width).wrapping_add(1),
+        y: pick(code, k.wrapping_add(1), p.height).wrapping_add(1),
     }
 }
 
@@ -71,24 +65,22 @@ fn front_of(code: u32, cells: u32) -> u32 {
     if pick(code, 6, 2) == 0 {
         return cells;
     }
-    add(pick(code, 7, cells), 1)
+    pick(code, 7, cells).wrapping_add(1)
 }
 
 // Draws a track for the order. Gives how many of its cells are the list.
 fn draw_list(o: Order, code: u32, list: &mut [u8]) -> u32 {
-    let v = cells_values(draw::draw(o.panel, o.entry, o.exit, list));
-    front_of(code, v.cells.0) % 65536
+    let cells = draw::draw(o, list).map_or(0, |drawn| drawn.0);
+    front_of(code, cells) % 65536
 }
 
 // Probe's input for the order: the list, whose last cell is the exit, and up to three bytes of scratch to spare.
 fn good_job(o: Order, code: u32, list: &[u8], cells: u32) -> Job {
-    let panel = o.panel;
-    let entry = o.entry;
-    let exit = cell_at(list, previous(cells));
+    let exit = cell_at(list, cells.saturating_sub(1));
     Job {
-        order: Order { panel, entry, exit },
+        order: Order { exit, ..o },
         list: 2 * (cells as usize),
-        scratch: area_of(panel) % 32768 + (pick(code, 8, 4) as usize),
+        scratch: area_of(o.panel) % 32768 + (pick(code, 8, 4) as usize),
         probes: probe_bytes(code),
     }
 }
@@ -100,7 +92,7 @@ fn probe_bytes(code: u32) -> usize {
     let most = if pick(code, 9, 4) == 0 { 4 } else { 67 };
     let bytes = 2 * (pick(code, 10, most) as usize);
     if pick(code, 11, 16) == 0 {
-        return one_less(bytes);
+        return bytes.saturating_sub(1);
     }
     bytes
 }
@@ -127,12 +119,12 @@ fn off_cell(p: Panel, code: u32) -> Cell {
     match pick(code, 13, 4) {
         0 => Cell { x: 0, y: 1 },
         1 => Cell {
-            x: add(p.width, 1),
+            x: p.width.wrapping_add(1),
             y: 1,
         },
         2 => Cell {
             x: 1,
-            y: add(p.height, 1),
+            y: p.height.wrapping_add(1),
         },
         _ => Cell { x: 255, y: 0 },
     }
@@ -161,37 +153,27 @@ fn fault_of(code: u32) -> u32 {
 // 1, 18, 2, 3, and another exit.
 fn spoiled_order(o: Order, fault: u32) -> Order {
     let panel = o.panel;
-    let entry = o.entry;
-    let exit = o.exit;
     match fault {
         0 => Order {
             panel: panel_of(129, panel.height, PITCH),
-            entry,
-            exit,
+            ..o
         },
         1 => Order {
             panel: panel_of(panel.width, panel.height, 999),
-            entry,
-            exit,
+            ..o
         },
         2 => Order {
-            panel,
             entry: Cell { x: 0, y: 1 },
-            exit,
+            ..o
         },
         3 => Order {
-            panel,
-            entry,
             exit: Cell {
                 x: 1,
-                y: add(panel.height, 1),
+                y: panel.height.wrapping_add(1),
             },
+            ..o
         },
-        4 => Order {
-            panel,
-            entry,
-            exit: entry,
-        },
+        4 => Order { exit: o.entry, ..o },
         _ => o,
     }
 }
@@ -203,8 +185,8 @@ fn spoiled_job(j: Job, fault: u32) -> Job {
     next.order = order;
     match fault {
         5 => next.list = 0,
-        6 => next.list = one_less(j.list),
-        7 => next.scratch = one_less(area_of(j.order.panel)),
+        6 => next.list = j.list.saturating_sub(1),
+        7 => next.scratch = area_of(j.order.panel).saturating_sub(1),
         8 => next.list = j.list % 65536 + 2,
         _ => {}
     }
@@ -216,14 +198,14 @@ fn spoil_list(list: &mut [u8], cells: u32, code: u32, fault: u32) {
     let at = pick(code, 254, cells);
     let c = cell_at(list, at);
     match fault {
-        8 => put(list, cells, cell_at(list, previous(previous(cells)))),
+        8 => put(list, cells, cell_at(list, cells.saturating_sub(2))),
         9 => put(list, at, Cell { x: 200, y: c.y }),
         10 | 11 => put(
             list,
             at,
             Cell {
                 x: c.x,
-                y: add(c.y, 1),
+                y: c.y.wrapping_add(1),
             },
         ),
         _ => {}
@@ -234,27 +216,18 @@ fn spoil_list(list: &mut [u8], cells: u32, code: u32, fault: u32) {
 
 // Whether some place has a nearest cell, which only a missed probe's has.
 fn some_missed(s: Sheet) -> bool {
-    let nearest = s.nearest;
-    let mut i = 0;
-    while i < 64 {
-        let c = nearest[i];
-        if c.x != 0 {
-            return true;
-        }
-        i += 1;
-    }
-    false
+    s.nearest.iter().any(|c| c.x != 0)
 }
 
 // One sheet more, which the peer expected.
 fn tallied_given(t: Tally, s: Sheet, bytes: usize) -> Tally {
     let mut next = t;
     if bytes == 0 {
-        next.empty = add(t.empty, 1);
+        next.empty = t.empty.wrapping_add(1);
     } else if some_missed(s) {
-        next.missed = add(t.missed, 1);
+        next.missed = t.missed.wrapping_add(1);
     } else {
-        next.found = add(t.found, 1);
+        next.found = t.found.wrapping_add(1);
     }
     next
 }
@@ -262,34 +235,15 @@ fn tallied_given(t: Tally, s: Sheet, bytes: usize) -> Tally {
 fn tallied(t: Tally, s: Sheet, bytes: usize, alike: bool) -> Tally {
     let mut next = t;
     if !alike {
-        next.different = add(t.different, 1);
+        next.different = t.different.wrapping_add(1);
         return next;
     }
     if s.refusal == 0 {
         return tallied_given(t, s, bytes);
     }
     let at = (s.refusal % 32) as usize;
-    next.refused[at] = add(t.refused[at], 1);
+    next.refused[at] = t.refused[at].wrapping_add(1);
     next
-}
-
-fn alike(s: ProbeSheet, expected: Sheet, one: &[u8], two: &[u8]) -> bool {
-    let positions = s.positions;
-    let nearest = s.nearest;
-    if different(expected, s.refusal, positions, nearest, s.read.0) != 0 {
-        return false;
-    }
-    one == two
-}
-
-fn probed(o: Order, list: &[u8], scratch: &mut [u8], probes: &[u8]) -> ProbeSheet {
-    fill(scratch, 255);
-    probe::probe(o.panel, o.entry, o.exit, list, scratch, probes)
-}
-
-fn by_peer(o: Order, list: &[u8], scratch: &mut [u8], probes: &[u8]) -> Sheet {
-    fill(scratch, 255);
-    expected_sheet(o, list, scratch, probes)
 }
 
 // Probe and the peer, each with scratch of its own.
@@ -301,16 +255,19 @@ fn compared(
     probes: &[u8],
     t: Tally,
 ) -> Tally {
-    let s = probed(o, list, one, probes);
-    let expected = by_peer(o, list, two, probes);
-    tallied(t, expected, probes.len(), alike(s, expected, one, two))
+    one.fill(255);
+    two.fill(255);
+    let s = numbers_of(probe::probe(o, list, one, probes));
+    let expected = expected_sheet(o, list, two, probes);
+    let alike = different(expected, s) == 0 && &*one == &*two;
+    tallied(t, expected, probes.len(), alike)
 }
 
 fn lent(j: Job, list: &[u8], one: &mut [u8], two: &mut [u8], probes: &[u8], t: Tally) -> Tally {
-    let cells = at_most(j.list, list.len());
-    let first = at_most(j.scratch, one.len());
-    let second = at_most(j.scratch, two.len());
-    let bytes = at_most(j.probes, probes.len());
+    let cells = j.list.min(list.len());
+    let first = j.scratch.min(one.len());
+    let second = j.scratch.min(two.len());
+    let bytes = j.probes.min(probes.len());
     compared(
         j.order,
         &list[..cells],
@@ -352,14 +309,12 @@ fn all_made_up() -> Tally {
 
 // Each number that refused, and how often.
 fn print_refused(rt: &impl Print, refused: [u32; 32]) -> io::Result<()> {
-    let mut i = 0;
-    while i < 32 {
+    for i in 0..32 {
         if refused[i] != 0 {
             named(rt, b"refused by ", i as u32)?;
             named(rt, b": ", refused[i])?;
             text(rt, b"\n")?;
         }
-        i += 1;
     }
     Ok(())
 }

@@ -10,11 +10,12 @@
 mod made_up;
 mod peer;
 
-use grid::{Cell, panel_of};
+use crate::peer::numbers_of;
+use grid::{Cell, Order, panel_of};
 use std::io;
-use std::num::wrapping_add_u32;
 use trial::PITCH;
-use trial::cells::{Order, count, fill, put, repeat, snake, spread};
+use trial::cells::{count, put, repeat, snake, spread};
+use trial::plain::Sheet;
 use trial::print::{row, text};
 
 // The largest number of 32 bits.
@@ -30,33 +31,13 @@ fn order_of(width: u32, height: u32, entry: Cell, exit: Cell) -> Order {
     }
 }
 
-// How many places of the sheet are used.
-fn used_places(refusal: u32, bytes: usize) -> usize {
-    if refusal == 0 {
-        return bytes / 2;
-    }
-    0
-}
-
-fn is_blank(position: u32, c: Cell) -> bool {
-    if position != 0 {
-        return false;
-    }
-    if c.x != 0 {
-        return false;
-    }
-    c.y == 0
-}
-
 // How many places from `used` on are not blank.
-fn not_blank(positions: [u32; 64], nearest: [Cell; 64], used: usize) -> u32 {
-    let mut n = 0;
-    let mut i = used;
-    while i < 64 {
-        if !is_blank(positions[i], nearest[i]) {
-            n = wrapping_add_u32(n, 1);
+fn not_blank(s: Sheet, used: usize) -> u32 {
+    let mut n: u32 = 0;
+    for i in used..64 {
+        if s.positions[i] != 0 || s.nearest[i] != (Cell { x: 0, y: 0 }) {
+            n = n.wrapping_add(1);
         }
-        i += 1;
     }
     n
 }
@@ -72,21 +53,11 @@ fn print_gap(rt: &impl Print, i: usize) -> io::Result<()> {
     text(rt, b", ")
 }
 
-fn print_places(
-    rt: &impl Print,
-    positions: [u32; 64],
-    nearest: [Cell; 64],
-    used: usize,
-) -> io::Result<()> {
-    let mut i = 0;
-    while i < 64 {
-        if used <= i {
-            return Ok(());
-        }
+fn print_places(rt: &impl Print, s: Sheet, used: usize) -> io::Result<()> {
+    for i in 0..used.min(64) {
         print_gap(rt, i)?;
-        let c = nearest[i];
-        row(rt, &[positions[i], c.x, c.y], b"")?;
-        i += 1;
+        let c = s.nearest[i];
+        row(rt, &[s.positions[i], c.x, c.y], b"")?;
     }
     Ok(())
 }
@@ -98,16 +69,15 @@ fn try_probes(
     scratch: &mut [u8],
     probes: &[u8],
 ) -> io::Result<()> {
-    fill(scratch, 255);
-    let s = probe::probe(o.panel, o.entry, o.exit, list, scratch, probes);
+    scratch.fill(255);
+    let answer = probe::probe(o, list, scratch, probes);
     let zeros = count(scratch, 0);
     let kept = count(scratch, 255);
-    let used = used_places(s.refusal, probes.len());
-    let positions = s.positions;
-    let nearest = s.nearest;
-    let behind = not_blank(positions, nearest, used);
-    row(rt, &[s.refusal, s.read.0, zeros, kept, behind], b":")?;
-    print_places(rt, positions, nearest, used)?;
+    let used = if answer.is_ok() { probes.len() / 2 } else { 0 };
+    let s = numbers_of(answer);
+    let behind = not_blank(s, used);
+    row(rt, &[s.refusal, s.read, zeros, kept, behind], b":")?;
+    print_places(rt, s, used)?;
     text(rt, b"\n")
 }
 

@@ -6,199 +6,171 @@
 // nanoseconds, the shortest of some turns, each with a sum over what it gave.
 #![tactic(auto)]
 
-use grid::{Cell, cells_values, panel_of};
-use probe::ProbeSheet;
+use grid::{Cell, Cells, Order, Refusal, panel_of};
+use probe::{ProbeSheet, probe};
 use std::io;
-use std::num::wrapping_add_u32;
 use std::time::CpuClock;
 use trial::PITCH;
-use trial::cells::{Order, put, repeat, snake, spread};
+use trial::cells::{put, repeat, snake, spread};
 use trial::plain::{Sheet, blank, different, sheet_of};
 use trial::print::{named, text};
 use trial::times::{
     DOUBLED, TURNS, Turn, each, long_enough, micros, say, say_time, shorter, turn_from,
 };
 
-// What is timed.
-#[derive(Clone, Copy)]
-enum Way {
-    Judge,
-    Probe,
-    Plain,
-}
-
 // ---- the ways
 
+// A list on the largest panel, and the cells that are probed.
+#[derive(Clone, Copy)]
+struct Case<'a> {
+    order: Order,
+    list: &'a [u8],
+    probes: &'a [u8],
+}
+
+// The numbers that Probe answers by.
+fn numbers_of(answer: Result<ProbeSheet, Refusal>) -> Sheet {
+    match answer {
+        Err(r) => blank(u32::from(r)),
+        Ok(sheet) => {
+            let positions = sheet.positions;
+            let nearest = sheet.nearest;
+            Sheet {
+                refusal: 0,
+                positions,
+                nearest,
+                read: sheet.read.0,
+            }
+        }
+    }
+}
+
 // A sum over the numbers of a sheet.
-fn sum_of(positions: [u32; 64], nearest: [Cell; 64], read: u32) -> u32 {
-    let mut sum = read;
-    let mut i = 0;
-    while i < 64 {
-        let c = nearest[i];
-        sum = wrapping_add_u32(
-            sum,
-            wrapping_add_u32(positions[i], wrapping_add_u32(c.x, c.y)),
-        );
-        i += 1;
+fn sum_of(s: Sheet) -> u32 {
+    let mut sum = s.read;
+    for i in 0..64 {
+        let c = s.nearest[i];
+        sum = sum
+            .wrapping_add(s.positions[i])
+            .wrapping_add(c.x)
+            .wrapping_add(c.y);
     }
     sum
 }
 
-fn probed(o: Order, list: &[u8], scratch: &mut [u8], probes: &[u8]) -> ProbeSheet {
-    probe::probe(o.panel, o.entry, o.exit, list, scratch, probes)
-}
-
-fn probe_sum(o: Order, list: &[u8], scratch: &mut [u8], probes: &[u8]) -> u32 {
-    let s = probed(o, list, scratch, probes);
-    let positions = s.positions;
-    let nearest = s.nearest;
-    sum_of(positions, nearest, s.read.0)
-}
-
-// Judge, and then a search of its own for each probe. It takes good probes only.
-fn plain_sheet(o: Order, list: &[u8], scratch: &mut [u8], probes: &[u8]) -> Sheet {
-    let v = cells_values(judge::judge(o.panel, o.entry, o.exit, list, scratch));
-    if v.refusal != 0 {
-        return blank(v.refusal);
+impl<'a> Case<'a> {
+    fn judged(self, scratch: &mut [u8]) -> Result<Cells, Refusal> {
+        judge::judge(self.order, self.list, scratch)
     }
-    sheet_of(list, probes)
-}
 
-fn plain_sum(o: Order, list: &[u8], scratch: &mut [u8], probes: &[u8]) -> u32 {
-    let s = plain_sheet(o, list, scratch, probes);
-    let positions = s.positions;
-    let nearest = s.nearest;
-    sum_of(positions, nearest, s.read)
-}
+    fn probed(self, scratch: &mut [u8]) -> Sheet {
+        numbers_of(probe(self.order, self.list, scratch, self.probes))
+    }
 
-fn judged(o: Order, list: &[u8], scratch: &mut [u8]) -> u32 {
-    let v = cells_values(judge::judge(o.panel, o.entry, o.exit, list, scratch));
-    v.cells.0
-}
-
-fn answer(way: Way, o: Order, list: &[u8], scratch: &mut [u8], probes: &[u8]) -> u32 {
-    match way {
-        Way::Judge => judged(o, list, scratch),
-        Way::Probe => probe_sum(o, list, scratch, probes),
-        Way::Plain => plain_sum(o, list, scratch, probes),
+    // Judge, and then a search of its own for each probe. It takes good probes only.
+    fn plain(self, scratch: &mut [u8]) -> Sheet {
+        match self.judged(scratch) {
+            Err(r) => blank(u32::from(r)),
+            Ok(_) => sheet_of(self.list, self.probes),
+        }
     }
 }
 
 // ---- times
 
-// So many calls.
-fn timed(
+// So many calls of a way.
+fn timed<F: Fn(&mut [u8]) -> u32>(
     rt: &impl CpuClock,
-    way: Way,
-    o: Order,
-    list: &[u8],
+    way: &F,
     scratch: &mut [u8],
-    probes: &[u8],
     calls: u32,
-) -> Turn {
+) -> Turn
+    requires { F.IsAlwaysCallable way.now }
+{
     let start = micros(rt);
-    let mut sum = 0;
+    let mut sum: u32 = 0;
     for _i in 0..calls {
-        sum = wrapping_add_u32(sum, answer(way, o, list, scratch, probes));
+        sum = sum.wrapping_add(way(scratch));
     }
     turn_from(rt, start, sum)
 }
 
 // The calls of a turn that is long enough.
-fn calls_of(
-    rt: &impl CpuClock,
-    way: Way,
-    o: Order,
-    list: &[u8],
-    scratch: &mut [u8],
-    probes: &[u8],
-) -> u32 {
-    let mut calls = 1;
+fn calls_of<F: Fn(&mut [u8]) -> u32>(rt: &impl CpuClock, way: &F, scratch: &mut [u8]) -> u32
+    requires { F.IsAlwaysCallable way.now }
+{
+    let mut calls: u32 = 1;
     for _k in 0..DOUBLED {
-        if long_enough(timed(rt, way, o, list, scratch, probes, calls)) {
+        if long_enough(timed(rt, way, scratch, calls)) {
             return calls;
         }
-        calls = wrapping_add_u32(calls, calls);
+        calls = calls.wrapping_add(calls);
     }
     calls
 }
 
 // The shortest turn.
-fn shortest(
+fn shortest<F: Fn(&mut [u8]) -> u32>(
     rt: &impl CpuClock,
-    way: Way,
-    o: Order,
-    list: &[u8],
+    way: &F,
     scratch: &mut [u8],
-    probes: &[u8],
     calls: u32,
-) -> Turn {
-    let mut best = timed(rt, way, o, list, scratch, probes, calls);
+) -> Turn
+    requires { F.IsAlwaysCallable way.now }
+{
+    let mut best = timed(rt, way, scratch, calls);
     for _k in 1..TURNS {
-        best = shorter(best, timed(rt, way, o, list, scratch, probes, calls));
+        best = shorter(best, timed(rt, way, scratch, calls));
     }
     best
 }
 
 // In nanoseconds.
-fn say_way(
+fn say_way<F: Fn(&mut [u8]) -> u32>(
     rt: &(impl CpuClock + Eprint),
     name: &[u8],
-    way: Way,
-    o: Order,
-    list: &[u8],
-    probes: &[u8],
-) -> io::Result<()> {
+    way: F,
+) -> io::Result<()>
+    requires { F.IsAlwaysCallable way }
+{
     let mut scratch = [0u8; 16384];
-    let calls = calls_of(rt, way, o, list, &mut scratch, probes);
-    let t = shortest(rt, way, o, list, &mut scratch, probes, calls);
+    let calls = calls_of(rt, &way, &mut scratch);
+    let t = shortest(rt, &way, &mut scratch, calls);
     say(rt, name)?;
     say_time(rt, each(t, calls) / 10, t.sum)
 }
 
-fn say_times(
-    rt: &(impl CpuClock + Eprint),
-    name: &[u8],
-    o: Order,
-    list: &[u8],
-    probes: &[u8],
-) -> io::Result<()> {
+fn say_times(rt: &(impl CpuClock + Eprint), name: &[u8], c: Case<'_>) -> io::Result<()> {
     say(rt, name)?;
-    say_way(rt, b": judge ", Way::Judge, o, list, probes)?;
-    say_way(rt, b", probe ", Way::Probe, o, list, probes)?;
-    say_way(rt, b", plain ", Way::Plain, o, list, probes)?;
+    say_way(rt, b": judge ", |scratch| {
+        c.judged(scratch).map_or(0, |cells| cells.0)
+    })?;
+    say_way(rt, b", probe ", |scratch| sum_of(c.probed(scratch)))?;
+    say_way(rt, b", plain ", |scratch| sum_of(c.plain(scratch)))?;
     say(rt, b"\n")
 }
 
 // ---- what both give
 
 // How many places have a position.
-fn found_in(positions: [u32; 64]) -> u32 {
-    let mut n = 0;
-    let mut i = 0;
-    while i < 64 {
-        if positions[i] != 0 {
-            n = wrapping_add_u32(n, 1);
+fn found_in(s: Sheet) -> u32 {
+    let mut n: u32 = 0;
+    for i in 0..64 {
+        if s.positions[i] != 0 {
+            n = n.wrapping_add(1);
         }
-        i += 1;
     }
     n
 }
 
-fn compare(rt: &impl Print, name: &[u8], o: Order, list: &[u8], probes: &[u8]) -> io::Result<()> {
+fn compare(rt: &impl Print, name: &[u8], c: Case<'_>) -> io::Result<()> {
     let mut scratch = [0u8; 16384];
-    let s = probed(o, list, &mut scratch, probes);
-    let expected = plain_sheet(o, list, &mut scratch, probes);
-    let positions = s.positions;
-    let nearest = s.nearest;
+    let s = c.probed(&mut scratch);
+    let expected = c.plain(&mut scratch);
     text(rt, name)?;
-    named(rt, b": read ", s.read.0)?;
-    named(rt, b", found ", found_in(positions))?;
-    named(
-        rt,
-        b", different ",
-        different(expected, s.refusal, positions, nearest, s.read.0),
-    )?;
+    named(rt, b": read ", s.read)?;
+    named(rt, b", found ", found_in(s))?;
+    named(rt, b", different ", different(expected, s))?;
     text(rt, b"\n")
 }
 
@@ -211,13 +183,17 @@ fn try_case(
     list: &[u8],
     probes: &[u8],
 ) -> io::Result<()> {
-    let o = Order {
-        panel: panel_of(128, 128, PITCH),
-        entry: Cell { x: 1, y: 1 },
-        exit,
+    let c = Case {
+        order: Order {
+            panel: panel_of(128, 128, PITCH),
+            entry: Cell { x: 1, y: 1 },
+            exit,
+        },
+        list,
+        probes,
     };
-    compare(rt, name, o, list, probes)?;
-    say_times(rt, name, o, list, probes)
+    compare(rt, name, c)?;
+    say_times(rt, name, c)
 }
 
 // All rows, of which the last ends at (1, 128).

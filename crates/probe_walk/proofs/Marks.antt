@@ -1,41 +1,27 @@
 -- What is known while the probes are marked: the marks stand for those that were taken. A mark is found by its cell alone.
-use Prim.Native.Nat.{ℕ, ◌+◌, ◌/◌, ◌≤◌, ◌<◌}
+use Prim.Native.Nat.{ℕ, ◌+◌, ◌≤◌, ◌<◌}
 use native.Mathlib.Omega.{arith}
 use mathlib.Core.Path.{◌≡◌, refl, sym, ap, subst⁻¹, ◌∙◌}
 use mathlib.Core.Bool.{Bool, true, false, cond}
 use mathlib.Core.Logic.{◌≢◌}
 use mathlib.Core.List.{List, [], ◌∷◌, ◌++◌}
 use lib.ListN.{length, take, drop, get_or, set, length-set}
-use lib.Seq.{length-take-le, take-length}
+use lib.Seq.{length-take-le}
 use Rattle.grid.specs.declared.Panel.{Panel}
 use Rattle.grid.specs.declared.Cell.{Cell}
 use Rattle.grid.specs.Panel.{cell, area, OnPanel, same_cell}
-use Rattle.grid.specs.Bytes.{cells_in}
 use Rattle.grid.proofs.Facts.{same_eq}
 use Rattle.grid.proofs.Lists.{take_next}
 use Rattle.grid.proofs.Tests.{both_branches}
 use Rattle.list.specs.List.{nth, among}
 use Rattle.list.proofs.Behind.{same_sym}
-use Rattle.list.proofs.Cells.{length_cells}
-use Rattle.list.proofs.Indexed.{on_index}
-use Rattle.scratch.specs.Scratch.{place, held, Clean}
-use Rattle.scratch.proofs.Marks.{held_clean, held_set}
+use Rattle.scratch.specs.Scratch.{place, held}
+use Rattle.scratch.proofs.Marks.{held_set}
 use Rattle.scratch.proofs.Places.{put_rest}
-use Rattle.probe_walk.specs.Probes.{places, position}
-use Rattle.probe_walk.specs.Search.{Probed, unfound, Marked}
+use Rattle.probe_walk.specs.Probes.{position}
+use Rattle.probe_walk.specs.Search.{unfound, Marked}
 use Rattle.probe_walk.proofs.Positions.{is_not_on, is_on_list, position_new, position_other, position_old}
 use Rattle.probe_walk.proofs.Unfound.{unfound_marked}
-
--- the probe with the number i, from 0
-module _ {p : Panel} {probes : List ℕ} (g : Probed p probes) where
-  pub few_probes_lem : length (cells_in probes) ≤ places
-  few_probes_lem = omega (arith, g.few, length_cells probes)
-
-  pub probe_below : {i : ℕ} → i < length probes / 2 → i < length (cells_in probes)
-  probe_below h = omega (arith, length_cells probes)
-
-  pub probe_inside : (i : ℕ) → i < length probes / 2 → OnPanel p (nth (cells_in probes) i)
-  probe_inside i h = on_index p (cells_in probes) i g.on (probe_below h)
 
 -- the first i probes of q are marked, in scratch that was old
 pub record Marking (p : Panel) (q : List Cell) (old new : List ℕ) (different i : ℕ) : Type 0 where
@@ -46,15 +32,9 @@ pub record Marking (p : Panel) (q : List Cell) (old new : List ℕ) (different i
   pub size : length new ≡ length old
   pub rest : drop (area p) new ≡ drop (area p) old
 
-pub none_marked : {p : Panel} (q : List Cell) {old : List ℕ} → Clean p old → Marking p q old old 0 0
-none_marked q {old} c = record {
-  most = omega arith;
-  marked = record { room = c.room; marks = λ d o. held_clean old o c };
-  counted = refl;
-  few = omega arith;
-  size = refl;
-  rest = refl;
-}
+pub marking_same : {p : Panel} {q : List Cell} {old m n : List ℕ} {j k i : ℕ} → m ≡ n → j ≡ k → Marking p q old n k i → Marking p q old m j i
+marking_same {p} {q} {old} {n = n} {j} {i = i} e f w =
+    subst⁻¹ (λ (m : List ℕ). Marking p q old m j i) e (subst⁻¹ (λ (k : ℕ). Marking p q old n k i) f w)
 
 -- the next probe
 module _ {p : Panel} {q : List Cell} {old new : List ℕ} {different i : ℕ} (m : Marking p q old new different i) (h : i < length q)
@@ -117,14 +97,3 @@ module _ {p : Panel} {q : List Cell} {old new : List ℕ} {different i : ℕ} (m
   marked_now at z =
       subst⁻¹ (λ (k : ℕ). Marking p q old (set new k (i + 1)) (different + 1) (i + 1)) at
       (marked_there (sym (ap (λ (k : ℕ). get_or new k 0) at) ∙ z))
-
--- all are marked
-module _ {p : Panel} {q : List Cell} {old new : List ℕ} {different i : ℕ} (m : Marking p q old new different i) (h : length q ≤ i) where
-  all_taken : take i q ≡ q
-  all_taken = let e : i ≡ length q = omega (arith, m.most) in ap (λ (k : ℕ). take k q) e ∙ take-length q
-
-  pub all_marked : Marked p q new
-  all_marked = record { room = m.marked.room; marks = λ d on. m.marked.marks d on ∙ ap (position d) all_taken }
-
-  pub all_counted : different ≡ unfound q []
-  all_counted = m.counted ∙ ap (λ (k : List Cell). unfound k []) all_taken

@@ -2,11 +2,11 @@
 use Prim.Native.Nat.{ℕ, ◌+◌, ◌≤◌, ◌<◌}
 use native.Mathlib.Omega.{arith}
 use mathlib.Core.Path.{◌≡◌, refl, sym, ap, subst, subst⁻¹, ◌∙◌}
-use mathlib.Core.Bool.{cond}
+use mathlib.Core.Bool.{Bool, true, false, cond}
 use mathlib.Core.Logic.{◌≢◌}
 use mathlib.Core.List.{List, [], ◌∷◌, ◌++◌, append_assoc, append-nil}
 use lib.Dec.{leb}
-use lib.ListN.{length, drop, drop_of_length-le}
+use lib.ListN.{length, drop}
 use borrow.Author.Tests.{leb-true, leb-false, le-leb, lt-leb}
 use Rattle.grid.specs.declared.Cell.{Cell}
 use Rattle.grid.specs.Panel.{cell, dist}
@@ -78,9 +78,16 @@ pub record Nearer (c : Cell) (l : List Cell) (near : Cell) (least i : ℕ) : Typ
 pub nearer_same : {c : Cell} {l : List Cell} {a b : Cell} {j k i : ℕ} → a ≡ b → j ≡ k → Nearer c l b k i → Nearer c l a j i
 nearer_same {c} {l} {b = b} {j} {i = i} e f n = subst⁻¹ (λ (a : Cell). Nearer c l a j i) e (subst⁻¹ (λ (k : ℕ). Nearer c l b k i) f n)
 
-pub first_nearest : (c : Cell) (l : List Cell) {a : Cell} {k : ℕ} → 1 ≤ length l → a ≡ nth l 0 → k ≡ squared_distance c a → Nearer c l a k 1
+pub first_nearest : (c : Cell) (l : List Cell) {a : Cell} {k : ℕ} → 1 ≤ length l → a ≡ nth l 0 → k ≡ squared_distance c a → Nearer c l a k 0
 first_nearest c [] h e f = absurd (omega arith)
-first_nearest c (b ∷ l) h e f = record { most = omega arith; to_come = ap (λ (a : Cell). nearest_from c a l) e; away = f }
+first_nearest c (b ∷ l) {a} h e f = record { most = omega arith; to_come = ap (λ (a : Cell). nearest_from c a (b ∷ l)) e ∙ itself; away = f }
+  where
+    both : (r : Bool) → cond r b b ≡ b
+    both true = refl
+    both false = refl
+
+    itself : nearest_from c b (b ∷ l) ≡ nearest_from c b l
+    itself = ap (λ (d : Cell). nearest_from c d l) (both (leb (squared_distance c b) (squared_distance c b)))
 
 module _ {c : Cell} {l : List Cell} {near : Cell} {least i : ℕ} (n : Nearer c l near least i) where
   -- the next cell b
@@ -107,6 +114,3 @@ module _ {c : Cell} {l : List Cell} {near : Cell} {least i : ℕ} (n : Nearer c 
           to_come = ap (λ (a : Cell). nearest_from c a (drop (i + 1) l)) (cond_no near b (lt-leb _ _ taken) refl) ∙ next;
           away = f;
         }
-
-  pub nearer_all : length l ≤ i → near ≡ nearest c l
-  nearer_all h = sym (ap (nearest_from c near) (drop_of_length-le l h)) ∙ n.to_come

@@ -5,7 +5,7 @@ use mathlib.Core.Path.{◌≡◌, refl, sym, ap, ◌∙◌}
 use mathlib.Core.Bool.{Bool, true, ◌||◌, or-true}
 use mathlib.Core.List.{List, [], ◌∷◌, ◌++◌, map, map-append, append_assoc}
 use lib.ListN.{length, take, get_or, set, replicate, length-append, length-map, get_or-append}
-use lib.Seq.{length-take-le, take-length, set_at, get_or-append-add}
+use lib.Seq.{length-take-le, set_at, get_or-append-add}
 use Rattle.grid.specs.declared.Cell.{Cell}
 use Rattle.grid.specs.Panel.{cell, same_cell}
 use Rattle.grid.proofs.Facts.{eq_same}
@@ -22,6 +22,12 @@ place_next z m a i n h =
     ap (λ (k : ℕ). set (m ++ replicate k z) i a) unused
     ∙ set_at m z (replicate (places - length (m ++ a ∷ [])) z) a i n
     ∙ sym (append_assoc m (a ∷ []) (replicate (places - length (m ++ a ∷ [])) z))
+
+-- where z belongs there, the place has it already
+place_kept : {A : Type 0} (z : A) (m : List A) → length m < places → placed z m ≡ placed z (m ++ z ∷ [])
+place_kept z m h =
+    let unused : places - length m ≡ suc (places - length (m ++ z ∷ [])) = omega (arith, length-append m (z ∷ [])) in
+    ap (λ (k : ℕ). m ++ replicate k z) unused ∙ sym (append_assoc m (z ∷ []) (replicate (places - length (m ++ z ∷ [])) z))
 
 map_nth : {A : Type 0} (f : Cell → A) (q : List Cell) (i : ℕ) (d : A) → i < length q → get_or (map f q) i d ≡ f (nth q i)
 map_nth f [] i d h = absurd (omega arith)
@@ -41,15 +47,22 @@ module _ {A : Type 0} (z : A) (f : Cell → A) (q : List Cell) where
       ∙ ap (λ (b : A). placed z (map f (take i q) ++ b ∷ [])) e
       ∙ ap (placed z) (sym more)
 
-  pub fill_all : (i : ℕ) → i ≤ length q → length q ≤ i → filled i ≡ placed z (map f q)
-  fill_all i h k =
-      let e : i ≡ length q = omega arith in
-      ap (λ (k : List Cell). placed z (map f k)) (ap (λ (k : ℕ). take k q) e ∙ take-length q)
+  pub fill_kept : (i : ℕ) → i < length q → length q ≤ places → z ≡ f (nth q i) → filled i ≡ filled (i + 1)
+  fill_kept i h few e =
+      let n : length (map f (take i q)) ≡ i = length-map (take i q) f ∙ length-take-le i q (omega arith) in
+      let more = ap (map f) (take_next (cell 0 0) q i h) ∙ map-append f (take i q) (nth q i ∷ []) in
+      place_kept z (map f (take i q)) (omega arith)
+      ∙ ap (λ (b : A). placed z (map f (take i q) ++ b ∷ [])) e
+      ∙ ap (placed z) (sym more)
 
   -- what stands at the place of a probe
   pub placed_nth : (i : ℕ) (d : A) → i < length q → get_or (placed z (map f q)) i d ≡ f (nth q i)
   placed_nth i d h =
       get_or-append (map f q) (replicate (places - length (map f q)) z) d i (omega (arith, length-map q f)) ∙ map_nth f q i d h
+
+-- what is noted for a probe
+abbrev pub note : List Cell → List ℕ → Cell → ℕ
+note q found c = get_or found (position c q - 1) 0
 
 -- an unused place
 none_there : {A : Type 0} (z : A) (k i : ℕ) → get_or (replicate k z) i z ≡ z

@@ -1,8 +1,8 @@
 -- What is known along the walk: what is noted is right for the cells read so far, and once no probed cell is left the last cell read is the
 -- furthest. At its end what is noted is right for the whole list, and as many cells are read as the definition says.
-use Prim.Native.Nat.{ℕ, suc, ◌+◌, ◌≤◌, ◌<◌}
+use Prim.Native.Nat.{ℕ, suc, ◌+◌, ◌-◌, ◌≤◌, ◌<◌}
 use native.Mathlib.Omega.{arith}
-use mathlib.Core.Path.{◌≡◌, refl, sym, ap, ◌∙◌}
+use mathlib.Core.Path.{◌≡◌, refl, sym, ap, subst⁻¹, ◌∙◌}
 use mathlib.Core.Bool.{Bool, true, false, true≢false}
 use mathlib.Core.Logic.{◌≢◌}
 use mathlib.Core.List.{List, [], ◌∷◌, ◌++◌}
@@ -10,13 +10,15 @@ use lib.Dec.{eqb}
 use lib.ListN.{length, take, drop, get_or, set, replicate, take-append-drop, get_or-replicate, length-replicate, length-set}
 use lib.Seq.{length-take-le, take-length, get_or-set_same, get_or-set_other}
 use borrow.Author.Tests.{eq-eqb, eqb-true}
+use Rattle.grid.specs.declared.Panel.{Panel}
 use Rattle.grid.specs.declared.Cell.{Cell}
-use Rattle.grid.specs.Panel.{cell, same_cell}
+use Rattle.grid.specs.Panel.{cell, OnPanel, same_cell}
 use Rattle.grid.proofs.Facts.{same_eq, same_ne, ne_same}
 use Rattle.grid.proofs.Lists.{take_next}
 use Rattle.list.specs.List.{nth, among}
 use Rattle.probe_walk.specs.Probes.{places, position, all_among, furthest, cells_read}
-use Rattle.probe_walk.specs.Search.{unfound, Noted}
+use Rattle.scratch.specs.Scratch.{place}
+use Rattle.probe_walk.specs.Search.{unfound, Marked, Noted}
 use Rattle.probe_walk.proofs.Positions.{is_on_list, position_by, position_new, position_other, place_given, position_once}
 use Rattle.probe_walk.proofs.Unfound.{member, unfound_other, unfound_one, unfound_none, furthest_none, furthest_last, read_stopped, read_all}
 
@@ -38,6 +40,22 @@ none_read q l few e f = record {
   };
   size = ap length e ∙ length-replicate {A = ℕ} places 0;
 }
+
+pub walking_same : {q l : List Cell} {m n : List ℕ} {j k i : ℕ} → m ≡ n → j ≡ k → Walking q l n k i → Walking q l m j i
+walking_same {q} {l} {n = n} {j} {i = i} e f w = subst⁻¹ (λ (m : List ℕ). Walking q l m j i) e (subst⁻¹ (λ (k : ℕ). Walking q l n k i) f w)
+
+-- a mark in scratch
+module _ {p : Panel} {q : List Cell} {scratch : List ℕ} (m : Marked p q scratch) {c : Cell} (o : OnPanel p c) {at : ℕ} (e : at ≡ place p c) where
+  pub is_mark : get_or scratch at 0 ≡ position c q
+  is_mark = ap (λ (k : ℕ). get_or scratch k 0) e ∙ m.marks c o
+
+  -- that is not 0 is the number of a probe
+  module _ (probed : get_or scratch at 0 ≢ 0) where
+    pub at_mark : position c q ≡ suc (get_or scratch at 0 - 1)
+    at_mark = omega (arith, is_mark)
+
+    pub in_found : {k : ℕ} → length q ≤ places → places ≤ k → get_or scratch at 0 - 1 < k
+    in_found few n = let (found, _) = place_given c q (get_or scratch at 0 - 1) at_mark in omega (arith, found)
 
 -- a position noted
 probed : (q : List Cell) (c : Cell) (i : ℕ) → position c q ≡ suc i → among c q ≡ true
@@ -128,9 +146,6 @@ module _ {q l : List Cell} {found : List ℕ} {left read : ℕ} (w : Walking q l
   module _ (end : length l ≤ read) where
     whole : front ≡ l
     whole = let e : read ≡ length l = omega (arith, w.most) in ap (λ (k : ℕ). take k l) e ∙ take-length l
-
-    pub ended_noted : Noted q l found
-    ended_noted = record { notes = λ c i e. w.noted.notes c i e ∙ ap (position c) whole }
 
     pub ended_read : read ≡ cells_read q l
     ended_read = go (eqb left 0) refl

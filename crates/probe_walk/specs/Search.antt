@@ -1,5 +1,5 @@
 -- The search for the probes: what it is given, what it keeps in scratch and beside it, and what it gives. No public call's promise cites this.
-use Rattle.std.specs.Prelude.{ℕ, suc, ◌+◌, ◌-◌, ◌*◌, ◌≤◌, ◌≡◌, true, cond, List, [], ◌∷◌, map, length, get_or}
+use Rattle.std.specs.Prelude.{ℕ, suc, ◌+◌, ◌-◌, ◌≤◌, ◌≡◌, true, cond, List, [], ◌∷◌, map, length, get_or}
 use Rattle.grid.specs.declared.Panel.{Panel}
 use Rattle.grid.specs.declared.Cell.{Cell}
 use Rattle.grid.specs.Panel.{good_sides, area, OnPanel}
@@ -10,14 +10,14 @@ use Rattle.probe_walk.specs.declared.Found.{Found}
 use Rattle.probe_walk.specs.Probes.{position, cells_read, places, placed, positions}
 
 -- at most 64 probes, all on a panel with good sides
-pub record Probed (p : Panel) (probes : List ℕ) : Type 0 where
+pub record Probed (p : Panel) (q : List Cell) : Type 0 where
   pub good : good_sides p ≡ true
-  pub on : all_on p (cells_in probes) ≡ true
-  pub few : length probes ≤ 2 * places
+  pub on : all_on p q ≡ true
+  pub few : length q ≤ places
 
 -- and a list without repeats, all on it too
 pub record Searched (p : Panel) (list probes : List ℕ) : Type 0 where
-  pub probed : Probed p probes
+  pub probed : Probed p (cells_in probes)
   pub inside : all_on p (cells_in list) ≡ true
   pub once : none_twice (cells_in list) ≡ true
   pub short : length list ≤ 32768

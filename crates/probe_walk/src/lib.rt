@@ -2,16 +2,16 @@
 // by marks in scratch; for one that is not on it the nearest cell is searched.
 #![tactic(auto)]
 
-ghost use Rattle.std.specs.Prelude.{◌≡◌, true, [], ◌*◌, ◌<◌, ◌≤◌, length, drop, replicate};
-ghost use Rattle.grid.specs.Panel.{good_sides, area};
-ghost use Rattle.grid.specs.Bytes.{InBytes, cells_in};
-ghost use Rattle.list.specs.List.{nth, all_on};
-ghost use Rattle.scratch.specs.Scratch.{place, Clean};
-ghost use Rattle.probe_walk.specs.Probes.{position, nearest, cells_read, places, positions, nearest_missed, nearest_cells};
+ghost use Rattle.std.specs.Prelude.{◌≡◌, true, [], ◌*◌, ◌≤◌, length, drop, map, replicate};
+ghost use Rattle.list.specs.List.{all_on, none_twice};
+ghost use Rattle.grid.specs.Panel.{area};
+ghost use Rattle.grid.specs.Bytes.{InBytes, cell_of, cells_in};
+ghost use Rattle.scratch.specs.Scratch.{Clean};
+ghost use Rattle.probe_walk.specs.Probes.{nearest, cells_read, places, positions, nearest_cells};
 ghost use Rattle.probe_walk.specs.Search.{found_on, Probed, Searched, unfound, Marked, Noted, noted_positions};
 
 use grid::{Cell, Cells, Panel};
-use list::{cell_at, squared_distance};
+use list::{cell_at, pairs, squared_distance};
 use scratch::{clear, place_of};
 
 // How many probes a sheet has places for.
@@ -19,86 +19,80 @@ pub const PLACES: usize = 64;
 
 // The positions of the probes, 0 for one that is not on the track and at unused places, and how many
 // cells of the track were read for them.
-#[derive(Clone, Copy)]
+#[derive(Clone, Copy, Debug, PartialEq, Eq)]
 pub struct Found {
     pub positions: [u32; PLACES],
     pub read: Cells,
 }
 
-// The place in scratch of the cell with the number i, from 0, of a list.
-fn place_at(p: Panel, cells: &[u8], i: usize) -> usize
-    requires good { good_sides p ≡ true }
-    requires on { all_on p (cells_in cells.now) ≡ true }
-    requires below { i < length (cells_in cells.now) }
-    ensures { result ≡ place p (nth (cells_in cells.now) i) }
-{
-    place_of(p, cell_at(cells, 2 * i))
+// The probes, by the two bytes of each: at most 64 cells of the panel.
+#[derive(Clone, Copy)]
+struct Touched<'a> {
+    panel: Panel,
+    probes: &'a [[u8; 2]],
+    ghost probed: { Probed panel (map cell_of probes.now) },
 }
 
-// Marks each probed cell of clean scratch with the number of its first probe. Gives how many different
-// cells there are.
-fn mark_probes(p: Panel, probes: &[u8], scratch: &mut [u8]) -> usize
-    requires probed { Probed p probes.now }
-    requires clean { Clean p scratch.old }
-    ensures marks { Marked p (cells_in probes.now) scratch.new }
-    ensures rest { drop (area p) scratch.new ≡ drop (area p) scratch.old }
-    ensures told { result ≡ unfound (cells_in probes.now) [] }
-{
-    let mut different = 0;
-    let mut i = 0;
-    while i < probes.len() / 2 {
-        let place = place_at(p, probes, i);
-        i += 1;
-        if scratch[place] == 0 {
-            scratch[place] = i as u8;
-            different += 1;
+impl<'a> Touched<'a> {
+    // Marks each probed cell of clean scratch with the number of its first probe. Gives how many different
+    // cells there are.
+    fn mark(&self, scratch: &mut [u8]) -> usize
+        requires clean { Clean self.now.panel scratch.old }
+        ensures marks { Marked self.now.panel (map cell_of self.now.probes.now) scratch.new }
+        ensures rest { drop (area self.now.panel) scratch.new ≡ drop (area self.now.panel) scratch.old }
+        ensures told { result ≡ unfound (map cell_of self.now.probes.now) [] }
+    {
+        let mut different = 0;
+        for (i, &pair) in self.probes.iter().enumerate() {
+            let place = place_of(self.panel, Cell::from(pair));
+            if scratch[place] == 0 {
+                scratch[place] = (i + 1) as u8;
+                different += 1;
+            }
         }
+        different
     }
-    different
-}
 
-// The one walk: marks the probes, reads the list until every probed cell is found, and notes each one's
-// position at its mark. Gives how many cells it read.
-fn walk(p: Panel, list: &[u8], probes: &[u8], scratch: &mut [u8], found: &mut [u32]) -> usize
-    requires searched { Searched p list.now probes.now }
-    requires clean { Clean p scratch.old }
-    requires empty { found.old ≡ replicate places 0 }
-    ensures marks { Marked p (cells_in probes.now) scratch.new }
-    ensures rest { drop (area p) scratch.new ≡ drop (area p) scratch.old }
-    ensures notes { Noted (cells_in probes.now) (cells_in list.now) found.new }
-    ensures told { result ≡ cells_read (cells_in probes.now) (cells_in list.now) }
-{
-    let mut left = mark_probes(p, probes, scratch);
-    let mut read = 0;
-    while read < list.len() / 2 {
-        if left == 0 {
-            return read;
+    // The one walk: marks the probes, reads the list until every probed cell is found, and notes each one's
+    // position at its mark. Gives how many cells it read.
+    fn find(&self, list: &[u8], scratch: &mut [u8], found: &mut [u32]) -> usize
+        requires inside { all_on self.now.panel (cells_in list.now) ≡ true }
+        requires once { none_twice (cells_in list.now) ≡ true }
+        requires short { length list.now ≤ 32768 }
+        requires clean { Clean self.now.panel scratch.old }
+        requires empty { found.old ≡ replicate places 0 }
+        ensures marks { Marked self.now.panel (map cell_of self.now.probes.now) scratch.new }
+        ensures rest { drop (area self.now.panel) scratch.new ≡ drop (area self.now.panel) scratch.old }
+        ensures notes { Noted (map cell_of self.now.probes.now) (cells_in list.now) found.new }
+        ensures told { result ≡ cells_read (map cell_of self.now.probes.now) (cells_in list.now) }
+    {
+        let mut left = self.mark(scratch);
+        for (i, &pair) in pairs(list).iter().enumerate() {
+            if left == 0 {
+                return i;
+            }
+            let mark = scratch[place_of(self.panel, Cell::from(pair))] as usize;
+            if mark != 0 {
+                found[mark - 1] = (i + 1) as u32;
+                left -= 1;
+            }
         }
-        let mark = scratch[place_at(p, list, read)] as usize;
-        read += 1;
-        if mark != 0 {
-            found[mark - 1] = read as u32;
-            left -= 1;
-        }
+        list.len() / 2
     }
-    read
-}
 
-// What is noted for every probe, at its cell's mark.
-fn noted_for(p: Panel, probes: &[u8], scratch: &[u8], found: &[u32]) -> [u32; PLACES]
-    requires probed { Probed p probes.now }
-    requires marks { Marked p (cells_in probes.now) scratch.now }
-    requires room { places ≤ length found.now }
-    ensures { result ≡ noted_positions (cells_in probes.now) found.now }
-{
-    let mut positions = [0u32; PLACES];
-    let mut i = 0;
-    while i < probes.len() / 2 {
-        let first = scratch[place_at(p, probes, i)] as usize - 1;
-        positions[i] = found[first];
-        i += 1;
+    // What is noted for every probe, at its cell's mark.
+    fn noted(&self, scratch: &[u8], found: &[u32]) -> [u32; PLACES]
+        requires marks { Marked self.now.panel (map cell_of self.now.probes.now) scratch.now }
+        requires room { places ≤ length found.now }
+        ensures { result ≡ noted_positions (map cell_of self.now.probes.now) found.now }
+    {
+        let mut positions = [0u32; PLACES];
+        for (i, &pair) in self.probes.iter().enumerate() {
+            let mark = scratch[place_of(self.panel, Cell::from(pair))] as usize;
+            positions[i] = found[mark - 1];
+        }
+        positions
     }
-    positions
 }
 
 // Finds the probes on the list in clean scratch, which is left clean.
@@ -108,9 +102,13 @@ pub fn find_probes(p: Panel, list: &[u8], probes: &[u8], scratch: &mut [u8]) -> 
     ensures found { result ≡ found_on (cells_in probes.now) (cells_in list.now) }
     ensures left { scratch.new ≡ scratch.old }
 {
+    let touched = Touched {
+        panel: p,
+        probes: pairs(probes),
+    };
     let mut found = [0u32; PLACES];
-    let read = walk(p, list, probes, scratch, &mut found) as u32;
-    let positions = noted_for(p, probes, scratch, &found);
+    let read = touched.find(list, scratch, &mut found) as u32;
+    let positions = touched.noted(scratch, &found);
     clear(p, scratch);
     Found {
         positions,
@@ -126,33 +124,18 @@ fn nearest_to(list: &[u8], c: Cell) -> Cell
 {
     let mut nearest = cell_at(list, 0);
     let mut least = squared_distance(c, nearest);
-    let mut i = 1;
-    while i < list.len() / 2 {
-        let next = cell_at(list, 2 * i);
+    for &pair in pairs(list) {
+        let next = Cell::from(pair);
         let away = squared_distance(c, next);
         if away < least {
             nearest = next;
             least = away;
         }
-        i += 1;
     }
     nearest
 }
 
-// The nearest cell for a probe whose position is 0, (0, 0) for a found one.
-fn nearest_if_missed(list: &[u8], c: Cell, at: u32) -> Cell
-    requires some { 2 ≤ length list.now }
-    requires fits { InBytes c }
-    requires found { at ≡ position c (cells_in list.now) }
-    ensures { result ≡ nearest_missed (cells_in list.now) c }
-{
-    if at != 0 {
-        return Cell { x: 0, y: 0 };
-    }
-    nearest_to(list, c)
-}
-
-// The same for every probe.
+// The nearest cell for every probe whose position is 0; (0, 0) for a found one and at unused places.
 pub fn nearest_cells(list: &[u8], probes: &[u8], found: [u32; PLACES]) -> [Cell; PLACES]
     requires some { 2 ≤ length list.now }
     requires few { length probes.now ≤ 2 * places }
@@ -161,10 +144,10 @@ pub fn nearest_cells(list: &[u8], probes: &[u8], found: [u32; PLACES]) -> [Cell;
 {
     let none = Cell { x: 0, y: 0 };
     let mut cells = [none; PLACES];
-    let mut i = 0;
-    while i < probes.len() / 2 {
-        cells[i] = nearest_if_missed(list, cell_at(probes, 2 * i), found[i]);
-        i += 1;
+    for (i, &pair) in pairs(probes).iter().enumerate() {
+        if found[i] == 0 {
+            cells[i] = nearest_to(list, Cell::from(pair));
+        }
     }
     cells
 }

@@ -1,4 +1,5 @@
 -- A head with the letters behind it is a record, and that is what Write promises.
+use Rattle.std.specs.Prelude.{Result, Ok, Err}
 use Prim.Native.Nat.{ℕ, ◌+◌, ◌/◌, ◌≤◌}
 use native.Mathlib.Omega.{arith}
 use mathlib.Core.Bool.{true}
@@ -9,9 +10,6 @@ use lib.Seq.{drop-append-add, drop-drop}
 use Rattle.grid.specs.declared.Cell.{Cell}
 use Rattle.grid.specs.declared.Panel.{Panel}
 use Rattle.grid.specs.declared.Refusal.{Refusal}
-use Rattle.grid.specs.declared.Check.{Check}
-use Rattle.grid.specs.declared.Check.TheVariants.{Good}
-use Rattle.grid.specs.declared.BytesAnswer.TheVariants.{Refused, Given}
 use Rattle.grid.specs.Bytes.{cells_in}
 use Rattle.grid.specs.Panel.{on_panel}
 use Rattle.grid.proofs.Answers.{gives_bytes}
@@ -56,17 +54,17 @@ module _ (p : Panel) (list : List ℕ) (g : GoodList p (cells_in list)) where
 
 -- the head is written, its entry the first cell, and the letters behind it
 module _ {p : Panel} {list out headed new : List ℕ} {s t : Cell} {r : List Cell} {k : ℕ} where
-  pub made : check_write p list out ≡ Good → cells_in list ≡ s ∷ r → k ≡ steps_of (cells_in list)
+  pub made : check_write p list out ≡ Ok tt → cells_in list ≡ s ∷ r → k ≡ steps_of (cells_in list)
       → t ≡ s → headed ≡ head_of p t k ++ drop head_length out → new ≡ with_letters head_length (cells_in list) headed
-      → Writes p list out new (Given (head_length + k))
+      → Writes p list out new (Ok (head_length + k))
   made e split n first h f =
       let behind = h ∙ ap (λ (c : Cell). head_of p c k ++ drop head_length out) first in
       record {
-        gives = gives_bytes _ _ (answer_good _ _ e (ap (λ (j : ℕ). Given (head_length + j)) n));
+        gives = gives_bytes _ _ (answer_good _ _ e (ap (λ (j : ℕ). Ok (head_length + j)) n));
         buffer = answer_good _ _ e (f ∙ ap (with_letters head_length (cells_in list)) behind ∙ record_made_lem p s k out (cells_in list) r split n);
       }
 
-module _ (p : Panel) (list out : List ℕ) {new : List ℕ} {r : Refusal} where
+module _ (p : Panel) (list out : List ℕ) {r : Refusal} {z : Result ℕ Refusal} where
   -- a refusal that leaves the buffer as it was
-  pub refused : check_write p list out ≡ Check.Refused r → new ≡ out → Writes p list out new (Refused r)
-  refused e same = record { gives = gives_bytes _ _ (answer_refused Refused _ e); buffer = same ∙ answer_refused (λ r. out) _ e }
+  pub refused : check_write p list out ≡ Err r → z ≡ Err r → Writes p list out out z
+  refused e f = record { gives = gives_bytes _ _ (f ∙ answer_refused Err _ e); buffer = answer_refused (λ r. out) _ e }

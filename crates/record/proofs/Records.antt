@@ -3,6 +3,7 @@
 --   writes-back    every record that Read accepts is byte for byte the one that Write makes of the panel and list read
 --   read-empty     Read with an empty buffer gives 5 exactly where Letters is not refused
 --   letters-read   what Letters hands back are the letters of the list read
+use Rattle.std.specs.Prelude.{Result, Ok, Err}
 use Prim.Native.Nat.{ℕ, suc, ◌+◌, ◌*◌, ◌≤◌, ◌<◌}
 use mathlib.Core.Path.{◌≡◌, refl, sym, ap, ap₂, ◌∙◌}
 use mathlib.Core.Bool.{Bool, true, false}
@@ -17,9 +18,7 @@ use Rattle.grid.specs.declared.Cell.{Cell}
 use Rattle.grid.specs.declared.Panel.{Panel}
 use Rattle.grid.specs.declared.Refusal.{Refusal}
 use Rattle.grid.specs.declared.Refusal.TheVariants.{Mark, CutShort, Side, Pitch, EntryOff, StepCount, UnknownByte, CellOff, ShortBuffer}
-use Rattle.grid.specs.declared.Check.{Check}
-use Rattle.grid.specs.declared.Check.TheVariants.{Good}
-use Rattle.grid.specs.declared.BytesAnswer.{BytesAnswer}
+use Rattle.grid.specs.Check.{Check}
 use Rattle.grid.specs.Refusal.{number}
 use Rattle.grid.specs.Panel.{area, on_panel, good_sides, good_pitch}
 use Rattle.grid.specs.Bytes.{bytes, cells_in}
@@ -39,9 +38,9 @@ use Rattle.step_letters.proofs.Lists.{length_letters_from}
 use Rattle.step_letters.proofs.Directions.{known_letters, walk_letters, letters_walk}
 use Rattle.record_head.specs.Head.{head_length, head_of, has_mark, panel_in, entry_in, steps_in, letters_in, check_head}
 use Rattle.record_head.proofs.Heads.{panel_back, entry_back, steps_back, letters_back, head_back, head_is}
-use Rattle.record.specs.declared.ReadAnswer.{ReadAnswer}
+use Rattle.record.specs.declared.Recorded.{Recorded}
 use Rattle.record.specs.Write.{record_of, record_length, check_write, write_answer, write_buffer, record_made}
-use Rattle.record.specs.Read.{check_known, cells_read, check_record, check_read, read_answer, read_buffer, read_values, list_read, letters_answer}
+use Rattle.record.specs.Read.{check_known, cells_read, check_record, check_read, recorded, read_answer, read_buffer, read_values, list_read, letters_answer}
 use Rattle.record.proofs.Walks.{length_walk}
 use Rattle.record.proofs.Answers.{GoodRecord, record_good}
 
@@ -62,7 +61,7 @@ module _ (p : Panel) (s : Cell) (l : List Cell) (rest : List ℕ) where
     cells_written =
         ap₂ walk_from (entry_back p s (length l) behind) letters_written ∙ ap (λ (k : List Cell). s ∷ k) (walk_letters s l g.next)
 
-    accepted : check_record file ≡ Good
+    accepted : check_record file ≡ Ok tt
     accepted =
         let few : suc (length l) ≤ area p = g.few in
         let fits : length l ≤ length behind = omega (arith, length-append (letters_from s l) rest, length_letters_from s l) in
@@ -74,7 +73,7 @@ module _ (p : Panel) (s : Cell) (l : List Cell) (rest : List ℕ) where
 
 -- Read takes the record of every good list
 read_record : (p : Panel) (l : List Cell) (rest buffer : List ℕ) → GoodList p l → 2 * length l ≤ length buffer
-    → (read_answer (record_of p l ++ rest) buffer ≡ ReadAnswer.Given p (record { 0 = length l }) (record_length l))
+    → (read_answer (record_of p l ++ rest) buffer ≡ Ok (recorded p (length l) (record_length l)))
     × (read_buffer (record_of p l ++ rest) buffer ≡ with_cells l buffer)
 read_record p [] rest buffer g room = let none : 1 ≤ 0 = g.some in absurd (omega arith)
 read_record p (s ∷ l) rest buffer g room =
@@ -84,8 +83,8 @@ read_record p (s ∷ l) rest buffer g room =
     let cells = cells_written p s l rest g in
     let steps = steps_back p s (length l) r in
     let fits = le-leb (2 * length (cells_read f)) (length buffer) (omega (arith, ap length cells)) in
-    let e : check_read f buffer ≡ Good = sym (after_good _ (accepted p s l rest g) (expect_yes _ _ fits refl)) in (
-      sym (answer_good _ _ e (sym (λ i. ReadAnswer.Given (panel i) (record { 0 = length (cells i) }) (head_length + steps i)))),
+    let e : check_read f buffer ≡ (Ok tt) = sym (after_good _ (accepted p s l rest g) (expect_yes _ _ fits refl)) in (
+      sym (answer_good _ _ e (sym (λ i. Ok (recorded (panel i) (length (cells i)) (head_length + steps i))))),
       sym (answer_good _ _ e (sym (ap (λ (k : List Cell). with_cells k buffer) cells))),
     )
 
@@ -95,21 +94,21 @@ length_record : (p : Panel) (l : List Cell) → 1 ≤ length l → length (recor
 length_record p [] h = absurd (omega arith)
 length_record p (s ∷ l) h = omega (arith, length_letters_from s l)
 
-written : (p : Panel) (list out : List ℕ) → check_write p list out ≡ Good
-    → (write_answer p list out ≡ BytesAnswer.Given (record_length (cells_in list))) × (record_made p list out ≡ record_of p (cells_in list))
+written : (p : Panel) (list out : List ℕ) → check_write p list out ≡ Ok tt
+    → (write_answer p list out ≡ Ok (record_length (cells_in list))) × (record_made p list out ≡ record_of p (cells_in list))
 written p list out e =
     let l = cells_in list in
     let g = list_good p list (after_passed (check_list p list) _ e) in
-    let a : write_answer p list out ≡ BytesAnswer.Given (record_length l) = sym (answer_good _ _ e refl) in
+    let a : write_answer p list out ≡ Ok (record_length l) = sym (answer_good _ _ e refl) in
     let b : write_buffer p list out ≡ record_of p l ++ drop (record_length l) out = sym (answer_good _ _ e refl) in (
       a,
-      ap₂ (λ (w : BytesAnswer) (o : List ℕ). take (bytes_values w).bytes o) a b
+      ap₂ (λ (w : Result ℕ Refusal) (o : List ℕ). take (bytes_values w).bytes o) a b
           ∙ take_at (record_of p l) _ (record_length l) (length_record p l g.some),
     )
 
-pub reads_back : (p : Panel) (list out rest buffer : List ℕ) → check_write p list out ≡ Good → length list ≤ length buffer
+pub reads_back : (p : Panel) (list out rest buffer : List ℕ) → check_write p list out ≡ Ok tt → length list ≤ length buffer
     → (read_answer (record_made p list out ++ rest) buffer
-    ≡ ReadAnswer.Given p (record { 0 = length (cells_in list) }) (bytes_values (write_answer p list out)).bytes)
+    ≡ Ok (recorded p (length (cells_in list)) (bytes_values (write_answer p list out)).bytes))
     × (read_buffer (record_made p list out ++ rest) buffer ≡ list ++ drop (length list) buffer)
 reads_back p list out rest buffer e room =
     let l = cells_in list in
@@ -119,7 +118,7 @@ reads_back p list out rest buffer e room =
     let (given, made) = written p list out e in
     let (read, cells) = read_record p l rest buffer (list_good p list c) (omega arith) in (
       ap (λ (k : List ℕ). read_answer (k ++ rest) buffer) made ∙ read
-          ∙ ap (λ (a : BytesAnswer). ReadAnswer.Given p (record { 0 = length l }) (bytes_values a).bytes) (sym given),
+          ∙ ap (λ (a : Result ℕ Refusal). Ok (recorded p (length l) (bytes_values a).bytes)) (sym given),
       ap (λ (k : List ℕ). read_buffer (k ++ rest) buffer) made ∙ cells ∙ ap₂ (λ (b : List ℕ) (k : ℕ). b ++ drop k buffer) back n,
     )
 
@@ -150,45 +149,45 @@ module _ (f : List ℕ) (g : GoodRecord f) where
       ∙ ap₂ (λ (x y : List ℕ). x ++ y) (head_is f g.head byte) (sym walked.0)
       ∙ ap (λ (k : ℕ). head_of (panel_in f) (entry_in f) k ++ letters_from (entry_in f) (walk_on (entry_in f) (letters_in f))) (sym steps_read)
 
-pub writes_back : (f buffer out : List ℕ) → ((i : ℕ) → get_or f i 0 < 256) → check_read f buffer ≡ Good
+pub writes_back : (f buffer out : List ℕ) → ((i : ℕ) → get_or f i 0 < 256) → check_read f buffer ≡ Ok tt
     → let r = read_values (read_answer f buffer) in
     r.length ≤ length out
-    → (write_answer r.panel (list_read f buffer) out ≡ BytesAnswer.Given r.length)
+    → (write_answer r.panel (list_read f buffer) out ≡ Ok r.length)
     × (record_made r.panel (list_read f buffer) out ≡ take r.length f)
 writes_back f buffer out byte e room =
     let g = record_good f (after_passed (check_record f) _ e) in
     let p = panel_in f in
     let l = cells_read f in
     let k = head_length + steps_in f in
-    let a : read_answer f buffer ≡ ReadAnswer.Given p (record { 0 = length l }) k = sym (answer_good _ _ e refl) in
+    let a : read_answer f buffer ≡ Ok (recorded p (length l) k) = sym (answer_good _ _ e refl) in
     let b : read_buffer f buffer ≡ with_cells l buffer = sym (answer_good _ _ e refl) in
-    let cells = ap₂ (λ (r : ReadAnswer) (o : List ℕ). take (2 * (read_values r).cells.0) o) a b in
+    let cells = ap₂ (λ (r : Result Recorded Refusal) (o : List ℕ). take (2 * (read_values r).cells.0) o) a b in
     let list : list_read f buffer ≡ bytes l = cells ∙ take_at (bytes l) _ (2 * length l) (length_bytes l) in
     let n : record_length (cells_in (bytes l)) ≡ k = ap record_length (cells_bytes l) ∙ ap (λ (j : ℕ). head_length + j) (steps_read f g) in
-    let fits = le-leb (record_length (cells_in (bytes l))) (length out) (omega (arith, ap (λ (r : ReadAnswer). (read_values r).length) a)) in
-    let c : check_write p (bytes l) out ≡ Good = sym (after_good _ (is_list_good p l (list_of f g)) (expect_yes _ _ fits refl)) in
+    let fits = le-leb (record_length (cells_in (bytes l))) (length out) (omega (arith, ap (λ (r : Result Recorded Refusal). (read_values r).length) a)) in
+    let c : check_write p (bytes l) out ≡ (Ok tt) = sym (after_good _ (is_list_good p l (list_of f g)) (expect_yes _ _ fits refl)) in
     let (given, made) = written p (bytes l) out c in (
-      ap₂ (λ (r : ReadAnswer) (o : List ℕ). write_answer (read_values r).panel o out) a list ∙ given ∙ ap BytesAnswer.Given n
-          ∙ ap (λ (r : ReadAnswer). BytesAnswer.Given (read_values r).length) (sym a),
-      ap₂ (λ (r : ReadAnswer) (o : List ℕ). record_made (read_values r).panel o out) a list ∙ made ∙ ap (record_of p) (cells_bytes l)
-          ∙ sym (record_read f g byte) ∙ ap (λ (r : ReadAnswer). take (read_values r).length f) (sym a),
+      ap₂ (λ (r : Result Recorded Refusal) (o : List ℕ). write_answer (read_values r).panel o out) a list ∙ given ∙ ap Ok n
+          ∙ ap (λ (r : Result Recorded Refusal). Ok (read_values r).length) (sym a),
+      ap₂ (λ (r : Result Recorded Refusal) (o : List ℕ). record_made (read_values r).panel o out) a list ∙ made ∙ ap (record_of p) (cells_bytes l)
+          ∙ sym (record_read f g byte) ∙ ap (λ (r : Result Recorded Refusal). take (read_values r).length f) (sym a),
     )
 
 -- ---- Letters
 
 -- a check that never gives 5
 abbrev NotFive : Check → Type 0
-NotFive c = c ≡ Check.Refused ShortBuffer → ⊥
+NotFive c = c ≡ Err ShortBuffer → ⊥
 
 expect_not : (b : Bool) (r : Refusal) (k : Check) → (number r ≡ 5 → ⊥) → NotFive k → NotFive (expect b r k)
 expect_not true r k h n e = n e
 expect_not false r k h n e = let s : r ≡ ShortBuffer = cc in h (ap number s)
 
 after_not : (c k : Check) → NotFive c → NotFive k → NotFive (after c k)
-after_not Good k m n = n
-after_not (Check.Refused r) k m n = m
+after_not (Ok tt) k m n = n
+after_not (Err r) k m n = m
 
-good_not : NotFive Good
+good_not : NotFive (Ok tt)
 good_not e = clash (cc)
 
 never_five : (f : List ℕ) → NotFive (check_record f)
@@ -199,25 +198,25 @@ never_five f =
     (after_not (check_entry (panel_in f) (entry_in f)) _
     (after_not (check_panel (panel_in f)) _
     (expect_not (good_sides (panel_in f)) Side _ (omega arith)
-    (expect_not (good_pitch (panel_in f)) Pitch Good (omega arith) good_not))
-    (expect_not (on_panel (panel_in f) (entry_in f)) EntryOff Good (omega arith) good_not))
+    (expect_not (good_pitch (panel_in f)) Pitch (Ok tt) (omega arith) good_not))
+    (expect_not (on_panel (panel_in f) (entry_in f)) EntryOff (Ok tt) (omega arith) good_not))
     (expect_not (ltb (steps_in f) (area (panel_in f))) StepCount _ (omega arith)
-    (expect_not (leb (head_length + steps_in f) (length f)) CutShort Good (omega arith) good_not)))))
+    (expect_not (leb (head_length + steps_in f) (length f)) CutShort (Ok tt) (omega arith) good_not)))))
     (after_not (check_known (letters_in f)) _
-    (expect_not (all_known (letters_in f)) UnknownByte Good (omega arith) good_not)
-    (expect_not (all_on (panel_in f) (cells_read f)) CellOff Good (omega arith) good_not))
+    (expect_not (all_known (letters_in f)) UnknownByte (Ok tt) (omega arith) good_not)
+    (expect_not (all_on (panel_in f) (cells_read f)) CellOff (Ok tt) (omega arith) good_not))
 
-five_behind : (c k : Check) (a : ReadAnswer) → NotFive c → answer (after c k) ReadAnswer.Refused a ≡ ReadAnswer.Refused ShortBuffer → c ≡ Good
-five_behind Good k a n e = refl
-five_behind (Check.Refused r) k a n e = absurd (n (cc))
+five_behind : (c k : Check) (a : Result Recorded Refusal) → NotFive c → answer (after c k) Err a ≡ Err ShortBuffer → c ≡ Ok tt
+five_behind (Ok tt) k a n e = refl
+five_behind (Err r) k a n e = absurd (n (cc))
 
-pub read_empty : (f : List ℕ) → (read_answer f [] ≡ ReadAnswer.Refused ShortBuffer) ↔ (check_record f ≡ Good)
+pub read_empty : (f : List ℕ) → (read_answer f [] ≡ Err ShortBuffer) ↔ (check_record f ≡ Ok tt)
 read_empty f = (
   five_behind (check_record f) _ _ (never_five f),
-  λ e. sym (answer_refused ReadAnswer.Refused _ (sym (after_good _ e (expect_no _ _ (lt-leb (2 * length (cells_read f)) 0 (omega arith)))))),
+  λ e. sym (answer_refused Err _ (sym (after_good _ e (expect_no _ _ (lt-leb (2 * length (cells_read f)) 0 (omega arith)))))),
 )
 
-pub letters_read : (f : List ℕ) → check_record f ≡ Good → letters_answer f ≡ letters_of (cells_read f)
+pub letters_read : (f : List ℕ) → check_record f ≡ Ok tt → letters_answer f ≡ letters_of (cells_read f)
 letters_read f e = sym (answer_good _ _ e (walked f (record_good f e)).0)
 
 -- a record of one cell has no letters
@@ -225,5 +224,5 @@ pub no_letters : (f : List ℕ) → steps_in f ≡ 0 → letters_answer f ≡ []
 no_letters f e = go (check_record f)
   where
     go : (c : Check) → answer c (λ r. []) (letters_in f) ≡ []
-    go Good = ap (λ (k : ℕ). take k (drop head_length f)) e
-    go (Check.Refused r) = refl
+    go (Ok tt) = ap (λ (k : ℕ). take k (drop head_length f)) e
+    go (Err r) = refl

@@ -1,7 +1,8 @@
 -- Letters walked from the front: the cells that they lead over, one by one, into a buffer too; and that the cells of a good panel are cells
 -- of the largest, where a letter may be tried.
+use Rattle.std.specs.Prelude.{Result, Ok, Err, IsOk}
 use Prim.Native.Nat.{ℕ, suc, ◌+◌, ◌<◌}
-use mathlib.Core.Path.{◌≡◌, refl, sym, ap, ◌∙◌}
+use mathlib.Core.Path.{◌≡◌, refl, sym, ap, subst⁻¹, ◌∙◌}
 use mathlib.Core.Bool.{Bool, true, false, ◌||◌, true≢false}
 use mathlib.Core.List.{List, [], ◌∷◌, ◌++◌}
 use native.Mathlib.Omega.{arith}
@@ -10,13 +11,14 @@ use lib.ListN.{length, take, drop, get_or, set, length-set}
 use Rattle.grid.specs.declared.Cell.{Cell}
 use Rattle.grid.specs.declared.Panel.{Panel}
 use Rattle.grid.specs.declared.Refusal.{Refusal}
+use Rattle.grid.specs.declared.Refusal.TheVariants.{UnknownByte}
 use Rattle.grid.specs.Panel.{OnPanel, on_panel, good_panel}
 use Rattle.grid.proofs.Facts.{and_parts, and_both, good, on, is_on}
 use Rattle.grid.proofs.Lists.{drop_next}
+use Rattle.grid.proofs.Tests.{both_branches}
 use Rattle.list.specs.List.{all_on}
-use Rattle.step_letters.specs.declared.Stepped.TheVariants.{Refused}
 use Rattle.step_letters.specs.Letters.{north, east, south, known, stepped, step_by, walk_on, largest_panel}
-use Rattle.step_letters.proofs.Laws.{byte_refused}
+use Rattle.step_letters.proofs.Laws.{byte_refused, byte_leads}
 use Rattle.step_letters.proofs.Lists.{put_byte}
 
 -- ---- cells
@@ -48,8 +50,20 @@ unknown_off p c b h =
     let (s, w) = or_none (eqb b south) _ h₂ in
     simp (n, e, s, w)
 
-pub refused_off : (p : Panel) (c : Cell) (b : ℕ) {r : Refusal} → step_by c b ≡ Refused r → on_panel p (stepped c b) ≡ false
+pub refused_off : (p : Panel) (c : Cell) (b : ℕ) {r : Refusal} → step_by c b ≡ Err r → on_panel p (stepped c b) ≡ false
 refused_off p c b e = unknown_off p c b (byte_refused c b e).0
+
+-- a byte that leads to a cell of a panel is a letter
+pub leads_on : (p : Panel) (c : Cell) (b : ℕ) {r : Result Cell Refusal} → r ≡ step_by c b → on_panel p (stepped c b) ≡ true → IsOk r
+leads_on p c b e o =
+    subst⁻¹ (λ (z : Result Cell Refusal). IsOk z) e
+    (both_branches (λ (z : Result Cell Refusal). IsOk z) (known b) (Ok (stepped c b)) (Err UnknownByte) (λ _. refl)
+    (λ k. absurd (true≢false (sym o ∙ unknown_off p c b k))))
+
+-- where a letter leads that is taken
+pub leads_to_next : (l : List ℕ) (i : ℕ) (a : Cell) {r : Result Cell Refusal} {d : Cell} → r ≡ step_by a (get_or l i 0) → r ≡ Ok d
+    → stepped a (get_or l i 0) ≡ d
+leads_to_next l i a e f = (byte_leads a (get_or l i 0) (sym e ∙ f)).1
 
 pub length_walk : (c : Cell) (l : List ℕ) → length (walk_on c l) ≡ length l
 length_walk c [] = refl

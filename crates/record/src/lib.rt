@@ -6,156 +6,120 @@ ghost use Rattle.std.specs.Prelude.{◌≡◌, true, ◌≤◌, ◌<◌, ◌*◌
 ghost use Rattle.grid.specs.Panel.{OnPanel, on_panel, good_panel};
 ghost use Rattle.grid.specs.Answer.{cells_answer};
 ghost use Rattle.list.specs.List.{all_on, with_cells};
-ghost use Rattle.step_letters.specs.Letters.{walk_from, largest_panel};
+ghost use Rattle.step_letters.specs.Letters.{all_known, walk_from, largest_panel};
 ghost use Rattle.record.specs.Write.{Writes};
 ghost use Rattle.record.specs.Read.{check_known, check_steps, check_letters, record_cells, Reads, Lettered};
 
-use grid::{BytesAnswer, Cell, Cells, CellsAnswer, Check, Panel, Refusal, on_panel, steps_of};
+use grid::{Cell, Cells, Panel, Refusal, ensure, on_panel, steps_of};
 use list::{cell_at, check_list, put_cell};
-use record_head::{HEAD, check_head, head_in, letters_in, write_head};
-use step_letters::{Stepped, step_by, write_letters};
+use record_head::{HEAD, Head, check_head, head_in, letters_in, write_head};
+use step_letters::{step_by, write_letters};
 
-// What Read answers: why it refuses, or the panel, the cell count and the record length.
-#[derive(Clone, Copy)]
-pub enum ReadAnswer {
-    Refused(Refusal),
-    Given(Panel, Cells, u32),
+// What Read gives: the panel, the cell count and the record length.
+#[derive(Clone, Copy, Debug, PartialEq, Eq)]
+pub struct Recorded {
+    pub panel: Panel,
+    pub cells: Cells,
+    pub bytes: u32,
 }
 
-pub fn write(p: Panel, list: &[u8], out: &mut [u8]) -> BytesAnswer
+pub fn write(p: Panel, list: &[u8], out: &mut [u8]) -> Result<u32, Refusal>
     ensures { Writes p list.now out.old out.new result }
 {
-    let c = check_list(p, list);
-    if let Check::Refused(r) = c {
-        return BytesAnswer::Refused(r);
-    }
+    check_list(p, list)?;
     let cells = (list.len() / 2) as u32;
-    let steps = steps_of(Cells(cells));
-    let k = HEAD + steps.0 as usize;
-    if out.len() < k {
-        return BytesAnswer::Refused(Refusal::ShortBuffer);
-    }
-    write_head(p, cell_at(list, 0), steps, out);
+    let head = Head {
+        panel: p,
+        entry: cell_at(list, 0),
+        steps: steps_of(Cells(cells)),
+    };
+    let bytes = HEAD + head.steps.0 as usize;
+    ensure(bytes <= out.len(), Refusal::ShortBuffer)?;
+    write_head(head, out);
     write_letters(list, out, HEAD);
-    let bytes = k as u32;
-    BytesAnswer::Given(bytes)
+    Ok(bytes as u32)
 }
 
 // Whether every byte is a letter, tried from one cell.
-fn check_known(c: Cell, letters: &[u8]) -> Check
+fn check_known(c: Cell, letters: &[u8]) -> Result<(), Refusal>
     requires { OnPanel largest_panel c }
     ensures { result ≡ check_known letters.now }
 {
-    let mut i = 0;
-    while i < letters.len() {
-        let m = step_by(c, letters[i]);
-        if let Stepped::Refused(r) = m {
-            return Check::Refused(r);
-        }
-        i += 1;
+    for &letter in letters {
+        step_by(c, letter)?;
     }
-    Check::Good
+    Ok(())
 }
 
-// Walks the letters from a cell, and counts it and each cell after it.
-fn walk(p: Panel, s: Cell, letters: &[u8]) -> CellsAnswer
-    requires { (good_panel p ≡ true) × (on_panel p s ≡ true) × (length letters.now < 65536) }
-    ensures { result ≡ cells_answer (check_steps p s letters.now) (length (walk_from s letters.now)) }
+// Whether a walk over letters stays on the panel.
+fn check_steps(p: Panel, s: Cell, letters: &[u8]) -> Result<(), Refusal>
+    requires good { good_panel p ≡ true }
+    requires on { on_panel p s ≡ true }
+    requires known { all_known letters.now ≡ true }
+    ensures { result ≡ check_steps p s letters.now }
 {
     let mut at = s;
-    let mut count = 1;
-    let mut i = 0;
-    while i < letters.len() {
-        let m = step_by(at, letters[i]);
-        let Stepped::To(next) = m else {
-            return CellsAnswer::Refused(Refusal::CellOff);
-        };
-        if !on_panel(p, next) {
-            return CellsAnswer::Refused(Refusal::CellOff);
-        }
-        at = next;
-        count += 1;
-        i += 1;
+    for &letter in letters {
+        at = step_by(at, letter)?;
+        ensure(on_panel(p, at), Refusal::CellOff)?;
     }
-    CellsAnswer::Given(Cells(count))
+    Ok(())
 }
 
-// Why letters are refused, or how many cells they lead over.
-fn count_cells(p: Panel, s: Cell, letters: &[u8]) -> CellsAnswer
-    requires { (good_panel p ≡ true) × (on_panel p s ≡ true) × (length letters.now < 65536) }
+// Why letters are refused, or how many cells they lead over: one, and another for each.
+fn count_cells(p: Panel, s: Cell, letters: &[u8]) -> Result<Cells, Refusal>
+    requires good { good_panel p ≡ true }
+    requires on { on_panel p s ≡ true }
+    requires few { length letters.now < 65536 }
     ensures { result ≡ cells_answer (check_letters p s letters.now) (length (walk_from s letters.now)) }
 {
-    let c = check_known(s, letters);
-    if let Check::Refused(r) = c {
-        return CellsAnswer::Refused(r);
-    }
-    walk(p, s, letters)
+    check_known(s, letters)?;
+    check_steps(p, s, letters)?;
+    Ok(Cells(1 + letters.len() as u32))
 }
 
 // What Letters refuses, or the record's cell count.
-fn find_record(file: &[u8]) -> CellsAnswer
+fn find_record(file: &[u8]) -> Result<Cells, Refusal>
     ensures { result ≡ record_cells file.now }
 {
-    let c = check_head(file);
-    if let Check::Refused(r) = c {
-        return CellsAnswer::Refused(r);
-    }
+    check_head(file)?;
     let h = head_in(file);
-    let p = h.panel;
-    let s = h.entry;
-    count_cells(p, s, letters_in(file))
+    count_cells(h.panel, h.entry, letters_in(file))
 }
 
 // The cells that letters lead over, at the front of the buffer.
 fn write_cells(s: Cell, letters: &[u8], list: &mut [u8])
-    requires { (all_on largest_panel (walk_from s letters.now) ≡ true) × (2 * length (walk_from s letters.now) ≤ length list.old) }
+    requires on { all_on largest_panel (walk_from s letters.now) ≡ true }
+    requires room { 2 * length (walk_from s letters.now) ≤ length list.old }
     ensures { list.new ≡ with_cells (walk_from s letters.now) list.old }
 {
     put_cell(list, 0, s);
     let mut at = s;
-    let mut i = 0;
-    let mut j = 2;
-    while i < letters.len() {
-        let m = step_by(at, letters[i]);
-        let Stepped::To(next) = m else {
-            return;
-        };
-        put_cell(list, j, next);
-        at = next;
-        i += 1;
-        j += 2;
+    for (i, &letter) in letters.iter().enumerate() {
+        at = step_by(at, letter).unwrap();
+        put_cell(list, 2 * (i + 1), at);
     }
 }
 
-pub fn read(file: &[u8], list: &mut [u8]) -> ReadAnswer
+pub fn read(file: &[u8], list: &mut [u8]) -> Result<Recorded, Refusal>
     ensures { Reads file.now list.old list.new result }
 {
-    let f = find_record(file);
-    match f {
-        CellsAnswer::Refused(r) => ReadAnswer::Refused(r),
-        CellsAnswer::Given(cells) => {
-            let h = head_in(file);
-            let p = h.panel;
-            let s = h.entry;
-            if list.len() < 2 * (cells.0 as usize) {
-                return ReadAnswer::Refused(Refusal::ShortBuffer);
-            }
-            write_cells(s, letters_in(file), list);
-            let head = HEAD as u32;
-            let bytes = head + h.steps.0;
-            ReadAnswer::Given(p, cells, bytes)
-        }
-    }
+    let cells = find_record(file)?;
+    ensure(2 * cells.0 as usize <= list.len(), Refusal::ShortBuffer)?;
+    let h = head_in(file);
+    write_cells(h.entry, letters_in(file), list);
+    Ok(Recorded {
+        panel: h.panel,
+        cells,
+        bytes: HEAD as u32 + h.steps.0,
+    })
 }
 
 pub fn letters<'a>(file: &'a [u8]) -> &'a [u8]
     ensures { Lettered file.entry result }
 {
-    let f = find_record(file);
-    if let CellsAnswer::Refused(_) = f {
-        // The empty stretch at the front.
-        let front = 0;
-        return &file[front..front];
+    match find_record(file) {
+        Ok(_) => letters_in(file),
+        Err(_) => &file[..0], // the empty stretch at the front
     }
-    letters_in(file)
 }

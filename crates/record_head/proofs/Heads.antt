@@ -1,5 +1,6 @@
 -- The head of a record: what is read from a head that was written, that every head which passes the check is the one that is written of
 -- what it says, and what the check says where it refuses nothing. Only these laws know which byte of the head holds what.
+use Rattle.std.specs.Prelude.{Ok, Err}
 use Prim.Native.Nat.{ℕ, zero, suc, ◌+◌, ◌*◌, ◌/◌, ◌%◌, ◌≤◌, ◌<◌}
 use mathlib.Core.Path.{◌≡◌, refl, sym, ap, ◌∙◌}
 use mathlib.Core.Bool.{Bool, true, false, ◌&&◌}
@@ -12,7 +13,6 @@ use borrow.Author.Tests.{lt-ltb, ltb-true, le-leb, leb-true, eqb-true}
 use Rattle.grid.specs.declared.Cell.{Cell}
 use Rattle.grid.specs.declared.Panel.{Panel}
 use Rattle.grid.specs.declared.Refusal.TheVariants.{Mark}
-use Rattle.grid.specs.declared.Check.TheVariants.{Good, Refused}
 use Rattle.grid.specs.Panel.{panel, area, on_panel, good_panel}
 use Rattle.grid.specs.Check.{check_entry}
 use Rattle.grid.proofs.Facts.{good, is_good, is_on, area_small, and_parts, and_both}
@@ -40,7 +40,7 @@ pub record GoodHead (f : List ℕ) : Type 0 where
   pub few : steps_in f < area (panel_in f)
   pub whole : head_length + steps_in f ≤ length f
 
-pub head_good : (f : List ℕ) → check_head f ≡ Good → GoodHead f
+pub head_good : (f : List ℕ) → check_head f ≡ Ok tt → GoodHead f
 head_good f e =
     let e₁ = expect_rest (has_mark f) _ _ e in
     let e₂ = expect_rest (has_head f) _ _ e₁ in
@@ -56,7 +56,7 @@ head_good f e =
       whole = leb-true _ _ (expect_passed (leb (head_length + steps_in f) (length f)) _ _ e₄);
     }
 
-pub is_head_good : (f : List ℕ) → GoodHead f → check_head f ≡ Good
+pub is_head_good : (f : List ℕ) → GoodHead f → check_head f ≡ Ok tt
 is_head_good f g =
     let entry = sym (after_good _ (panel_passes (panel_in f) g.panel) (expect_yes _ _ g.entry refl)) in
     sym (expect_yes _ _ g.mark
@@ -71,7 +71,7 @@ steps_bound f h = omega (arith, h.few, area_small (good (panel_in f) h.panel).si
 
 -- ---- the old mark, 46 54, under which records had no pitch
 
-pub old_mark : (rest : List ℕ) → check_head (0x46 ∷ 0x54 ∷ rest) ≡ Refused Mark
+pub old_mark : (rest : List ℕ) → check_head (0x46 ∷ 0x54 ∷ rest) ≡ Err Mark
 unfolding has_mark
 old_mark rest =
     let long = le-leb 2 (length (0x46 ∷ 0x54 ∷ rest)) (omega arith) in
@@ -95,7 +95,7 @@ module _ (p : Panel) (s : Cell) (k : ℕ) (rest : List ℕ) where
   pub letters_back : letters_in file ≡ take k rest
   letters_back = ap (λ (n : ℕ). take n rest) steps_back
 
-  pub head_back : good_panel p ≡ true → on_panel p s ≡ true → k < area p → k ≤ length rest → check_head file ≡ Good
+  pub head_back : good_panel p ≡ true → on_panel p s ≡ true → k < area p → k ≤ length rest → check_head file ≡ Ok tt
   unfolding has_mark
   head_back g o few fits =
       is_head_good file record {

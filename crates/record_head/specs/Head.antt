@@ -1,12 +1,10 @@
 -- Document 01, "Record", with R-1's pitch: the head of a record, byte by byte, and "Read": what is refused of it, in order.
-use Rattle.std.specs.Prelude.{ℕ, ◌+◌, ◌*◌, ◌/◌, ◌%◌, Bool, ◌&&◌, List, [], ◌∷◌, length, take, drop, get_or, leb, ltb, eqb}
+use Rattle.std.specs.Prelude.{ℕ, ◌+◌, ◌*◌, ◌/◌, ◌%◌, Bool, ◌&&◌, List, [], ◌∷◌, length, take, drop, get_or, leb, ltb, eqb, Ok}
 use Rattle.grid.specs.declared.Panel.{Panel}
 use Rattle.grid.specs.declared.Cell.{Cell}
-use Rattle.grid.specs.declared.Check.{Check}
-use Rattle.grid.specs.declared.Check.TheVariants.{Good}
 use Rattle.grid.specs.declared.Refusal.TheVariants.{Mark, CutShort, StepCount}
 use Rattle.grid.specs.Panel.{panel, area}
-use Rattle.grid.specs.Check.{check_entry, expect, after}
+use Rattle.grid.specs.Check.{Check, check_entry, expect, after}
 use Rattle.list.specs.List.{cell_at}
 use Rattle.record_head.specs.declared.Head.{Head}
 
@@ -86,4 +84,4 @@ check_head f =
     (expect (has_head f) CutShort
     (after (check_entry (panel_in f) (entry_in f))
     (expect (ltb (steps_in f) (area (panel_in f))) StepCount
-    (expect (leb (head_length + steps_in f) (length f)) CutShort Good))))
+    (expect (leb (head_length + steps_in f) (length f)) CutShort (Ok tt)))))

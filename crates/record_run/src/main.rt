@@ -5,11 +5,10 @@
 
 ghost use Rattle.std.specs.Prelude.{◌≤◌, ◌<◌, length};
 
-use grid::{BytesAnswer, Panel, number_of, panel_of};
-use record::ReadAnswer;
+use grid::{Panel, panel_of};
 use std::io;
 use trial::PITCH;
-use trial::cells::{snake, wide};
+use trial::cells::snake;
 use trial::print::{named, row, text};
 
 // The largest number of 32 bits.
@@ -17,10 +16,8 @@ const MAX: u32 = 4294967295;
 
 fn show_bytes(rt: &impl Print, s: &[u8]) -> io::Result<()> {
     text(rt, b"bytes")?;
-    let mut i = 0;
-    while i < s.len() {
-        named(rt, b" ", wide(s[i]))?;
-        i += 1;
+    for &byte in s {
+        named(rt, b" ", u32::from(byte))?;
     }
     text(rt, b"\n")
 }
@@ -28,25 +25,29 @@ fn show_bytes(rt: &impl Print, s: &[u8]) -> io::Result<()> {
 fn show_write(rt: &impl Print, p: Panel, list: &[u8], out: &mut [u8]) -> io::Result<()> {
     text(rt, b"write ")?;
     match record::write(p, list, out) {
-        BytesAnswer::Refused(r) => row(rt, &[number_of(r), 0], b"\n"),
-        BytesAnswer::Given(k) => row(rt, &[0, k], b"\n"),
+        Err(r) => row(rt, &[u32::from(r), 0], b"\n"),
+        Ok(bytes) => row(rt, &[0, bytes], b"\n"),
     }
 }
 
 fn show_read(rt: &impl Print, file: &[u8], list: &mut [u8]) -> io::Result<()> {
     text(rt, b"read ")?;
     match record::read(file, list) {
-        ReadAnswer::Refused(r) => row(rt, &[number_of(r), 0, 0, 0, 0, 0], b"\n"),
-        ReadAnswer::Given(p, n, k) => row(rt, &[0, p.width, p.height, p.pitch, n.0, k], b"\n"),
+        Err(r) => row(rt, &[u32::from(r), 0, 0, 0, 0, 0], b"\n"),
+        Ok(found) => {
+            let p = found.panel;
+            row(
+                rt,
+                &[0, p.width, p.height, p.pitch, found.cells.0, found.bytes],
+                b"\n",
+            )
+        }
     }
 }
 
 // The number that Read gives, 0 where nothing is refused.
 fn read_number(file: &[u8], list: &mut [u8]) -> u32 {
-    match record::read(file, list) {
-        ReadAnswer::Refused(r) => number_of(r),
-        ReadAnswer::Given(_, _, _) => 0,
-    }
+    record::read(file, list).map_or_else(u32::from, |_| 0)
 }
 
 fn show_letters(rt: &impl Print, file: &[u8]) -> io::Result<()> {
@@ -323,10 +324,8 @@ fn read_prefix(rt: &impl Print, file: &[u8], n: usize) -> io::Result<()>
 
 fn prefixes(rt: &impl Print, file: &[u8]) -> io::Result<()> {
     text(rt, b"prefixes\n")?;
-    let mut n = 0;
-    while n <= file.len() {
+    for n in 0..=file.len() {
         read_prefix(rt, file, n)?;
-        n += 1;
     }
     text(rt, b"\n")
 }
@@ -350,28 +349,19 @@ fn try_value(file: &mut [u8], i: usize, v: u8, tally: &mut [u32])
     requires { i < length file.old }
 {
     let old = file[i];
-    if v != old {
-        file[i] = v;
-        count_answer(file, tally);
-        file[i] = old;
+    if v == old {
+        return;
     }
-}
-
-fn try_values(file: &mut [u8], i: usize, tally: &mut [u32])
-    requires { i < length file.old }
-{
-    let mut v: u32 = 0;
-    while v < 256 {
-        try_value(file, i, (v % 256) as u8, tally);
-        v += 1;
-    }
+    file[i] = v;
+    count_answer(file, tally);
+    file[i] = old;
 }
 
 fn try_bytes(file: &mut [u8], tally: &mut [u32]) {
-    let mut i = 0;
-    while i < file.len() {
-        try_values(file, i, tally);
-        i += 1;
+    for i in 0..file.len() {
+        for v in 0..=255 {
+            try_value(file, i, v, tally);
+        }
     }
 }
 
@@ -393,20 +383,6 @@ fn write_into(rt: &impl Print, list: &[u8], out: &mut [u8], k: usize) -> io::Res
     show_write(rt, panel_of(128, 128, PITCH), list, &mut out[0..k])
 }
 
-fn same(a: &[u8], b: &[u8]) -> bool {
-    if a.len() != b.len() {
-        return false;
-    }
-    let mut i = 0;
-    while i < a.len() {
-        if a[i] != b[i] {
-            return false;
-        }
-        i += 1;
-    }
-    true
-}
-
 // A track over the largest panel, there and back, and buffers a byte too short.
 fn largest(rt: &impl Print) -> io::Result<()> {
     text(rt, b"128 by 128\n")?;
@@ -418,7 +394,7 @@ fn largest(rt: &impl Print) -> io::Result<()> {
     let mut back = [85u8; 32768];
     read_into(rt, &out, &mut back, 32767)?;
     read_into(rt, &out, &mut back, 32768)?;
-    if same(&list, &back) {
+    if list == back {
         text(rt, b"the same list\n")
     } else {
         text(rt, b"another list\n")

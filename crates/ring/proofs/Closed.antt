@@ -1,5 +1,6 @@
 -- A corner track from (1, 1) to a neighbour of it in the whole panel is a longest closed track: its count is mn, or mn − 1 if mn is odd, and a closed
 -- track has an even number of cells, at most mn.
+use Rattle.std.specs.Prelude.{Ok}
 use Prim.Native.Nat.{ℕ, ◌+◌, ◌-◌, ◌*◌, ◌/◌, ◌%◌, ◌≤◌}
 use mathlib.Core.Path.{◌≡◌, sym, ap, ◌∙◌, subst}
 use mathlib.Core.Bool.{cond}
@@ -11,15 +12,12 @@ use borrow.Author.Tests.{eq-eqb, ne_eqb}
 use Rattle.grid.specs.declared.Panel.{Panel}
 use Rattle.grid.specs.declared.Cell.{Cell}
 use Rattle.grid.specs.declared.Cells.{Cells}
-use Rattle.grid.specs.declared.Refusal.{Refusal}
-use Rattle.grid.specs.declared.Check.TheVariants as check
-use Rattle.grid.specs.declared.CellsAnswer.TheVariants.{Refused, Given}
 use Rattle.grid.specs.Panel.{cell, area, OnPanel, dist, apart, Neighbours}
 use Rattle.grid.specs.Bytes.{front}
 use Rattle.grid.proofs.Facts.{beside_sym}
 use Rattle.grid.proofs.Track.{widen}
 use Rattle.grid.proofs.Answers.{gives_cells}
-use Rattle.grid.proofs.Tests.{cond_yes, cond_no, answer_good, answer_refused}
+use Rattle.grid.proofs.Tests.{cond_yes, cond_no, answer_good}
 use Rattle.line.specs.Rectangle.{Inside}
 use Rattle.corner.specs.Corner.{track_count, corner_count}
 use Rattle.corner.specs.Cells.{corner_cells}
@@ -49,12 +47,8 @@ even_part a k h = by_eq (a % 2) 1 (λ e. cond_yes _ _ (eq-eqb _ _ e) (omega arit
 ring_sum : (a : ℕ) → 1 ≤ a → a - 1 + (a + 1) % 2 ≡ cond (odd a) (a - 1) a
 ring_sum a h = even_part a _ (omega arith)
 
--- a refusal that leaves the buffer as it was
-pub refused : {p : Panel} {old new : List ℕ} {r : Refusal} → ring_check p (length old) ≡ check.Refused r → new ≡ old → Rings p old new (Refused r)
-refused e same = record { gives = gives_cells _ _ (answer_refused _ _ e); leaves = same }
-
 -- a track of the whole panel to a neighbour t of its first cell
-module _ (p : Panel) (old : List ℕ) (fine : ring_check p (length old) ≡ check.Good) (t : Cell) (o : OnPanel p t) (n : Neighbours t first) where
+module _ (p : Panel) (old : List ℕ) (fine : ring_check p (length old) ≡ Ok tt) (t : Cell) (o : OnPanel p t) (n : Neighbours t first) where
   g : Passed p (length old)
   g = passed p (length old) fine
 
@@ -125,6 +119,8 @@ module _ (p : Panel) (old : List ℕ) (fine : ring_check p (length old) ≡ chec
         written_behind l old s v,
       )
 
-  pub drawn : {k : Cells} {new : List ℕ} → k.0 ≡ ring_count p
-      → new ≡ written (corner_cells first (far p) t) (track_count first (far p) t) old → Rings p old new (Given k)
-  drawn q w = record { gives = gives_cells _ _ (answer_good _ _ fine (λ i. Given (record { 0 = q i }))); leaves = longest q w }
+  pub drawn : {k : Cells} {new : List ℕ} → k.0 ≡ track_count first (far p) t
+      → new ≡ written (corner_cells first (far p) t) (track_count first (far p) t) old → Rings p old new (Ok k)
+  drawn e w =
+      let q = e ∙ count_is in
+      record { gives = gives_cells _ _ (answer_good _ _ fine (λ i. Ok (record { 0 = q i }))); leaves = longest q w }

@@ -6,12 +6,13 @@ ghost use Rattle.std.specs.Prelude.{◌≡◌};
 ghost use Rattle.grid.specs.Panel.{GoodSides};
 ghost use Rattle.ring.specs.Ring.{two_wide, ring_count, ring_check, Rings};
 
-use grid::{Cell, Cells, CellsAnswer, Check, Panel, Refusal};
+use corner::corner_track;
+use grid::{Cell, Cells, Panel, Refusal, area_of, check_panel, ensure};
 
 fn two_wide(p: Panel) -> bool
     ensures { result ≡ two_wide p }
 {
-    if 2 <= p.width { 2 <= p.height } else { false }
+    2 <= p.width && 2 <= p.height
 }
 
 // mn without its odd cell.
@@ -19,41 +20,28 @@ fn ring_count(p: Panel) -> Cells
     requires { GoodSides p }
     ensures { result.0 ≡ ring_count p }
 {
-    Cells((grid::area_of(p) / 2 * 2) as u32)
+    Cells((area_of(p) / 2 * 2) as u32)
 }
 
 // The refusals in order, for a buffer of `size` bytes.
-fn check_ring(p: Panel, size: usize) -> Check
+fn check_ring(p: Panel, size: usize) -> Result<(), Refusal>
     ensures { result ≡ ring_check p size }
 {
-    let c = grid::check_panel(p);
-    if let Check::Refused(r) = c {
-        return Check::Refused(r);
-    }
-    if !two_wide(p) {
-        return Check::Refused(Refusal::OneWide);
-    }
-    let count = ring_count(p);
-    if 2 * (count.0 as usize) <= size {
-        return Check::Good;
-    }
-    Check::Refused(Refusal::ShortBuffer)
+    check_panel(p)?;
+    ensure(two_wide(p), Refusal::OneWide)?;
+    ensure(2 * (ring_count(p).0 as usize) <= size, Refusal::ShortBuffer)
 }
 
 // The call.
-pub fn ring(p: Panel, buf: &mut [u8]) -> CellsAnswer
+pub fn ring(p: Panel, buf: &mut [u8]) -> Result<Cells, Refusal>
     ensures { Rings p buf.old buf.new result }
 {
-    let c = check_ring(p, buf.len());
-    if let Check::Refused(r) = c {
-        return CellsAnswer::Refused(r);
-    }
+    check_ring(p, buf.len())?;
     let first = Cell { x: 1, y: 1 };
     let far = Cell {
         x: p.width,
         y: p.height,
     };
     let last = Cell { x: 2, y: 1 };
-    corner::corner_track(first, far, last, buf);
-    CellsAnswer::Given(ring_count(p))
+    Ok(corner_track(first, far, last, buf))
 }

@@ -5,10 +5,11 @@
 // bytes are 7; else `FAULT`.
 #![tactic(auto)]
 
-use grid::{Cell, Panel, cells_values, panel_of};
+use grid::{Cell, Cells, Order, Panel, Refusal, panel_of};
+use ring::ring;
 use std::io;
 use trial::PITCH;
-use trial::cells::{Order, byte_at, filled, is_closed, is_track};
+use trial::cells::{cell_at, filled, is_closed, is_track};
 use trial::print::{row, text};
 
 // What the buffer is filled with.
@@ -25,40 +26,32 @@ fn closed(buf: &[u8], p: Panel, last: Cell, k: u32) -> bool {
         entry: first,
         exit: last,
     };
-    if !is_track(buf, o, first, k) {
-        return false;
-    }
-    if !is_closed(buf, k) {
-        return false;
-    }
-    filled(buf, 2 * (k as usize), FILL)
+    is_track(buf, o, first, k) && is_closed(buf, k) && filled(buf, 2 * (k as usize), FILL)
 }
 
 fn word(rt: &impl Print, right: bool, name: &[u8]) -> io::Result<()> {
-    if right {
-        text(rt, name)
-    } else {
-        text(rt, b"FAULT\n")
-    }
+    text(rt, if right { name } else { b"FAULT\n" })
 }
 
-fn report(rt: &impl Print, buf: &[u8], p: Panel, number: u32, count: u32) -> io::Result<()> {
-    let behind = 2 * (count as usize);
-    if behind < 2 {
-        row(rt, &[number, count], b" ")?;
-        return word(rt, filled(buf, 0, FILL), b"untouched\n");
+fn report(rt: &impl Print, buf: &[u8], p: Panel, a: Result<Cells, Refusal>) -> io::Result<()> {
+    match a {
+        Err(r) => {
+            row(rt, &[u32::from(r), 0], b" ")?;
+            word(rt, filled(buf, 0, FILL), b"untouched\n")
+        }
+        Ok(Cells(count)) => {
+            let last = cell_at(buf, count.saturating_sub(1));
+            row(rt, &[0, count, last.x, last.y], b" ")?;
+            word(rt, closed(buf, p, last, count), b"closed\n")
+        }
     }
-    let x = byte_at(buf, behind - 2);
-    let y = byte_at(buf, behind - 1);
-    row(rt, &[number, count, x, y], b" ")?;
-    word(rt, closed(buf, p, Cell { x, y }, count), b"closed\n")
 }
 
 // Ring in the first `size` bytes of a buffer that is filled.
 fn answer_in(rt: &impl Print, p: Panel, size: usize, buf: &mut [u8]) -> io::Result<()> {
     if size <= buf.len() {
-        let v = cells_values(ring::ring(p, &mut buf[0..size]));
-        report(rt, buf, p, v.refusal, v.cells.0)?;
+        let a = ring(p, &mut buf[..size]);
+        report(rt, buf, p, a)?;
     }
     Ok(())
 }

@@ -12,58 +12,44 @@ fn two_lines(text: &[u8]) -> usize
     ensures { result ≤ length text.now }
 {
     let mut seen = false;
-    let mut i = 0;
-    while i < text.len() {
-        if text[i] == b'\n' {
+    for (i, &byte) in text.iter().enumerate() {
+        if byte == b'\n' {
             if seen {
                 return i + 1;
             }
             seen = true;
         }
-        i += 1;
     }
     text.len()
 }
 
-fn wide(b: u8) -> u64 {
-    b as u64
-}
-
 fn sum_of(text: &[u8]) -> u64 {
-    let mut sum = 0;
-    for i in 0..text.len() {
-        sum = std::num::wrapping_add_u64(sum, wide(text[i]));
-    }
-    sum
+    text.iter()
+        .fold(0, |sum: u64, &byte| sum.wrapping_add(u64::from(byte)))
 }
 
-// A text in full, or its first two lines, its length and the sum of its bytes.
-fn print(rt: &impl Print, form: &[u8], text: &[u8], full: bool) -> io::Result<()> {
+// The form of an input.
+fn name(rt: &impl Print, form: &[u8]) -> io::Result<()> {
     rt.write_all(form)?;
-    rt.write_all(b":\n")?;
-    if full {
-        return rt.write_all(text);
-    }
-    let end = two_lines(text);
-    rt.write_all(&text[..end])?;
-    let bytes = text.len();
-    let sum = sum_of(text);
-    println!(rt; "bytes {bytes}, sum {sum}")
+    rt.write_all(b":\n")
 }
 
-// The form of an input, and its answer.
-fn answer(rt: &impl Print, form: &[u8], input: &[u8], full: bool) -> io::Result<()> {
-    let mut text = [0u8; 16512];
-    let k = order::answer(input, &mut text);
-    print(rt, form, &text[..k], full)
-}
-
+// An answer in full.
 fn show(rt: &impl Print, form: &[u8], input: &[u8]) -> io::Result<()> {
-    answer(rt, form, input, true)
+    let mut text = [0u8; 16512];
+    let bytes = order::answer(input, &mut text);
+    name(rt, form)?;
+    rt.write_all(&text[..bytes])
 }
 
+// An answer's first two lines, its length and the sum of its bytes.
 fn show_large(rt: &impl Print, form: &[u8], input: &[u8]) -> io::Result<()> {
-    answer(rt, form, input, false)
+    let mut text = [0u8; 16512];
+    let bytes = order::answer(input, &mut text);
+    name(rt, form)?;
+    rt.write_all(&text[..two_lines(&text[..bytes])])?;
+    let sum = sum_of(&text[..bytes]);
+    println!(rt; "bytes {bytes}, sum {sum}")
 }
 
 fn orders(rt: &impl Print) -> io::Result<()> {

@@ -21,11 +21,7 @@ pub fn clear_front(places: usize, scratch: &mut [u8])
     requires { places ≤ length scratch.old }
     ensures { scratch.new ≡ zeros_for places scratch.old }
 {
-    let mut at = 0;
-    while at < places {
-        scratch[at] = 0;
-        at += 1;
-    }
+    scratch[..places].fill(0);
 }
 
 // Writes 0 at every place of the panel.

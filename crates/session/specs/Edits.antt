@@ -1,11 +1,12 @@
 -- Document 02, R-12, "Editing a drawing": what the call answers and what it leaves in session, list and scratch, for every input.
+use Rattle.std.specs.Prelude.{Result, Ok}
+use Rattle.grid.specs.declared.Cells.{Cells}
 use Rattle.std.specs.Prelude.{ℕ, ◌*◌, ◌≡◌, List, leb, length}
 use Rattle.grid.specs.declared.Panel.{Panel}
 use Rattle.grid.specs.declared.Cell.{Cell}
+use Rattle.grid.specs.declared.Refusal.{Refusal}
 use Rattle.grid.specs.declared.Refusal.TheVariants.{ShortBuffer, NoSuchEdit, NothingRecorded}
-use Rattle.grid.specs.declared.Check.{Check}
-use Rattle.grid.specs.declared.Check.TheVariants.{Good}
-use Rattle.grid.specs.declared.CellsAnswer.{CellsAnswer}
+use Rattle.grid.specs.Check.{Check}
 use Rattle.grid.specs.Check.{expect, after, answer}
 use Rattle.grid.specs.Answer.{GivesCells}
 use Rattle.grid.specs.Bytes.{cells_in}
@@ -26,7 +27,7 @@ edit_of c s buffer = meant c s (session_cells s buffer)
 
 -- 22, the edit of a list cannot be made; 5, the buffer is too short for the longer list
 abbrev pub edit_test : Panel → Edit → List Cell → ℕ → Check
-edit_test p e l bytes = expect (can_edit p e l) NoSuchEdit (expect (leb (2 * length (edited e l)) bytes) ShortBuffer Good)
+edit_test p e l bytes = expect (can_edit p e l) NoSuchEdit (expect (leb (2 * length (edited e l)) bytes) ShortBuffer (Ok tt))
 
 -- Judge's refusals of the session's list, whose 6 is also given where the buffer holds fewer cells or over 32 edits are claimed; 23, nothing to
 -- take back; 22; 5
@@ -46,13 +47,13 @@ buffer_after k e l buffer = answer k (λ r. buffer) (with_zeros (edited e l) (le
 
 -- what an edit of a list leaves behind a check: the new count or the refusal, session and buffer, which were s and buffer
 pub record EditLeaves (k : Check) (c : Command) (e : Edit) (l : List Cell) (s : Session) (buffer : List ℕ) (s' : Session) (buffer' : List ℕ)
-    (r : CellsAnswer) : Type 0 where
+    (r : Result Cells Refusal) : Type 0 where
   pub gives : GivesCells k (length (edited e l)) r
   pub session : s' ≡ session_after k c e l s
   pub list : buffer' ≡ buffer_after k e l buffer
 
 -- the promise of the call: answer, session and buffer, and scratch, which was old and is new
 pub record Edits (p : Panel) (a z : Cell) (c : Command) (s : Session) (buffer old : List ℕ) (s' : Session) (buffer' new : List ℕ)
-    (r : CellsAnswer) : Type 0 where
+    (r : Result Cells Refusal) : Type 0 where
   pub leaves : EditLeaves (edit_check p a z c s buffer (length old)) c (edit_of c s buffer) (session_cells s buffer) s buffer s' buffer' r
   pub scratch : new ≡ scratch_after p a z (list_of s buffer) old

@@ -1,7 +1,9 @@
 -- Document 02, R-12: the edit session, which is an undo history: the cell count of a drawing and its last edits, oldest first.
-use Rattle.std.specs.Prelude.{ℕ, ◌+◌, ◌-◌, ◌*◌, Bool, true, false, cond, ◌&&◌, List, [], ◌∷◌, ◌++◌, leb, length, take, drop, get_or, set, replicate}
+use Rattle.std.specs.Prelude.{ℕ, ◌+◌, ◌-◌, ◌*◌, Bool, true, cond, ◌&&◌, List, [], ◌∷◌, ◌++◌, leb, length, take, drop, get_or, set, replicate}
 use Rattle.grid.specs.declared.Cells.{Cells}
 use Rattle.grid.specs.declared.Cell.{Cell}
+use Rattle.detour.specs.declared.Kind.TheVariants as kind
+use Rattle.detour.specs.declared.Side.TheVariants.{Right}
 use Rattle.detour.specs.declared.Edit.{Edit}
 use Rattle.detour.specs.Detour.{bulge_at, press_at, opposite}
 use Rattle.session.specs.declared.Session.{Session}
@@ -14,7 +16,7 @@ kept_edits = 32
 
 -- no edit
 abbrev pub no_edit : Edit
-no_edit = record { place = 0; bulge = false; left = false }
+no_edit = record { place = 0; kind = kind.Press; side = Right }
 
 -- a new session has a given count and no edits
 abbrev pub new_session : Cells → Session
@@ -34,13 +36,13 @@ newest s = get_or s.edits (s.recorded - 1) no_edit
 
 -- what the command takes back, if it does, is recorded
 abbrev pub ready : Command → Session → Bool
-ready (Bulge k left) s = true
+ready (Bulge k side) s = true
 ready (Press k) s = true
 ready TakeBack s = leb 1 s.recorded
 
 -- the edit that a command makes of a list; taking back makes the opposite of the newest
 abbrev pub meant : Command → Session → List Cell → Edit
-meant (Bulge k left) s l = bulge_at k left
+meant (Bulge k side) s l = bulge_at k side
 meant (Press k) s l = press_at k l
 meant TakeBack s l = opposite (newest s)
 
@@ -56,6 +58,6 @@ off_record n s = record { count = record { 0 = n }; recorded = s.recorded - 1; e
 
 -- the session after a command whose edit is made: an edit is recorded, taking back is not
 abbrev pub changed : Command → Edit → ℕ → Session → Session
-changed (Bulge k left) e n s = on_record e n s
+changed (Bulge k side) e n s = on_record e n s
 changed (Press k) e n s = on_record e n s
 changed TakeBack e n s = off_record n s

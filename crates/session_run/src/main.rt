@@ -15,17 +15,11 @@ mod plain;
 
 use crate::desk::try_lines;
 use std::io;
-use trial::print::text;
 
 // Every fault at once, and one fewer with each call; then lists with fewer faults: a bulge, a press, a taking
 // back. At the end 23 before 22, and before an edit behind the record that could be taken back.
-fn order_of_refusals(rt: &impl Print) -> io::Result<()> {
-    text(rt, b"refusals, 4 by 3:\n")?;
-    try_lines(
-        rt,
-        4,
-        3,
-        b"12 22 12 32 02 x3 y3 hk pm i0 x0 rh s0 na L0 h3 L0 pn L0 i1 L0 x3 L0 r0 L0 sc L0
+const REFUSALS: &[u8] =
+    b"12 22 12 32 02 x3 y3 hk pm i0 x0 rh s0 na L0 h3 L0 pn L0 i1 L0 x3 L0 r0 L0 sc L0
 12 22 12 32 y3 n8 L0
 12 22 12 y3 n6 L0
 12 22 32 y3 n6 L0 y2 L0 L1 na L1
@@ -40,20 +34,12 @@ fn order_of_refusals(rt: &impl Print) -> io::Result<()> {
 12 22 32 y3 n6 T0 y2 T0 D0 T0 D1 T0 na T0
 12 22 32 D0 r0 n6 T0
 12 22 32 D1 r0 T0
-",
-    )
-}
+";
 
 // Sides of 0, 1, 128, 129 and the largest; pitches. Ends beside each edge and far off, and other ends. Counts of
 // 0, of other than the list's cells, of more than the buffer holds; the edits claimed. The scratch. Lists with a
 // cell off the panel, with a step that is none, with a cell twice.
-fn borders(rt: &impl Print) -> io::Result<()> {
-    text(rt, b"borders, 4 by 3:\n")?;
-    try_lines(
-        rt,
-        4,
-        3,
-        b"12 22 32 w0 L1 P1 T0
+const BORDERS: &[u8] = b"12 22 32 w0 L1 P1 T0
 12 22 32 h0 L1 P1 T0
 12 22 32 wk L1
 12 22 32 hk L1
@@ -97,21 +83,13 @@ fn borders(rt: &impl Print) -> io::Result<()> {
 12 22 12 L1 P1 T0
 12 11 21 22 12 L1
 12 22 32 31 21 22 23 L1
-",
-    )
-}
+";
 
 // Bulges of steps to the right, to the left, down and up, then in the middle and at the end of a track; the same
 // of presses, with the sides left and right, and presses behind each other. No detour: three cells in a line,
 // corners, a U that is too wide or open at the end. Detours off each of the four edges, both ways; then on the
 // track: the first cell of the two, the second, both. Places of 0, the last cell's, past the end, far past it.
-fn edits(rt: &impl Print) -> io::Result<()> {
-    text(rt, b"edits, 4 by 4:\n")?;
-    try_lines(
-        rt,
-        4,
-        4,
-        b"22 32 L1 T0 T0
+const EDITS: &[u8] = b"22 32 L1 T0 T0
 22 32 R1 T0
 32 22 L1 T0
 32 22 R1 T0
@@ -160,21 +138,14 @@ fn edits(rt: &impl Print) -> io::Result<()> {
 12 22 32 42 w4 h2 L0 L4 L5 Lq Lr R0 R4 Rq Rr L3
 12 11 21 22 32 w4 h2 P0 P2 P3 P4 P5 P6 Pq Pr P1
 12 22 32 31 41 42 w4 h2 P0 P2 P4 P6 P7 Pq Pr P3
-",
-    )
-}
+";
 
 // More edits than are kept, each taken back, and one taking back more. Then sessions changed by hand: edits on
 // record at places that are not there; of detours that are not there, or on the other side; of cells that are
 // taken or off the panel; with a buffer too short; behind those that count. A panel, a count and a buffer changed
 // before an edit is taken back. The last place of the record.
-fn sessions(rt: &impl Print) -> io::Result<()> {
-    text(rt, b"sessions, 4 by 3:\n")?;
-    try_lines(
-        rt,
-        4,
-        3,
-        b"12 22 32 42 L1 R5 P1 P3 L1 L5 R4 P4 P5 L5 R4 P7 L7 P1 P2 P3 L2 R1 R7 P1 P5 P2 L3 R2 P5 P2 R3 R1 L4 P7 P4 R5 L4 \
+const SESSIONS: &[u8] =
+    b"12 22 32 42 L1 R5 P1 P3 L1 L5 R4 P4 P5 L5 R4 P7 L7 P1 P2 P3 L2 R1 R7 P1 P5 P2 L3 R2 P5 P2 R3 R1 L4 P7 P4 R5 L4 \
 T0 T0 T0 T0 T0 T0 T0 T0 T0 T0 T0 T0 T0 T0 T0 T0 T0 T0 T0 T0 T0 T0 T0 T0 T0 T0 T0 T0 T0 T0 T0 T0 T0
 12 22 32 42 B0 T0
 12 22 32 42 B4 T0
@@ -202,14 +173,12 @@ T0 T0 T0 T0 T0 T0 T0 T0 T0 T0 T0 T0 T0 T0 T0 T0 T0 T0 T0 T0 T0 T0 T0 T0 T0 T0 T0
 12 22 32 L1 R4 n9 T0 nd T0 ne T0 T0
 12 22 32 rf Br T0
 12 22 32 rf D1 T0
-",
-    )
-}
+";
 
 fn main(rt: HostRuntime) -> io::Result<()> {
-    order_of_refusals(&rt)?;
-    borders(&rt)?;
-    edits(&rt)?;
-    sessions(&rt)?;
+    try_lines(&rt, b"refusals, 4 by 3:\n", 4, 3, REFUSALS)?;
+    try_lines(&rt, b"borders, 4 by 3:\n", 4, 3, BORDERS)?;
+    try_lines(&rt, b"edits, 4 by 4:\n", 4, 4, EDITS)?;
+    try_lines(&rt, b"sessions, 4 by 3:\n", 4, 3, SESSIONS)?;
     made_up::run(&rt)
 }

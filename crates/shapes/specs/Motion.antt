@@ -2,8 +2,8 @@
 use Rattle.std.specs.Prelude.{◌-◌}
 use Rattle.grid.specs.declared.Cell.{Cell}
 use Rattle.grid.specs.Panel.{turned_cell}
-use Rattle.shapes.specs.declared.Motion.{Motion}
-use Rattle.shapes.specs.declared.Motion.TheVariants.{Turn, MirrorX, MirrorY}
+use Rattle.shapes.specs.declared.motions.Motion.{Motion}
+use Rattle.shapes.specs.declared.motions.Motion.TheVariants.{Turn, MirrorX, MirrorY}
 
 -- a cell moved
 abbrev pub moved_cell : Motion → Cell → Cell

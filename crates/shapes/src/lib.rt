@@ -1,31 +1,40 @@
 // The plans as code: each function gives the plan of its name in the crate plan (specs/Plan.antt).
 #![tactic(auto)]
 
-ghost use Rattle.std.specs.Prelude.{◌≡◌, ◌-◌, ◌≤◌};
-ghost use Rattle.plan.specs.declared.Plan.TheVariants.{One};
-ghost use Rattle.plan.specs.Leg.{cell, forth};
+ghost use Rattle.std.specs.Prelude.{◌≡◌, ◌≤◌};
+ghost use Rattle.plan.specs.Leg.{cell, forth, back};
 ghost use Rattle.plan.specs.Plan.{split, bridge, wrap, round, zigzag, middle};
 ghost use Rattle.plan.specs.Small.{SmallOrder};
 
-use crate::motions::less;
+use crate::motions::reverse_leg;
 use grid::Cell;
 use plan::{Leg, Plan};
 
 pub mod motions;
 
-// How a plan is moved: turned, or mirrored so that x, or y, becomes the number less it.
-#[derive(Clone, Copy)]
-pub enum Motion {
-    Turn,
-    MirrorX(u32),
-    MirrorY(u32),
+fn cell(x: u32, y: u32) -> Cell
+    ensures { result ≡ cell x y }
+{
+    Cell { x, y }
 }
 
-// A corner track by itself.
-pub fn alone(a: Cell, b: Cell, t: Cell, back: bool) -> Plan
-    ensures { result ≡ One (record { a = a; b = b; t = t; back = back }) }
+// The leg from the corner a to the cell t, b being the opposite corner.
+pub fn forth(a: Cell, b: Cell, t: Cell) -> Leg
+    ensures { result ≡ forth a b t }
 {
-    Plan::One(Leg { a, b, t, back })
+    Leg {
+        a,
+        b,
+        t,
+        back: false,
+    }
+}
+
+// The same leg, walked from t to a.
+pub fn back(a: Cell, b: Cell, t: Cell) -> Leg
+    ensures { result ≡ back a b t }
+{
+    reverse_leg(forth(a, b, t))
 }
 
 // Two blocks, columns 1 to c and c + 1 to m, joined in row j, which is 1 or n.
@@ -35,20 +44,10 @@ pub fn split(m: u32, n: u32, s: Cell, t: Cell, c: u32, j: u32) -> Plan
     requires c_bound { c ≤ 130 }
     ensures { result ≡ split m n s t c j }
 {
-    let far = less(n + 1, j);
+    let far = (n + 1).saturating_sub(j);
     Plan::Two(
-        Leg {
-            a: Cell { x: c, y: j },
-            b: Cell { x: 1, y: far },
-            t: s,
-            back: true,
-        },
-        Leg {
-            a: Cell { x: c + 1, y: j },
-            b: Cell { x: m, y: far },
-            t,
-            back: false,
-        },
+        back(cell(c, j), cell(1, far), s),
+        forth(cell(c + 1, j), cell(m, far), t),
     )
 }
 
@@ -59,24 +58,9 @@ pub fn bridge(m: u32, n: u32, s: Cell, t: Cell, c: u32) -> Plan
     ensures { result ≡ bridge m n s t c }
 {
     Plan::Three(
-        Leg {
-            a: Cell { x: 1, y: 3 },
-            b: Cell { x: c, y: n },
-            t: s,
-            back: true,
-        },
-        Leg {
-            a: Cell { x: 1, y: 2 },
-            b: Cell { x: m, y: 1 },
-            t: Cell { x: m, y: 2 },
-            back: false,
-        },
-        Leg {
-            a: Cell { x: m, y: 3 },
-            b: Cell { x: c + 1, y: n },
-            t,
-            back: false,
-        },
+        back(cell(1, 3), cell(c, n), s),
+        forth(cell(1, 2), cell(m, 1), cell(m, 2)),
+        forth(cell(m, 3), cell(c + 1, n), t),
     )
 }
 
@@ -86,40 +70,13 @@ pub fn wrap(m: u32, n: u32, s: Cell, t: Cell) -> Plan
     requires { SmallOrder m n s t }
     ensures { result ≡ wrap m n s t }
 {
-    let x = s.x;
-    let y = s.y;
-    let up = less(y, 1);
+    let up = s.y.saturating_sub(1);
     Plan::Five(
-        Leg {
-            a: s,
-            b: Cell { x: 1, y: 1 },
-            t: Cell { x, y: 1 },
-            back: false,
-        },
-        Leg {
-            a: Cell { x: x + 1, y: 1 },
-            b: Cell { x: m, y: up },
-            t: Cell { x: m, y: up },
-            back: false,
-        },
-        Leg {
-            a: Cell { x: m, y },
-            b: Cell { x: x + 2, y: n },
-            t: Cell { x: x + 2, y: y + 2 },
-            back: false,
-        },
-        Leg {
-            a: Cell { x: x + 1, y: y + 1 },
-            b: Cell { x: 1, y: n },
-            t: Cell { x: x + 1, y: y + 2 },
-            back: true,
-        },
-        Leg {
-            a: t,
-            b: t,
-            t,
-            back: false,
-        },
+        forth(s, cell(1, 1), cell(s.x, 1)),
+        forth(cell(s.x + 1, 1), cell(m, up), cell(m, up)),
+        forth(cell(m, s.y), cell(s.x + 2, n), cell(s.x + 2, s.y + 2)),
+        back(cell(s.x + 1, s.y + 1), cell(1, n), cell(s.x + 1, s.y + 2)),
+        forth(t, t, t),
     )
 }
 
@@ -129,37 +86,9 @@ pub fn round(x: u32, far: u32, r: u32, q: u32) -> Leg
     ensures { result ≡ round x far r q }
 {
     if r == 2 {
-        return columns(x, far, q, r, true);
+        return back(cell(x, q), cell(far, 4_u32.saturating_sub(q)), cell(x, r));
     }
-    columns(x, far, r, q, false)
-}
-
-// The leg in the columns from x to far, its corner in row r and its target in row q of column x.
-fn columns(x: u32, far: u32, r: u32, q: u32, back: bool) -> Leg
-    ensures { result ≡ record { a = cell x r; b = cell far (4 - r); t = cell x q; back = back } }
-{
-    let opposite = less(4, r);
-    Leg {
-        a: Cell { x, y: r },
-        b: Cell {
-            x: far,
-            y: opposite,
-        },
-        t: Cell { x, y: q },
-        back,
-    }
-}
-
-// A line of a row, from column x to column far.
-fn row(x: u32, far: u32, y: u32) -> Leg
-    ensures { result ≡ forth (cell x y) (cell far y) (cell far y) }
-{
-    Leg {
-        a: Cell { x, y },
-        b: Cell { x: far, y },
-        t: Cell { x: far, y },
-        back: false,
-    }
+    forth(cell(x, r), cell(far, 4_u32.saturating_sub(r)), cell(x, q))
 }
 
 // Three rows, all different: along s's row, around on the right, back in the row r, around on the
@@ -169,12 +98,14 @@ pub fn zigzag(m: u32, s: Cell, t: Cell, r: u32) -> Plan
     requires { SmallOrder m 3 s t }
     ensures { result ≡ zigzag m s t r }
 {
+    let below_t = cell(t.x, s.y);
+    let below_s = cell(s.x, r);
     Plan::Five(
-        row(s.x, t.x, s.y),
+        forth(s, below_t, below_t),
         round(t.x + 1, m, s.y, r),
-        row(t.x, s.x, r),
-        round(less(s.x, 1), 1, r, t.y),
-        row(s.x, t.x, t.y),
+        forth(cell(t.x, r), below_s, below_s),
+        round(s.x.saturating_sub(1), 1, r, t.y),
+        forth(cell(s.x, t.y), t, t),
     )
 }
 
@@ -184,23 +115,7 @@ pub fn middle(m: u32, s: Cell, t: Cell) -> Plan
     ensures { result ≡ middle m s t }
 {
     Plan::Two(
-        Leg {
-            a: s,
-            b: Cell {
-                x: 1,
-                y: less(4, s.y),
-            },
-            t: Cell { x: s.x, y: 2 },
-            back: false,
-        },
-        Leg {
-            a: t,
-            b: Cell {
-                x: m,
-                y: less(4, t.y),
-            },
-            t: Cell { x: t.x, y: 2 },
-            back: true,
-        },
+        forth(s, cell(1, 4_u32.saturating_sub(s.y)), cell(s.x, 2)),
+        back(t, cell(m, 4_u32.saturating_sub(t.y)), cell(t.x, 2)),
     )
 }

@@ -5,29 +5,35 @@
 // cell, how often none, and how often it answered otherwise.
 #![tactic(auto)]
 
-use bound::bound_values;
-use exit::ExitAnswer;
-use grid::{Cell, Cells, Panel, cells_values, number_of, panel_of};
+ghost use Rattle.std.specs.Prelude.{◌<◌};
+
+use bound::BoundValues;
+use grid::{Cell, Cells, Order, Panel, Refusal, panel_of};
 use std::io;
 use trial::PITCH;
-use trial::cells::{Order, Tally, is_track, same, tallied};
-use trial::print::{named, tally, text};
+use trial::cells::is_track;
 
-// Pairs and cells for each class, and the wrong pairs; and how Exit answered.
+// How many places the cells of a panel up to 5 by 5 have.
+const PLACES: usize = 36;
+
+// How many of such a panel's cells a track may have.
+const MOST: u32 = 25;
+
+// Pairs and cells of a class.
+#[derive(Clone, Copy, Debug, Default, PartialEq, Eq)]
+struct Class {
+    pairs: u32,
+    cells: u32,
+}
+
+// Each class by its number, and the wrong pairs; and how Exit answered.
 #[derive(Clone, Copy)]
 struct Totals {
-    pairs: [u32; 7],
-    cells: [u32; 7],
+    classes: [Class; 7],
     wrong: u32,
-    exits: Tally,
-}
-
-fn add(a: u32, b: u32) -> u32 {
-    std::num::wrapping_add_u32(a, b)
-}
-
-fn less(a: u32, b: u32) -> u32 {
-    std::num::wrapping_sub_u32(a, b)
+    given: u32,
+    none: u32,
+    exits_wrong: u32,
 }
 
 // The cells from (1, 1) on, in rows of five.
@@ -43,247 +49,179 @@ fn on(p: Panel, c: Cell) -> bool {
 }
 
 // A number of its own for each cell of a panel up to 5 by 5.
-fn place(c: Cell) -> u32 {
-    c.y % 6 * 6 + c.x % 6
-}
-
-// A set of cells: a bit for each place.
-fn has(set: u64, c: Cell) -> bool {
-    set >> place(c) % 64 & 1 == 1
-}
-
-fn with(set: u64, c: Cell) -> u64 {
-    set | 1 << place(c) % 64
+fn place(c: Cell) -> usize
+    ensures { result < 36 }
+{
+    (c.y % 6 * 6 + c.x % 6) as usize
 }
 
 // ---- the search
 
-fn note(best: &mut [u32], c: Cell, cells: u32) {
-    let at = place(c) as usize;
-    if at < best.len() {
-        if best[at] < cells {
-            best[at] = cells;
+// The search from an entry: the cells that the track so far has, and the most cells of a track to each cell.
+#[derive(Clone, Copy)]
+struct Search {
+    panel: Panel,
+    passed: [bool; PLACES],
+    best: [u32; PLACES],
+}
+
+// The cells in the four directions.
+fn around(c: Cell) -> [Cell; 4] {
+    let Cell { x, y } = c;
+    [
+        Cell {
+            x: x.wrapping_add(1),
+            y,
+        },
+        Cell {
+            x,
+            y: y.wrapping_add(1),
+        },
+        Cell {
+            x: x.wrapping_sub(1),
+            y,
+        },
+        Cell {
+            x,
+            y: y.wrapping_sub(1),
+        },
+    ]
+}
+
+impl Search {
+    // Goes on to c, the last of `cells` cells, and from there in each direction. No track has more than are
+    // `left`.
+    fn visit(&mut self, c: Cell, cells: u32, left: u32) {
+        let at = place(c);
+        if left == 0 || !on(self.panel, c) || self.passed[at] {
+            return;
         }
+        self.best[at] = self.best[at].max(cells);
+        self.passed[at] = true;
+        for next in around(c) {
+            self.visit(next, cells.wrapping_add(1), left - 1);
+        }
+        self.passed[at] = false;
+    }
+
+    // The most cells of a track to c.
+    fn most(&self, c: Cell) -> u32 {
+        self.best[place(c)]
     }
 }
 
-// Whether a track through the cells of `set` may go on to c.
-fn free(p: Panel, c: Cell, set: u64) -> bool {
-    if on(p, c) {
-        return !has(set, c);
-    }
-    false
-}
-
-// The neighbour of c in one of four directions.
-fn neighbour(c: Cell, direction: u32) -> Cell {
-    match direction {
-        0 => Cell {
-            x: add(c.x, 1),
-            y: c.y,
-        },
-        1 => Cell {
-            x: c.x,
-            y: add(c.y, 1),
-        },
-        2 => Cell {
-            x: less(c.x, 1),
-            y: c.y,
-        },
-        _ => Cell {
-            x: c.x,
-            y: less(c.y, 1),
-        },
-    }
-}
-
-// Goes on to c, the last of `cells` cells, where the others are in `set`, and from there in each
-// direction. `best` keeps the most cells of a track to each cell. No track has more than are `left`.
-fn visit(p: Panel, c: Cell, set: u64, cells: u32, left: u32, best: &mut [u32]) {
-    if left == 0 {
-        return;
-    }
-    if !free(p, c, set) {
-        return;
-    }
-    note(best, c, cells);
-    for i in 0..4 {
-        visit(
-            p,
-            neighbour(c, i),
-            with(set, c),
-            add(cells, 1),
-            left - 1,
-            best,
-        );
-    }
+fn searched(panel: Panel, entry: Cell) -> Search {
+    let mut search = Search {
+        panel,
+        passed: [false; PLACES],
+        best: [0; PLACES],
+    };
+    search.visit(entry, 1, MOST);
+    search
 }
 
 // ---- the comparison
 
 // Whether Bound's count and Draw's are the search's, and the cells drawn are a track.
-fn right(o: Order, count: u32, best: &[u32]) -> bool {
-    let at = place(o.exit) as usize;
-    if best.len() <= at {
-        return false;
-    }
-    if best[at] != count {
-        return false;
-    }
+fn right(o: Order, count: Cells, search: &Search) -> bool {
     let mut buf = [0u8; 50];
-    let a = cells_values(draw::draw(o.panel, o.entry, o.exit, &mut buf));
-    if a.cells.0 != count {
-        return false;
-    }
-    is_track(&buf, o, nth(0), count)
+    search.most(o.exit) == count.0
+        && draw::draw(o, &mut buf) == Ok(count)
+        && is_track(&buf, o, nth(0), count.0)
 }
 
-fn add_pair(t: Totals, o: Order, best: &[u32]) -> Totals {
-    let b = bound_values(bound::bound(o.panel, o.entry, o.exit));
-    let count = b.count.0;
+fn add_pair(t: &mut Totals, o: Order, search: &Search) {
+    let b = BoundValues::from(bound::bound(o));
     let at = (b.class % 7) as usize;
-    let mut next = t;
-    let pairs = next.pairs[at];
-    let cells = next.cells[at];
-    next.pairs[at] = add(pairs, 1);
-    next.cells[at] = add(cells, count);
-    if !right(o, count, best) {
-        next.wrong = add(t.wrong, 1);
+    let class = t.classes[at];
+    t.classes[at] = Class {
+        pairs: class.pairs.wrapping_add(1),
+        cells: class.cells.wrapping_add(b.count.0),
+    };
+    if !right(o, b.count, search) {
+        t.wrong = t.wrong.wrapping_add(1);
     }
-    next
 }
 
 // ---- exits
 
-// Whether the search found a track of so many cells to c.
-fn reaches(best: &[u32], c: Cell, wanted: u32) -> bool {
-    let at = place(c) as usize;
-    if at < best.len() {
-        return wanted <= best[at];
-    }
-    false
-}
-
-// Whether c is another cell of the panel than the entry, and such a track leads to it.
-fn is_exit(p: Panel, entry: Cell, wanted: u32, best: &[u32], c: Cell) -> bool {
-    if !on(p, c) {
-        return false;
-    }
-    if same(entry, c) {
-        return false;
-    }
-    reaches(best, c, wanted)
-}
-
-// The first exit, rows from the top and each from the left, or (0, 0).
-fn scan(p: Panel, entry: Cell, wanted: u32, best: &[u32]) -> Cell {
+// The first exit, rows from the top and each from the left: another cell of the panel than the entry, to which
+// the search found a track of so many cells.
+fn scan(search: &Search, entry: Cell, wanted: u32) -> Option<Cell> {
     for code in 0..25 {
         let c = nth(code);
-        if is_exit(p, entry, wanted, best, c) {
-            return c;
+        if on(search.panel, c) && c != entry && wanted <= search.most(c) {
+            return Some(c);
         }
     }
-    Cell { x: 0, y: 0 }
+    None
 }
 
-// The cell that Exit gives, (0, 0) for 12, and a cell of no panel for another refusal.
-fn ask(p: Panel, entry: Cell, wanted: u32) -> Cell {
-    match exit::find_exit(p, entry, Cells(wanted)) {
-        ExitAnswer::Given(c) => c,
-        ExitAnswer::Refused(r) => {
-            if number_of(r) == 12 {
-                return Cell { x: 0, y: 0 };
-            }
-            Cell { x: 99, y: 99 }
-        }
+fn add_wanted(t: &mut Totals, search: &Search, entry: Cell, wanted: u32) {
+    let expected = scan(search, entry, wanted).ok_or(Refusal::NoExit);
+    let got = exit::find_exit(search.panel, entry, Cells(wanted));
+    if expected.is_ok() {
+        t.given = t.given.wrapping_add(1);
+    } else {
+        t.none = t.none.wrapping_add(1);
     }
-}
-
-fn add_wanted(t: Totals, panel: Panel, entry: Cell, wanted: u32, best: &[u32]) -> Totals {
-    let mut next = t;
-    next.exits = tallied(
-        t.exits,
-        scan(panel, entry, wanted, best),
-        ask(panel, entry, wanted),
-    );
-    next
-}
-
-// Each wanted count of an entry, up to two more than the largest of these panels has cells.
-fn add_every_wanted(t: Totals, panel: Panel, entry: Cell, best: &[u32]) -> Totals {
-    let mut next = t;
-    for wanted in 0..28 {
-        next = add_wanted(next, panel, entry, wanted, best);
+    if got != expected {
+        t.exits_wrong = t.exits_wrong.wrapping_add(1);
     }
-    next
 }
 
 // ---- the panels
 
-// Each exit and each wanted count of an entry.
-fn add_exits(t: Totals, panel: Panel, entry: Cell) -> Totals {
-    let mut best = [0u32; 36];
-    visit(panel, entry, 0, 1, 25, &mut best);
-    let mut next = t;
+// Each exit and each wanted count of an entry, up to two more than the largest of these panels has cells.
+fn add_entry(t: &mut Totals, panel: Panel, entry: Cell) {
+    let search = searched(panel, entry);
     for code in 0..25 {
         let exit = nth(code);
         if on(panel, exit) {
-            next = add_pair(next, Order { panel, entry, exit }, &best);
+            add_pair(t, Order { panel, entry, exit }, &search);
         }
     }
-    add_every_wanted(next, panel, entry, &best)
+    for wanted in 0..28 {
+        add_wanted(t, &search, entry, wanted);
+    }
 }
 
 // Each entry of a panel.
-fn add_entries(t: Totals, panel: Panel) -> Totals {
-    let mut next = t;
+fn add_panel(t: &mut Totals, panel: Panel) {
     for code in 0..25 {
         let entry = nth(code);
         if on(panel, entry) {
-            next = add_exits(next, panel, entry);
+            add_entry(t, panel, entry);
         }
     }
-    next
 }
 
 fn all_panels() -> Totals {
     let mut t = Totals {
-        pairs: [0; 7],
-        cells: [0; 7],
+        classes: [Class::default(); 7],
         wrong: 0,
-        exits: Tally {
-            given: 0,
-            none: 0,
-            wrong: 0,
-        },
+        given: 0,
+        none: 0,
+        exits_wrong: 0,
     };
     for code in 0..25 {
         let far = nth(code);
-        t = add_entries(t, panel_of(far.x, far.y, PITCH));
+        add_panel(&mut t, panel_of(far.x, far.y, PITCH));
     }
     t
 }
 
-fn print_class(rt: &impl Print, t: Totals, class: usize) -> io::Result<()> {
-    if 7 <= class {
-        return Ok(());
-    }
-    named(rt, b"class ", (class % 7) as u32)?;
-    named(rt, b": pairs ", t.pairs[class])?;
-    named(rt, b", cells ", t.cells[class])?;
-    text(rt, b"\n")
-}
-
 fn main(rt: HostRuntime) -> io::Result<()> {
     let t = all_panels();
-    print_class(&rt, t, 1)?;
-    print_class(&rt, t, 2)?;
-    print_class(&rt, t, 3)?;
-    print_class(&rt, t, 4)?;
-    print_class(&rt, t, 5)?;
-    print_class(&rt, t, 6)?;
-    named(&rt, b"wrong ", t.wrong)?;
-    text(&rt, b"\n")?;
-    text(&rt, b"exits: ")?;
-    tally(&rt, t.exits)
+    for (number, class) in t.classes.iter().enumerate().skip(1) {
+        println!(&rt;
+            "class {number}: pairs {}, cells {}",
+            class.pairs, class.cells
+        )?;
+    }
+    println!(&rt; "wrong {}", t.wrong)?;
+    println!(&rt;
+        "exits: given {}, none {}, wrong {}",
+        t.given, t.none, t.exits_wrong
+    )
 }

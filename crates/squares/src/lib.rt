@@ -13,10 +13,7 @@ use list::cell_at;
 pub fn corner_between(before: Cell, after: Cell) -> bool
     ensures { result ≡ corner_between before after }
 {
-    if before.x == after.x {
-        return false;
-    }
-    before.y != after.y
+    before.x != after.x && before.y != after.y
 }
 
 // The number of corners of a list of at most 16,384 cells.
@@ -25,12 +22,10 @@ pub fn corners_of(list: &[u8]) -> u32
     ensures { result ≡ corners (cells_in list.now) }
 {
     let mut corners = 0;
-    let mut i = 0;
-    while i + 5 < list.len() {
-        if corner_between(cell_at(list, i), cell_at(list, i + 4)) {
+    for i in 2..list.len() / 2 {
+        if corner_between(cell_at(list, 2 * (i - 2)), cell_at(list, 2 * i)) {
             corners += 1;
         }
-        i += 2;
     }
     corners
 }

@@ -7,46 +7,43 @@ ghost use Rattle.std.specs.Prelude.{◌≤◌, length};
 use squares::{corners_of, squares_of};
 use std::io;
 use trial::cells::snake;
-use trial::print::{row, text};
 
-fn show(rt: &impl Print, name: &[u8], list: &[u8]) -> io::Result<()>
+fn show(rt: &impl Print, name: &str, list: &[u8]) -> io::Result<()>
     requires { length list.now ≤ 32768 }
 {
-    text(rt, name)?;
-    text(rt, b": ")?;
-    row(rt, &[corners_of(list), squares_of(list)], b"\n")
+    println!(rt; "{name}: {} {}", corners_of(list), squares_of(list))
 }
 
 fn tracks(rt: &impl Print) -> io::Result<()> {
-    show(rt, b"one cell", b"\x05\x05")?;
-    show(rt, b"two cells", b"\x01\x01\x01\x02")?;
-    show(rt, b"three in a row", b"\x02\x01\x03\x01\x04\x01")?;
-    show(rt, b"three in a column", b"\x01\x04\x01\x03\x01\x02")?;
-    show(rt, b"right and down", b"\x01\x01\x02\x01\x02\x02")?;
-    show(rt, b"up and left", b"\x02\x02\x02\x01\x01\x01")?;
+    show(rt, "one cell", b"\x05\x05")?;
+    show(rt, "two cells", b"\x01\x01\x01\x02")?;
+    show(rt, "three in a row", b"\x02\x01\x03\x01\x04\x01")?;
+    show(rt, "three in a column", b"\x01\x04\x01\x03\x01\x02")?;
+    show(rt, "right and down", b"\x01\x01\x02\x01\x02\x02")?;
+    show(rt, "up and left", b"\x02\x02\x02\x01\x01\x01")?;
     show(
         rt,
-        b"2 by 2 from (1,1) to (2,1)",
+        "2 by 2 from (1,1) to (2,1)",
         b"\x01\x01\x01\x02\x02\x02\x02\x01",
     )?;
     show(
         rt,
-        b"2 by 2 from (1,1) to (1,2)",
+        "2 by 2 from (1,1) to (1,2)",
         b"\x01\x01\x02\x01\x02\x02\x01\x02",
     )?;
     show(
         rt,
-        b"a corner, a straight cell, a corner",
+        "a corner, a straight cell, a corner",
         b"\x01\x01\x02\x01\x02\x02\x02\x03\x01\x03",
     )?;
     show(
         rt,
-        b"corners at both ends",
+        "corners at both ends",
         b"\x01\x01\x01\x02\x02\x02\x03\x02\x03\x01",
     )?;
     show(
         rt,
-        b"a stair",
+        "a stair",
         b"\x01\x01\x02\x01\x02\x02\x03\x02\x03\x03\x04\x03",
     )
 }
@@ -55,50 +52,47 @@ fn tracks(rt: &impl Print) -> io::Result<()> {
 fn others(rt: &impl Print) -> io::Result<()> {
     show(
         rt,
-        b"twice around 2 by 2",
+        "twice around 2 by 2",
         b"\x01\x01\x01\x02\x02\x02\x02\x01\x01\x01\x01\x02\x02\x02\x02\x01",
     )?;
-    show(rt, b"there and back", b"\x01\x01\x02\x01\x01\x01")?;
-    show(rt, b"the same cell thrice", b"\x03\x03\x03\x03\x03\x03")?;
-    show(rt, b"ends apart in x and y", b"\x01\x01\x09\x07")?;
+    show(rt, "there and back", b"\x01\x01\x02\x01\x01\x01")?;
+    show(rt, "the same cell thrice", b"\x03\x03\x03\x03\x03\x03")?;
+    show(rt, "ends apart in x and y", b"\x01\x01\x09\x07")?;
     show(
         rt,
-        b"a jump and back to the row",
+        "a jump and back to the row",
         b"\x01\x01\x05\x05\x09\x01",
     )?;
-    show(rt, b"jumps off row and column", b"\x01\x01\x09\x01\x05\x02")?;
-    show(rt, b"0 and 255", b"\x00\x00\x00\xff\xff\xff\xff\x00")?;
-    show(rt, b"only x is another", b"\x00\x80\x07\x07\xff\x80")?;
-    show(rt, b"only y is another", b"\x80\x00\x07\x07\x80\xff")
+    show(rt, "jumps off row and column", b"\x01\x01\x09\x01\x05\x02")?;
+    show(rt, "0 and 255", b"\x00\x00\x00\xff\xff\xff\xff\x00")?;
+    show(rt, "only x is another", b"\x00\x80\x07\x07\xff\x80")?;
+    show(rt, "only y is another", b"\x80\x00\x07\x07\x80\xff")
 }
 
 // A last byte without its other is no cell.
 fn parts(rt: &impl Print) -> io::Result<()> {
-    show(rt, b"nothing", b"")?;
-    show(rt, b"a byte", b"\x01")?;
-    show(rt, b"a cell and a byte", b"\x01\x01\x02")?;
-    show(rt, b"two cells and a byte", b"\x01\x01\x02\x01\x02")?;
-    show(rt, b"a corner and a byte", b"\x01\x01\x02\x01\x02\x02\x03")
+    show(rt, "nothing", b"")?;
+    show(rt, "a byte", b"\x01")?;
+    show(rt, "a cell and a byte", b"\x01\x01\x02")?;
+    show(rt, "two cells and a byte", b"\x01\x01\x02\x01\x02")?;
+    show(rt, "a corner and a byte", b"\x01\x01\x02\x01\x02\x02\x03")
 }
 
 // The first bytes of a list.
-fn show_front(rt: &impl Print, name: &[u8], list: &[u8], bytes: usize) -> io::Result<()> {
-    if bytes <= list.len() {
-        if bytes <= 32768 {
-            show(rt, name, &list[..bytes])?;
-        }
-    }
-    Ok(())
+fn show_front(rt: &impl Print, name: &str, list: &[u8], bytes: usize) -> io::Result<()>
+    requires { length list.now ≤ 32768 }
+{
+    show(rt, name, &list[..bytes.min(list.len())])
 }
 
 // The longest lists: 16,384 cells, and less.
 fn large(rt: &impl Print) -> io::Result<()> {
     let mut list = [1u8; 32768];
-    show_front(rt, b"16384 times (1,1)", &list, 32768)?;
+    show(rt, "16384 times (1,1)", &list)?;
     snake(&mut list);
-    show_front(rt, b"128 by 128 row by row", &list, 32768)?;
-    show_front(rt, b"a byte less", &list, 32767)?;
-    show_front(rt, b"128 by 127 row by row", &list, 32512)
+    show(rt, "128 by 128 row by row", &list)?;
+    show_front(rt, "a byte less", &list, 32767)?;
+    show_front(rt, "128 by 127 row by row", &list, 32512)
 }
 
 fn main(rt: HostRuntime) -> io::Result<()> {

@@ -1,11 +1,10 @@
 -- Document 01, "Record": one letter for each step (a chain code, Freeman's four directions), and the cells that letters lead over.
-use Rattle.std.specs.Prelude.{ℕ, ◌+◌, ◌-◌, Bool, true, cond, ◌&&◌, ◌||◌, List, [], ◌∷◌, ◌++◌, length, take, drop, ltb, eqb}
+use Rattle.std.specs.Prelude.{ℕ, ◌+◌, ◌-◌, Bool, true, cond, Result, Ok, Err, ◌&&◌, ◌||◌, List, [], ◌∷◌, ◌++◌, length, take, drop, ltb, eqb}
 use Rattle.grid.specs.declared.Panel.{Panel}
 use Rattle.grid.specs.declared.Cell.{Cell}
+use Rattle.grid.specs.declared.Refusal.{Refusal}
 use Rattle.grid.specs.declared.Refusal.TheVariants.{UnknownByte}
 use Rattle.grid.specs.Panel.{panel, max_side, max_pitch, cell}
-use Rattle.step_letters.specs.declared.Stepped.{Stepped}
-use Rattle.step_letters.specs.declared.Stepped.TheVariants.{Refused, To}
 
 -- the letter N, up
 abbrev pub north : ℕ
@@ -56,8 +55,8 @@ unfoldable pub known : ℕ → Bool
 known b = eqb b north || (eqb b east || (eqb b south || eqb b west))
 
 -- where a letter leads from a cell, or refusal 16
-abbrev pub step_by : Cell → ℕ → Stepped
-step_by c b = cond (known b) (To (stepped c b)) (Refused UnknownByte)
+abbrev pub step_by : Cell → ℕ → Result Cell Refusal
+step_by c b = cond (known b) (Ok (stepped c b)) (Err UnknownByte)
 
 -- every byte is one of the four letters
 abbrev pub all_known : List ℕ → Bool

@@ -18,13 +18,6 @@ pub const SOUTH: u8 = 0x53;
 
 pub const WEST: u8 = 0x57;
 
-// Where a letter leads.
-#[derive(Clone, Copy)]
-pub enum Stepped {
-    Refused(Refusal),
-    To(Cell),
-}
-
 #[tactic(auto, unfolding(crate::specs::Letters::letter))]
 fn letter_of(a: Cell, b: Cell) -> u8
     ensures { result ≡ letter a b }
@@ -46,27 +39,23 @@ pub fn write_letters(list: &[u8], out: &mut [u8], from: usize)
     requires { from + steps_of (cells_in list.now) ≤ length out.old }
     ensures { out.new ≡ with_letters from (cells_in list.now) out.old }
 {
-    let mut i = 0;
-    let mut at = from;
-    while i + 3 < list.len() {
-        out[at] = letter_of(cell_at(list, i), cell_at(list, i + 2));
-        i += 2;
-        at += 1;
+    for i in 1..list.len() / 2 {
+        out[from + i - 1] = letter_of(cell_at(list, 2 * (i - 1)), cell_at(list, 2 * i));
     }
 }
 
-// Four letters lead to a cell, every other byte is refused.
+// Where a letter leads: four lead to a cell, every other byte is refused.
 #[tactic(auto, unfolding(crate::specs::Letters::known, crate::specs::Letters::stepped))]
-pub fn step_by(c: Cell, letter: u8) -> Stepped
+pub fn step_by(c: Cell, letter: u8) -> Result<Cell, Refusal>
     requires { OnPanel largest_panel c }
     ensures { result ≡ step_by c letter }
 {
     match letter {
-        NORTH => Stepped::To(Cell { x: c.x, y: c.y - 1 }),
-        EAST => Stepped::To(Cell { x: c.x + 1, y: c.y }),
-        SOUTH => Stepped::To(Cell { x: c.x, y: c.y + 1 }),
-        WEST => Stepped::To(Cell { x: c.x - 1, y: c.y }),
-        0x00..=0x44 | 0x46..=0x4D | 0x4F..=0x52 | 0x54..=0x56 | 0x58..=0xFF => Stepped::Refused(
+        NORTH => Ok(Cell { x: c.x, y: c.y - 1 }),
+        EAST => Ok(Cell { x: c.x + 1, y: c.y }),
+        SOUTH => Ok(Cell { x: c.x, y: c.y + 1 }),
+        WEST => Ok(Cell { x: c.x - 1, y: c.y }),
+        0x00..=0x44 | 0x46..=0x4D | 0x4F..=0x52 | 0x54..=0x56 | 0x58..=0xFF => Err(
             Refusal::UnknownByte,
         ),
     }

@@ -20,7 +20,7 @@ use Rattle.table.specs.declared.Placing.{Placing}
 use Rattle.list.specs.List.{with_cells}
 use Rattle.table.specs.Order.{ReadyOrder}
 use Rattle.table.specs.Table.{row_size, row_cell, turn_if, mirror, mirror_cell, place, position, placed_cell, placing, UpToFour, tabled}
-use Rattle.table.proofs.Rows.{three, row_track, row_some, row_most, row_x, row_y, Found, found}
+use Rattle.table.proofs.Rows.{three, row_track, row_some, row_x, row_y, Found, found}
 
 abbrev On : Cell → Type 0
 On = OnPanel three
@@ -129,21 +129,16 @@ module _ {s t : Cell} {buf : List ℕ} (o : (q : ℕ) → ReadyOrder (panel 3 3 
   pub found_here : Found s t q
   found_here = subst (λ (q : Placing). Found s t q) (sym e) (found s t (o 4000).entry (o 4000).exit (o 4000).differ)
 
-  module _ {n : ℕ} (g : n ≡ row_size q.row) where
-    pub row_fits : (n ≤ 9) × (2 * n ≤ length buf)
-    row_fits =
-        let f = found_here in
-        (omega (arith, row_most q.row f.row), omega (arith, f.size, (o 4000).room))
+  pub row_fits : 2 * row_size q.row ≤ length buf
+  row_fits = omega (arith, found_here.size, (o 4000).room)
 
-    pub drawn_here : {new : List ℕ} → new ≡ bytes (line (placed_cell q) n) ++ drop (2 * n) buf → new ≡ with_cells (tabled s t) buf
-    unfolding tabled
-    drawn_here w =
-        let l = line (placed_cell q) n in
-        w ∙ ap (λ (k : ℕ). bytes l ++ drop (2 * k) buf) (sym (length_line (placed_cell q) n))
-        ∙ (λ i. with_cells (line (placed_cell (e i)) (row i)) buf)
-      where
-        row : n ≡ row_size (placing s t).row
-        row = g ∙ ap (λ (q : Placing). row_size q.row) e
+  pub drawn_here : {new : List ℕ} → new ≡ bytes (line (placed_cell q) (row_size q.row)) ++ drop (2 * row_size q.row) buf
+      → new ≡ with_cells (tabled s t) buf
+  unfolding tabled
+  drawn_here w =
+      let l = line (placed_cell q) (row_size q.row) in
+      w ∙ ap (λ (k : ℕ). bytes l ++ drop (2 * k) buf) (sym (length_line (placed_cell q) (row_size q.row)))
+      ∙ (λ i. with_cells (line (placed_cell (e i)) (row_size (e i).row)) buf)
 
 -- mirrored and turned cells stay small
 mirror_small : (on : Bool) (a : ℕ) → a ≤ 4 → mirror on a ≤ 4

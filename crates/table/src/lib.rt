@@ -12,9 +12,10 @@ ghost use Rattle.table.specs.Table.{entry_at, row_size, row_cell, turn_if, mirro
 ghost use Rattle.table.specs.Table.{UpToFour, twos, to_mirror, to_turn, row_of, placing_from, placing, tabled};
 
 use grid::{Cell, turn_cell};
+use list::put_cell;
 
 // A row for each pair of terminals up to turning, mirroring and exchanging: the number of cells,
-// then x and y of each.
+// then x and y of each. A table of tables of fixed size, since there is no heap: a shorter row ends in zeros.
 const ROWS: [[u8; 19]; 8] = [
     [8, 1, 1, 1, 2, 1, 3, 2, 3, 3, 3, 3, 2, 3, 1, 2, 1, 0, 0],
     [9, 1, 1, 2, 1, 3, 1, 3, 2, 3, 3, 2, 3, 1, 3, 1, 2, 2, 2],
@@ -26,36 +27,37 @@ const ROWS: [[u8; 19]; 8] = [
     [7, 2, 1, 1, 1, 1, 2, 2, 2, 3, 2, 3, 3, 2, 3, 0, 0, 0, 0],
 ];
 
-// How a row is placed on the panel: turned, then mirrored in x (`across`) and in y (`down`), and
-// walked from its end where `back` is set.
+// A row of the table.
 #[derive(Clone, Copy)]
-pub struct Placing {
-    pub row: usize,
-    pub turn: bool,
-    pub across: bool,
-    pub down: bool,
-    pub back: bool,
+struct Row {
+    number: usize,
+    ghost known: { number < 8 },
 }
 
-fn entry(k: usize, i: usize) -> u8
-    requires k_bound { k < 8 }
-    requires i_bound { i < 19 }
-    ensures { result ≡ entry_at k i }
-{
-    ROWS[k][i]
-}
+impl Row {
+    fn entry(self, i: usize) -> u8
+        requires { i < 19 }
+        ensures { result ≡ entry_at self.number i }
+    {
+        ROWS[self.number][i]
+    }
 
-// Cell j of row k.
-fn row_cell(k: usize, j: usize) -> Cell
-    requires k_bound { k < 8 }
-    requires j_bound { j < 9 }
-    ensures { result ≡ row_cell k j }
-{
-    let x = entry(k, 2 * j + 1);
-    let y = entry(k, 2 * j + 2);
-    Cell {
-        x: x as u32,
-        y: y as u32,
+    // How many cells it has.
+    fn size(self) -> usize
+        ensures { result ≡ row_size self.number }
+    {
+        usize::from(self.entry(0))
+    }
+
+    // Its cell j, from 0.
+    fn cell(self, j: usize) -> Cell
+        requires { j < 9 }
+        ensures { result ≡ row_cell self.number j }
+    {
+        Cell {
+            x: u32::from(self.entry(2 * j + 1)),
+            y: u32::from(self.entry(2 * j + 2)),
+        }
     }
 }
 
@@ -70,28 +72,16 @@ fn turn_if(on: bool, c: Cell) -> Cell
 fn mirror_number(on: bool, a: u32) -> u32
     ensures { result ≡ mirror on a }
 {
-    if on {
-        if 4 < a {
-            return 0;
-        }
-        return 4 - a;
-    }
-    a
+    if on { 4u32.saturating_sub(a) } else { a }
 }
 
 fn mirror_cell(across: bool, down: bool, c: Cell) -> Cell
     ensures { result ≡ mirror_cell across down c }
 {
-    let x = mirror_number(across, c.x);
-    let y = mirror_number(down, c.y);
-    Cell { x, y }
-}
-
-// A cell of a row as it is placed.
-fn place_cell(p: Placing, c: Cell) -> Cell
-    ensures { result ≡ place p c }
-{
-    mirror_cell(p.across, p.down, turn_if(p.turn, c))
+    Cell {
+        x: mirror_number(across, c.x),
+        y: mirror_number(down, c.y),
+    }
 }
 
 // ---- which row, and how it is placed
@@ -99,34 +89,19 @@ fn place_cell(p: Placing, c: Cell) -> Cell
 fn count_twos(c: Cell) -> u32
     ensures { result ≡ twos c }
 {
-    if c.x == 2 {
-        if c.y == 2 {
-            return 2;
-        }
-        return 1;
-    }
-    if c.y == 2 {
-        return 1;
-    }
-    0
+    u32::from(c.x == 2) + u32::from(c.y == 2)
 }
 
 fn is_mirrored(a: u32, b: u32) -> bool
     ensures { result ≡ to_mirror a b }
 {
-    if a == 2 {
-        return b == 3;
-    }
-    a == 3
+    a == 3 || (a == 2 && b == 3)
 }
 
 fn is_turned(a: Cell, b: Cell) -> bool
     ensures { result ≡ to_turn a b }
 {
-    if a.x == a.y {
-        return b.x < b.y;
-    }
-    a.x < a.y
+    a.x < a.y || (a.x == a.y && b.x < b.y)
 }
 
 fn row_of(a: Cell, b: Cell) -> usize
@@ -134,68 +109,82 @@ fn row_of(a: Cell, b: Cell) -> usize
     ensures { result ≡ row_of a b }
 {
     if a.x == 1 {
-        let k = 2 * b.x + b.y;
-        if k < 5 {
-            return 0;
+        (2 * b.x + b.y).saturating_sub(5) as usize
+    } else {
+        (b.x + b.y + 2) as usize
+    }
+}
+
+// How a row is placed on the panel: turned, then mirrored in x (`across`) and in y (`down`), and
+// walked from its end where `back` is set.
+#[derive(Clone, Copy)]
+struct Placing {
+    row: usize,
+    turn: bool,
+    across: bool,
+    down: bool,
+    back: bool,
+}
+
+impl Placing {
+    // That of the row that starts at a and ends at b.
+    fn from_to(a: Cell, b: Cell, back: bool) -> Placing
+        requires { UpToFour b }
+        ensures { result ≡ placing_from a b back }
+    {
+        let across = is_mirrored(a.x, b.x);
+        let down = is_mirrored(a.y, b.y);
+        let u = mirror_cell(across, down, a);
+        let v = mirror_cell(across, down, b);
+        let turn = is_turned(u, v);
+        Placing {
+            row: row_of(turn_if(turn, u), turn_if(turn, v)),
+            turn,
+            across,
+            down,
+            back,
         }
-        return (k - 5) as usize;
     }
-    (b.x + b.y + 2) as usize
-}
 
-fn placing_from(a: Cell, b: Cell, back: bool) -> Placing
-    requires { UpToFour b }
-    ensures { result ≡ placing_from a b back }
-{
-    let across = is_mirrored(a.x, b.x);
-    let down = is_mirrored(a.y, b.y);
-    let u = mirror_cell(across, down, a);
-    let v = mirror_cell(across, down, b);
-    let turn = is_turned(u, v);
-    Placing {
-        row: row_of(turn_if(turn, u), turn_if(turn, v)),
-        turn,
-        across,
-        down,
-        back,
+    // That for two terminals: from the one that has fewer coordinates 2.
+    #[tactic(auto, unfolding(crate::specs::Table::placing))]
+    fn of(s: Cell, t: Cell) -> Placing
+        requires { UpToFour s × UpToFour t }
+        ensures { result ≡ placing s t }
+    {
+        if count_twos(t) < count_twos(s) {
+            Placing::from_to(t, s, true)
+        } else {
+            Placing::from_to(s, t, false)
+        }
     }
-}
 
-fn placing_of(s: Cell, t: Cell) -> Placing
-    requires { UpToFour s × UpToFour t }
-    ensures { result ≡ placing s t }
-{
-    if count_twos(t) < count_twos(s) {
-        return placing_from(t, s, true);
+    // A cell of a row as it is placed.
+    fn place(self, c: Cell) -> Cell
+        ensures { result ≡ place self c }
+    {
+        mirror_cell(self.across, self.down, turn_if(self.turn, c))
     }
-    placing_from(s, t, false)
-}
 
-// ---- the row's cells, written as they are placed
-
-fn position_of(back: bool, n: usize, i: usize) -> usize
-    requires { i < n }
-    ensures { result ≡ position back n i }
-{
-    if back {
-        return n - (i + 1);
+    // Which of a row's n cells is written as number i.
+    fn position(self, n: usize, i: usize) -> usize
+        requires { i < n }
+        ensures { result ≡ position self.back n i }
+    {
+        if self.back { n - (i + 1) } else { i }
     }
-    i
-}
 
-// Writes the n cells of a row, as it is placed.
-fn write_row(p: Placing, n: usize, buf: &mut [u8])
-    requires row_bound { p.row < 8 }
-    requires n_value { n ≡ row_size p.row }
-    requires n_bound { n ≤ 9 }
-    requires n_in_bounds { 2 * n ≤ length buf.old }
-    ensures { buf.new ≡ bytes (line (placed_cell p) n) ++ drop (2 * n) buf.old }
-{
-    for i in 0..n {
-        let j = position_of(p.back, n, i);
-        let c = place_cell(p, row_cell(p.row, j));
-        buf[2 * i] = c.x as u8;
-        buf[2 * i + 1] = c.y as u8;
+    // Writes the cells of the row, as it is placed.
+    fn write(self, buf: &mut [u8])
+        requires row { self.row < 8 }
+        requires room { 2 * row_size self.row ≤ length buf.old }
+        ensures { buf.new ≡ bytes (line (placed_cell self) (row_size self.row)) ++ drop (2 * row_size self.row) buf.old }
+    {
+        let row = Row { number: self.row };
+        let n = row.size();
+        for i in 0..n {
+            put_cell(buf, 2 * i, self.place(row.cell(self.position(n, i))));
+        }
     }
 }
 
@@ -204,8 +193,5 @@ pub fn draw_small(s: Cell, t: Cell, buf: &mut [u8])
     requires { (pitch : ℕ) → ReadyOrder (panel 3 3 pitch) s t buf.old }
     ensures { buf.new ≡ with_cells (tabled s t) buf.old }
 {
-    let placed = placing_of(s, t);
-    let row = placed.row;
-    let n = entry(row, 0) as usize;
-    write_row(placed, n, buf);
+    Placing::of(s, t).write(buf);
 }

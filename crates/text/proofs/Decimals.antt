@@ -52,6 +52,10 @@ length_decimal (suc k) n h = go (ltb n 10) refl (length_decimal k (n / 10) (omeg
         let last = digit (n % 10) ∷ [] in
         omega (arith, ap length (decimal_more n (ltb-false n 10 q)), length-append (decimal (n / 10)) last)
 
+-- a number of 32 bits
+pub most_digits : (n : ℕ) → n < 2 ^ 32 → length (decimal n) ≤ 10
+most_digits n h = length_decimal 9 n (omega arith)
+
 -- the number of digits: one, or one more than those before the last
 pub one_digit : (n : ℕ) → n < 10 → length (decimal n) ≡ 1
 one_digit n h = ap length (decimal_small n h)

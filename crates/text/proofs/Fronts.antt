@@ -1,16 +1,18 @@
--- Bytes that begin with a text: the text and the bytes behind it, and the other way round; and one byte of the text after another.
-use Prim.Native.Nat.{ℕ, ◌+◌, ◌≤◌, ◌<◌}
+-- Bytes that begin with a text: the text and the bytes behind it, and the other way round; and the library's test of it.
+use Prim.Native.Nat.{ℕ, ◌+◌, ◌≤◌}
 use mathlib.Core.Path.{◌≡◌, refl, sym, ap, ◌∙◌}
 use mathlib.Core.Bool.{Bool, true, false, ◌&&◌, false≢true}
 use mathlib.Core.List.{List, [], ◌∷◌, ◌++◌}
 use native.Mathlib.Omega.{arith}
-use lib.ListN.{length, drop, get_or, length-append}
+use lib.ListN.{length, drop, length-append}
 use lib.Seq.{drop-drop, drop-append_seam}
 use lib.Dec.{eqb}
 use borrow.Author.Tests.{eqb-true, eq-eqb}
 use Rattle.grid.proofs.Facts.{and_parts, and_both}
-use Rattle.grid.proofs.Lists.{drop_next}
 use Rattle.grid.proofs.Tests.{cond_yes, cond_no}
+use Rattle.std.specs.Prelude.{nat_eq}
+use Rattle.std.specs.List.{starts_with}
+use Rattle.std.proofs.lemmas.Bool.Decides.{nat_tests}
 use Rattle.text.specs.Front.{begins, behind_text}
 
 -- ---- a text in front of anything
@@ -25,15 +27,6 @@ front_is (b ∷ t) [] e = absurd (false≢true e)
 front_is (b ∷ t) (c ∷ l) e =
     let (h, r) = and_parts (eqb c b) (begins t l) e in
     λ i. eqb-true c b h i ∷ front_is t l r i
-
-and_false : (a : Bool) {b : Bool} → b ≡ false → (a && b) ≡ false
-and_false true e = e
-and_false false e = refl
-
-pub short_front : (t l : List ℕ) → length l < length t → begins t l ≡ false
-short_front [] l h = absurd (omega arith)
-short_front (b ∷ t) [] h = refl
-short_front (b ∷ t) (c ∷ l) h = and_false (eqb c b) (short_front t l (omega arith))
 
 -- ---- what is read behind it
 
@@ -62,12 +55,12 @@ module _ (t file : List ℕ) (at : ℕ) where
     pub behind_no : begins t (drop at file) ≡ false → z ≡ behind_text z t (drop at file) k
     behind_no e = cond_no _ _ e refl
 
--- ---- byte by byte
+-- ---- as the library tests it
 
--- the bytes of the text and of the input from i on decide what all of them do
-module _ (t l : List ℕ) (at i : ℕ) (h : i < length t) (g : at + i < length l) where
-  pub front_turn : begins (drop i t) (drop (at + i) l) ≡ (eqb (get_or l (at + i) 0) (get_or t i 0) && begins (drop (i + 1) t) (drop (at + (i + 1)) l))
-  front_turn =
-      let e : at + i + 1 ≡ at + (i + 1) = omega arith in
-      (λ j. begins (drop_next 0 t i h j) (drop_next 0 l (at + i) g j))
-      ∙ ap (λ (k : ℕ). eqb (get_or l (at + i) 0) (get_or t i 0) && begins (drop (i + 1) t) (drop k l)) e
+swapped : (a b : ℕ) → nat_eq a b ≡ eqb b a
+swapped a b = grind (arith, nat_tests)
+
+pub starts_begins : (t l : List ℕ) → starts_with nat_eq l t ≡ begins t l
+starts_begins [] l = refl
+starts_begins (b ∷ t) [] = refl
+starts_begins (b ∷ t) (c ∷ l) = λ i. swapped b c i && starts_begins t l i

@@ -5,9 +5,9 @@ use mathlib.Core.List.{List, [], ◌∷◌, ◌++◌, append_assoc}
 use native.Mathlib.Omega.{arith}
 use native.Mathlib.Numerals.{add-one}
 use native.Mathlib.Nat.{add-zero}
-use lib.ListN.{length, take, drop, set, get_or, length-append, length-drop, length-set, take-append-drop}
+use lib.ListN.{length, take, drop, set, length-append, length-drop, length-set, take-append-drop}
 use lib.Seq.{drop-cons, get_or-set_same, drop-set-lt, set_split, take_at, drop-append-add, drop-drop, length-take-le}
-use Rattle.grid.proofs.Lists.{take_next}
+use borrow.Rule.Slice.PartMut.{put_mid}
 use Rattle.text.specs.Decimal.{digit, decimal}
 use Rattle.text.specs.Field.{blank, field_of}
 use Rattle.text.specs.Put.{put, Put}
@@ -50,18 +50,14 @@ module _ (out : List ℕ) (at : ℕ) where
   unfolding put
   put_none = sym (take-append-drop at out) ∙ ap (λ (k : ℕ). take at out ++ drop k out) (sym (add-zero at))
 
--- one byte more of a text
-pub put_next : (out : List ℕ) (at : ℕ) (t : List ℕ) (i : ℕ) → i < length t → at + length t ≤ length out
-    → set (put out at (take i t)) (at + i) (get_or t i 0) ≡ put out at (take (i + 1) t)
-put_next out at t i h g =
-    let b = get_or t i 0 in
-    let begun = put out at (take i t) in
-    let size : length (take i t) ≡ i = length-take-le i t (omega arith) in
-    let here : at + i ≡ at + length (take i t) = omega arith in
-    put_one begun (at + i) b (omega (arith, length_put out at (take i t) (omega arith)))
-    ∙ ap (λ (k : ℕ). put begun k (b ∷ [])) here
-    ∙ put_both out at (take i t) (b ∷ []) (omega (arith, length-append (take i t) (b ∷ [])))
-    ∙ ap (put out at) (sym (take_next 0 t i h))
+  -- a text copied over the bytes of a part
+  pub put_copied : (t u : List ℕ) → u ≡ t → put_mid at (at + length t - at) out u ≡ put out at t
+  unfolding put
+  put_copied t u e =
+      let k = at + length t - at in
+      let sum : at + k ≡ at + length t = omega arith in
+      let behind : drop k (drop at out) ≡ drop (at + length t) out = drop-drop k at out ∙ ap (λ (j : ℕ). drop j out) sum in
+      λ i. take at out ++ (e i ++ behind i)
 
 -- the same text, told otherwise
 pub puts_is : {out : List ℕ} {at : ℕ} {t u : List ℕ} {after : List ℕ} {next : ℕ} → t ≡ u → Put out at t after next → Put out at u after next
@@ -96,14 +92,6 @@ module _ {out : List ℕ} {at : ℕ} {t u whole : List ℕ} (p : Parts out at t 
   }
 
 -- ---- numbers
-
--- a number of two digits or more: the digits before the last, and the last
-pub digits_parts : {out : List ℕ} {at n b : ℕ} → 10 ≤ n → b ≡ digit (n % 10) → at + length (decimal n) ≤ length out
-    → Parts out at (decimal (n / 10)) (b ∷ []) (decimal n)
-digits_parts {n = n} h e fits = record {
-  joined = ap (λ (b : ℕ). decimal (n / 10) ++ b ∷ []) e ∙ sym (decimal_more n h);
-  fits = fits;
-}
 
 -- a number, the byte behind it and the rest
 pub field_and : (n e : ℕ) (rest : List ℕ) → field_of n e [] ++ rest ≡ field_of n e rest

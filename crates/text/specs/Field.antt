@@ -1,7 +1,6 @@
 -- A number in base ten and the byte that ends it: the form, and how it is read.
-use Rattle.std.specs.Prelude.{ℕ, ◌+◌, ◌*◌, ◌-◌, ◌^◌, cond, ◌&&◌, List, [], ◌∷◌, ◌++◌, drop, leb, eqb}
-use Rattle.text.specs.declared.Number.{Number}
-use Rattle.text.specs.declared.Number.TheVariants.{Bad, Until}
+use Rattle.std.specs.Prelude.{ℕ, ◌+◌, ◌*◌, ◌-◌, ◌^◌, cond, ◌&&◌, List, [], ◌∷◌, ◌++◌, drop, leb, eqb, Option, None, Some}
+use Rattle.text.specs.declared.Field.{Field}
 use Rattle.text.specs.Decimal.{zero_byte, is_digit, decimal}
 
 abbrev pub blank : ℕ
@@ -47,9 +46,9 @@ abbrev pub field : ℕ → List ℕ → Parsed
 field e l = ended e (number_at l)
 
 -- what a number read up to a position of the input stands for
-abbrev pub parsed : List ℕ → Number → Parsed
-parsed input Bad = nothing
-parsed input (Until v next) = value v (drop next input)
+abbrev pub parsed : List ℕ → Option Field → Parsed
+parsed input None = nothing
+parsed input (Some f) = value f.value (drop f.next input)
 
 -- what a number at the front goes on to, or z where there is none
 abbrev pub and_then {ℓ} : {A : Type ℓ} → A → Parsed → (ℕ → List ℕ → A) → A

@@ -9,21 +9,16 @@ pub use write::{
     count_digits, digit_of, digits_of, put_byte, put_bytes, put_decimal, put_field, put_two,
 };
 
-// The first and the last digit, the byte between two numbers, and the byte behind a line.
+// The digit 0, the byte between two numbers, and the byte behind a line.
 pub const ZERO: u8 = b'0';
-
-pub const NINE: u8 = b'9';
 
 pub const BLANK: u8 = b' ';
 
 pub const LINE_FEED: u8 = b'\n';
 
-// The largest number that is read.
-pub const LARGEST_NUMBER: u64 = 4294967295;
-
-// A number that was read, and the position behind the byte that ends it; or another form.
-#[derive(Clone, Copy)]
-pub enum Number {
-    Bad,
-    Until(u32, usize),
+// A number that was read, and the position behind the byte that ends it.
+#[derive(Clone, Copy, Debug, PartialEq, Eq)]
+pub struct Field {
+    pub value: u32,
+    pub next: usize,
 }

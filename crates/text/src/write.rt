@@ -1,4 +1,5 @@
-// Puts text into a buffer, each part behind the one before, and gives the place behind it.
+// Puts text into a buffer, each part behind the one before, and gives the place behind it. The buffer and
+// the place stay two parameters: other crates call so, and a struct of both would say `Put` of its fields.
 ghost use Rattle.std.specs.Prelude.{◌≡◌, [], ◌∷◌, ◌≤◌, ◌<◌, ◌+◌, ◌-◌, length};
 ghost use Rattle.text.specs.Part.{MutPartOf};
 ghost use Rattle.text.specs.Decimal.{digit, decimal};
@@ -6,6 +7,9 @@ ghost use Rattle.text.specs.Field.{blank, field_of};
 ghost use Rattle.text.specs.Put.{Put};
 
 use crate::{BLANK, ZERO};
+
+// The most digits that a number of 32 bits has.
+const MOST_DIGITS: usize = 10;
 
 // The byte of a digit.
 pub fn digit_of(d: u32) -> u8
@@ -15,6 +19,7 @@ pub fn digit_of(d: u32) -> u8
     ZERO + d as u8
 }
 
+#[tactic(auto, using(crate::proofs::Puts::put_one))]
 pub fn put_byte(b: u8, out: &mut [u8], at: usize) -> usize
     requires { at + 1 ≤ length out.old }
     ensures { Put out.old at (b ∷ []) out.new result }
@@ -23,28 +28,14 @@ pub fn put_byte(b: u8, out: &mut [u8], at: usize) -> usize
     at + 1
 }
 
+#[tactic(auto, using(crate::proofs::Puts::put_copied))]
 pub fn put_bytes(text: &[u8], out: &mut [u8], at: usize) -> usize
     requires { at + length text.now ≤ length out.old }
     ensures { Put out.old at text.now out.new result }
 {
-    let mut i = 0;
-    while i < text.len() {
-        out[at + i] = text[i];
-        i += 1;
-    }
-    at + i
-}
-
-// All digits but the last, and the last.
-pub fn put_decimal(n: u32, out: &mut [u8], at: usize) -> usize
-    requires { at + length (decimal n) ≤ length out.old }
-    ensures { Put out.old at (decimal n) out.new result }
-{
-    if n < 10 {
-        return put_byte(digit_of(n), out, at);
-    }
-    let last = put_decimal(n / 10, out, at);
-    put_byte(digit_of(n % 10), out, last)
+    let end = at + text.len();
+    out[at..end].copy_from_slice(text);
+    end
 }
 
 // The digits of a number, made from the last one on: the part of scratch that holds them, up to its end.
@@ -66,16 +57,22 @@ pub fn digits_of<'a>(n: u32, scratch: &'a mut [u8]) -> &'a mut [u8]
 }
 
 // How many digits a number has.
+#[tactic(auto, using(crate::proofs::Decimals::most_digits))]
 pub fn count_digits(n: u32) -> usize
     ensures { result ≡ length (decimal n) }
 {
-    let mut count = 1;
-    let mut rest = n;
-    while 10 <= rest {
-        count += 1;
-        rest = rest / 10;
-    }
-    count
+    let mut room = [0; MOST_DIGITS];
+    digits_of(n, &mut room).len()
+}
+
+// The digits are made beside the buffer, and copied.
+#[tactic(auto, using(crate::proofs::Decimals::most_digits))]
+pub fn put_decimal(n: u32, out: &mut [u8], at: usize) -> usize
+    requires { at + length (decimal n) ≤ length out.old }
+    ensures { Put out.old at (decimal n) out.new result }
+{
+    let mut room = [0; MOST_DIGITS];
+    put_bytes(digits_of(n, &mut room), out, at)
 }
 
 // A number and the byte `end` behind it.

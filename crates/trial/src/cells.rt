@@ -1,23 +1,14 @@
 // Lists of cells in buffers: made, and looked at plainly, apart from the router's own code.
-use grid::{Cell, Panel};
-
-#[derive(Clone, Copy)]
-pub struct Order {
-    pub panel: Panel,
-    pub entry: Cell,
-    pub exit: Cell,
-}
-
-pub fn wide(b: u8) -> u32 {
-    b as u32
-}
+use grid::{Cell, Order, Panel};
 
 // A byte of the buffer, or 0 past its end.
 pub fn byte_at(buf: &[u8], at: usize) -> u32 {
-    if at < buf.len() {
-        return wide(buf[at]);
-    }
-    0
+    buf.get(at).map_or(0, |&b| u32::from(b))
+}
+
+// The cells of a list, two bytes each.
+pub fn pairs(list: &[u8]) -> &[[u8; 2]] {
+    list.as_chunks::<2>().0
 }
 
 // How many whole cells so many bytes hold.
@@ -49,42 +40,16 @@ pub fn repeat(buf: &mut [u8], c: Cell) {
     }
 }
 
-fn apart(a: u32, b: u32) -> u32 {
-    if a < b {
-        return b - a;
-    }
-    a - b
-}
-
 fn beside(a: Cell, b: Cell) -> bool {
     if a.x == b.x {
-        return apart(a.y, b.y) == 1;
+        return a.y.abs_diff(b.y) == 1;
     }
-    if a.y == b.y {
-        return apart(a.x, b.x) == 1;
-    }
-    false
-}
-
-pub fn same(a: Cell, b: Cell) -> bool {
-    if a.x == b.x {
-        return a.y == b.y;
-    }
-    false
+    a.y == b.y && a.x.abs_diff(b.x) == 1
 }
 
 // Whether a cell is on the panel, neither left of `low` nor above it.
 pub fn on(p: Panel, low: Cell, c: Cell) -> bool {
-    if c.x < low.x {
-        return false;
-    }
-    if c.y < low.y {
-        return false;
-    }
-    if p.width < c.x {
-        return false;
-    }
-    c.y <= p.height
+    low.x <= c.x && low.y <= c.y && c.x <= p.width && c.y <= p.height
 }
 
 // Marks a cell, whether it was not marked before.
@@ -92,11 +57,9 @@ fn mark(marks: &mut [u8], c: Cell) -> bool {
     let row = (c.y % 256) as usize;
     let column = (c.x % 256) as usize;
     let at = 130 * row + column;
-    if at < marks.len() {
-        if marks[at] == 0 {
-            marks[at] = 1;
-            return true;
-        }
+    if at < marks.len() && marks[at] == 0 {
+        marks[at] = 1;
+        return true;
     }
     false
 }
@@ -122,16 +85,12 @@ pub fn is_track(buf: &[u8], o: Order, low: Cell, k: u32) -> bool {
     if k == 0 {
         return false;
     }
-    if !same(cell_at(buf, 0), o.entry) {
+    if cell_at(buf, 0) != o.entry || cell_at(buf, k - 1) != o.exit {
         return false;
     }
-    if !same(cell_at(buf, k - 1), o.exit) {
-        return false;
-    }
-    let p = o.panel;
     let mut marks = [0u8; 17000];
     for i in 0..k {
-        if !follows(buf, &mut marks, p, low, i) {
+        if !follows(buf, &mut marks, o.panel, low, i) {
             return false;
         }
     }
@@ -140,44 +99,19 @@ pub fn is_track(buf: &[u8], o: Order, low: Cell, k: u32) -> bool {
 
 // Whether the first k cells of the buffer may be closed: four or more, the last beside the first.
 pub fn is_closed(buf: &[u8], k: u32) -> bool {
-    if k < 4 {
-        return false;
-    }
-    beside(cell_at(buf, k - 1), cell_at(buf, 0))
-}
-
-// Makes every byte b.
-pub fn fill(buf: &mut [u8], b: u8) {
-    let mut i = 0;
-    while i < buf.len() {
-        buf[i] = b;
-        i += 1;
-    }
+    4 <= k && beside(cell_at(buf, k - 1), cell_at(buf, 0))
 }
 
 // How many bytes are b.
 pub fn count(buf: &[u8], b: u8) -> u32 {
-    let mut n: u32 = 0;
-    let mut i = 0;
-    while i < buf.len() {
-        if buf[i] == b {
-            n = std::num::wrapping_add_u32(n, 1);
-        }
-        i += 1;
-    }
-    n
+    buf.iter()
+        .filter(|&&byte| byte == b)
+        .fold(0, |n: u32, _| n.wrapping_add(1))
 }
 
 // Whether every byte from `from` on is b.
 pub fn filled(buf: &[u8], from: usize, b: u8) -> bool {
-    let mut i = from;
-    while i < buf.len() {
-        if buf[i] != b {
-            return false;
-        }
-        i += 1;
-    }
-    true
+    buf.iter().skip(from).all(|&byte| byte == b)
 }
 
 // The x of a place in a row of 128 cells: rightwards in the even rows from 0, else leftwards.
@@ -191,11 +125,8 @@ fn turning_x(row: usize, place: usize) -> u8 {
 
 // The rows of the panel of 128 by 128, one to the right, the next to the left.
 pub fn snake(list: &mut [u8]) {
-    let mut i = 0;
-    while i + 1 < list.len() {
-        list[i] = turning_x(i / 256, i / 2);
-        list[i + 1] = (i / 256 % 128 + 1) as u8;
-        i += 2;
+    for (i, pair) in list.as_chunks_mut::<2>().0.iter_mut().enumerate() {
+        *pair = [turning_x(i / 128, i), (i / 128 % 128 + 1) as u8];
     }
 }
 
@@ -211,7 +142,7 @@ pub fn spread(buf: &mut [u8]) {
 // ---- searches for a cell
 
 // How often a search was to give a cell, how often none, and how often it answered otherwise.
-#[derive(Clone, Copy)]
+#[derive(Clone, Copy, Debug, PartialEq, Eq)]
 pub struct Tally {
     pub given: u32,
     pub none: u32,
@@ -220,14 +151,10 @@ pub struct Tally {
 
 // One search more; (0, 0) stands for no cell.
 pub fn tallied(t: Tally, expected: Cell, got: Cell) -> Tally {
-    let mut next = t;
-    if expected.x == 0 {
-        next.none = std::num::wrapping_add_u32(t.none, 1);
-    } else {
-        next.given = std::num::wrapping_add_u32(t.given, 1);
+    let none = expected.x == 0;
+    Tally {
+        given: t.given.wrapping_add(u32::from(!none)),
+        none: t.none.wrapping_add(u32::from(none)),
+        wrong: t.wrong.wrapping_add(u32::from(expected != got)),
     }
-    if !same(expected, got) {
-        next.wrong = std::num::wrapping_add_u32(t.wrong, 1);
-    }
-    next
 }

@@ -1,21 +1,4 @@
-// Small steps with numbers, and the generator of made-up ones.
-ghost use Rattle.std.specs.Prelude.{◌≤◌};
-
-use std::num::wrapping_add_u32;
-
-pub fn add(a: u32, b: u32) -> u32 {
-    wrapping_add_u32(a, b)
-}
-
-pub fn at_most(a: usize, most: usize) -> usize
-    ensures { result ≤ most }
-{
-    if a <= most { a } else { most }
-}
-
-pub fn one_less(a: usize) -> usize {
-    if 0 < a { a - 1 } else { 0 }
-}
+// The generator of made-up numbers.
 
 // A number below `end`, if that is not 0.
 pub fn below(end: u32, a: u32) -> u32 {
@@ -31,7 +14,7 @@ pub fn scrambled(x: u32) -> u32 {
 
 // A step of the generator and a sum, whose carries mix what the step's shifts alone keep apart.
 fn mixed(x: u32) -> u32 {
-    add(scrambled(x), 2654435769)
+    scrambled(x).wrapping_add(2654435769)
 }
 
 // Number k of the made-up case `code`, in 28 bits.

@@ -7,26 +7,19 @@ pub fn text(rt: &impl Print, s: &[u8]) -> io::Result<()> {
     rt.write_all(s)
 }
 
-// A number without an end of the line.
-pub fn number(rt: &impl Print, k: u64) -> io::Result<()> {
-    print!(rt; "{k}")
-}
-
 // A number behind its name.
 pub fn named(rt: &impl Print, name: &[u8], k: u32) -> io::Result<()> {
     text(rt, name)?;
-    number(rt, u64::from(k))
+    print!(rt; "{k}")
 }
 
 // Numbers with a blank between, and what ends them.
 pub fn row(rt: &impl Print, numbers: &[u32], end: &[u8]) -> io::Result<()> {
-    let mut i = 0;
-    while i < numbers.len() {
+    for (i, k) in numbers.iter().enumerate() {
         if 0 < i {
             text(rt, b" ")?;
         }
-        number(rt, u64::from(numbers[i]))?;
-        i += 1;
+        print!(rt; "{k}")?;
     }
     text(rt, end)
 }

@@ -1,7 +1,6 @@
 // Turns of calls, timed by the processor's clock. The times go to standard error, so that standard output is
 // the same in every run.
 use std::io;
-use std::num::wrapping_sub_u64;
 use std::time::CpuClock;
 
 // How many turns are timed, and how many microseconds one is to take at least; how often its calls are
@@ -13,7 +12,7 @@ const LEAST: u64 = 2000;
 pub const DOUBLED: u32 = 16;
 
 // How long a turn took, and a sum over what it gave, so that none of it may be left out.
-#[derive(Clone, Copy)]
+#[derive(Clone, Copy, Debug, PartialEq, Eq)]
 pub struct Turn {
     pub micros: u64,
     pub sum: u32,
@@ -33,7 +32,7 @@ pub fn micros(rt: &impl CpuClock) -> u64 {
 // The turn that began at `start` and ends now.
 pub fn turn_from(rt: &impl CpuClock, start: u64, sum: u32) -> Turn {
     Turn {
-        micros: wrapping_sub_u64(micros(rt), start),
+        micros: micros(rt).wrapping_sub(start),
         sum,
     }
 }
@@ -44,10 +43,7 @@ pub fn long_enough(t: Turn) -> bool {
 
 // Of two that are equally short the first.
 pub fn shorter(a: Turn, b: Turn) -> Turn {
-    if b.micros < a.micros {
-        return b;
-    }
-    a
+    if b.micros < a.micros { b } else { a }
 }
 
 // Tenths of a nanosecond for each call.
@@ -55,7 +51,7 @@ pub fn each(t: Turn, calls: u32) -> u64 {
     if calls == 0 {
         return 0;
     }
-    t.micros % 1000000000 * 10000 / (calls as u64)
+    t.micros % 1000000000 * 10000 / u64::from(calls)
 }
 
 // ASCII bytes to standard error, whose handle prints characters.

@@ -4,8 +4,8 @@ use Rattle.grid.specs.Panel.{dist}
 use Rattle.corner.proofs.Forward.{Begun}
 use Rattle.corner.proofs.corner_track.Given as goal
 
-abbrev pub invariant-loop-opposite : goal.invariant-loop-opposite
-invariant-loop-opposite l = Begun l.initial.corner l.initial.opposite l.t l.initial.buf l.corner l.opposite l.at l.buf
+abbrev pub invariant-loop-p : goal.invariant-loop-p
+invariant-loop-p l = let r = l.rest in Begun l.fn.a l.fn.b l.fn.t l.fn.buf r.corner r.opposite r.target l.at l.buf
 
-abbrev pub decreases-loop-opposite : goal.decreases-loop-opposite
-decreases-loop-opposite l = dist l.corner.x l.opposite.x + dist l.corner.y l.opposite.y
+abbrev pub decreases-loop-p : goal.decreases-loop-p
+decreases-loop-p l = dist l.rest.corner.x l.rest.opposite.x + dist l.rest.corner.y l.rest.opposite.y

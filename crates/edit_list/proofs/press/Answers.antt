@@ -3,19 +3,24 @@ use native.Mathlib.Omega.{arith}
 use Rattle.edit_list.proofs.Made.{detour_within, press_made}
 use Rattle.edit_list.proofs.press.Goals as goal
 
+pub copy_within-requires-clause-start_le_end : goal.copy_within-requires-clause-start_le_end
+copy_within-requires-clause-start_le_end c =
+    let a = c.args in
+    omega (arith, detour_within a.list.now a.cells a.e c.requires.held c.requires.can.panel c.requires.can.can c.requires.kind)
+
+pub copy_within-requires-clause-dest_in_bounds : goal.copy_within-requires-clause-dest_in_bounds
+copy_within-requires-clause-dest_in_bounds c =
+    let a = c.args in
+    let within = detour_within a.list.now a.cells a.e c.requires.held c.requires.can.panel c.requires.can.can c.requires.kind in
+    omega (arith, within, c.requires.held)
+
 pub overflow_sub-cells : goal.overflow_sub-cells
-overflow_sub-cells c = let a = c.args in omega (arith, detour_within a.list.now a.cells a.place a.left c.requires.held c.requires.can)
-
-pub overflow_sub-cells-2 : goal.overflow_sub-cells-2
-overflow_sub-cells-2 c = let a = c.args in omega (arith, detour_within a.list.now a.cells a.place a.left c.requires.held c.requires.can)
-
-pub slide_down-requires : goal.slide_down-requires
-slide_down-requires c = let a = c.args in omega (arith, detour_within a.list.now a.cells a.place a.left c.requires.held c.requires.can)
-
-pub overflow_sub-cells-3 : goal.overflow_sub-cells-3
-overflow_sub-cells-3 c = let a = c.args in omega (arith, detour_within a.list.now a.cells a.place a.left c.requires.held c.requires.can)
+overflow_sub-cells c =
+    let a = c.args in
+    omega (arith, detour_within a.list.now a.cells a.e c.requires.held c.requires.can.panel c.requires.can.can c.requires.kind)
 
 pub returns : goal.returns
 returns c =
     let a = c.args in
-    press_made a.list.now a.cells a.place a.left c.requires.held c.requires.can c.slide_down.ensures c.clear_behind.ensures
+    press_made a.list.now a.cells a.e c.requires.held c.requires.can.panel c.requires.can.can c.requires.kind
+    c.copy_within.ensures.after c.clear_behind.ensures

@@ -1,18 +1,12 @@
--- The head, and the lines behind it.
-use Rattle.std.proofs.Common.{ℕ, ◌≡◌, ◌≤◌, ap, List, ◌++◌, length, arith}
-use Rattle.grid.specs.declared.Panel.{Panel}
-use Rattle.grid.specs.Bytes.{cells_in}
-use Rattle.text.proofs.Puts.{Parts}
-use Rattle.gerber.specs.Layer.{head_of, lines_of}
-use Rattle.gerber_write.specs.Write.{layer_bytes}
-use Rattle.gerber_write.proofs.Through.{beside, through_both}
+-- The buffer is the one that was lent, and of scratch only the bytes for digits were.
+use Rattle.std.proofs.Common.{rules, arith}
+use Rattle.std.proofs.Math.Seq.{length-take-le}
+use Rattle.std.proofs.lemmas.Slice.{drop-append-drop}
 use Rattle.gerber_write.proofs.put_layer.Goals as goal
-
-parts : (p : Panel) (list : List ℕ) {head out : List ℕ} → head ≡ head_of p → length (layer_bytes p list) ≤ length out
-    → Parts out 0 head (lines_of p (cells_in list)) (layer_bytes p list)
-parts p list e fits = record { joined = ap (λ (h : List ℕ). h ++ lines_of p (cells_in list)) e; fits = omega (arith, fits) }
 
 pub returns : goal.returns
 returns c =
-    through_both (parts c.args.p c.args.list.now c.head_of-head.ensures c.requires.list_in_bounds) (beside c.put_bytes-lines.ensures)
-    c.put_lines.ensures
+    let put = c.layer.ensures.put in
+    let same = c.layer.ensures.same in
+    let ten = length-take-le 10 c.args.scratch.now c.requires.digit_room_in_bounds in
+    record { put = search rules; rest = drop-append-drop 10 c.args.scratch.now _ 10 (omega arith) (omega arith) }

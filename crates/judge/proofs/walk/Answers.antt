@@ -1,14 +1,23 @@
--- `Walking` holds at each turn: what is kept stands for the cells taken so far.
-use Rattle.judge.proofs.Walks.{begin, left, onward}
+-- The walk begins with no pair taken, goes on pair by pair, and ends behind a cell off the panel.
+use mathlib.Core.Bool.{true≢false}
+use mathlib.Core.Path.{sym, subst, ◌∙◌}
+use Rattle.std.proofs.lemmas.Bool.{not-true}
+use Rattle.judge.specs.Walk.{Walked}
+use Rattle.judge.proofs.Walks.{begin, onward, walked}
 use Rattle.judge.proofs.walk.Goals as goal
 
-pub loop-at-init : goal.loop-at-init
-loop-at-init c = begin _ _ _ _ c.start-k.ensures c.requires.clean
+pub loop-pair-init : goal.loop-pair-init
+loop-pair-init c = begin _ _ _ c.start-k.ensures c.requires.clean
 
-pub returns-then-k-ne0 : goal.returns-then-k-ne0
-returns-then-k-ne0 c =
-    left _ _ _ _ c.loop-at.invariant c.requires.whole c.loop-at-test.true c.cell_at.ensures c.take_cell-k.ensures c.if-k-ne0.true
+pub returns-then-not-k : goal.returns-then-not-k
+returns-then-not-k c =
+    let p = c.args.o.panel in
+    let s = c.args.o.entry in
+    let k = c.take_cell-k in
+    let off = not-true k.result.on c.if-not-k.true in
+    subst (λ l. Walked p s l c.args.scratch.now k.result k.new.scratch) c.pairs-pair-items.ensures.cells
+    (walked _ _ _ (onward _ _ _ c.loop-pair.invariant c.loop-pair-test.true c.from.ensures k.ensures)
+    (λ on. absurd (true≢false (sym on ∙ off))))
 
-pub loop-at-preserved : goal.loop-at-preserved
-loop-at-preserved c =
-    onward _ _ _ _ c.loop-at.invariant c.requires.whole c.loop-at-test.true c.cell_at.ensures c.take_cell-k.ensures c.take_cell-k.auto.scratch
+pub loop-pair-preserved : goal.loop-pair-preserved
+loop-pair-preserved c = onward _ _ _ c.loop-pair.invariant c.loop-pair-test.true c.from.ensures c.take_cell-k.ensures

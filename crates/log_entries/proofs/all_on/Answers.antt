@@ -1,17 +1,16 @@
--- The cells ahead are all on the panel exactly if all cells are: each turn takes one away (`on_turn`).
-use mathlib.Core.Path.{sym, ap, ◌∙◌}
+-- What is tested of the bytes of each entry, by the entries' cells.
+use mathlib.Core.Path.{◌∙◌}
+use borrow.Author.Tests.{tests}
+use Rattle.std.proofs.Common.{rules}
+use Rattle.std.proofs.lemmas.Iterator.{YieldsList-from_slice}
+use Rattle.std.proofs.lemmas.Iterator.Search.{all_from_yields_List}
 use Rattle.grid.specs.Panel.{on_panel}
-use Rattle.grid.proofs.Tests.{turn_failed}
-use Rattle.log_entries.proofs.Turns.{below, on_turn, on_end}
+use Rattle.log_entries.specs.Log.{entry_of}
+use Rattle.log_entries.proofs.EntryBytes.{all_on_entries}
 use Rattle.log_entries.proofs.all_on.Goals as goal
 
-pub cell_of-requires : goal.cell_of-requires
-cell_of-requires c = below c.args.log.now _ c.loop-i-test.true
-
-pub returns-then-not-on_panel : goal.returns-then-not-on_panel
-returns-then-not-on_panel c =
-    let tested = sym c.on_panel.ensures ∙ c.if-not-on_panel.true in
-    turn_failed _ _ (on_turn c.args.log.now _ c.loop-i-test.true c.args.p) c.loop-i.invariant (sym (ap (on_panel c.args.p) c.cell_of.ensures) ∙ tested)
-
 pub returns : goal.returns
-returns c = sym (on_end c.args.log.now _ c.loop-i-test.false c.args.p) ∙ c.loop-i.invariant
+returns c =
+    all_from_yields_List (λ b. on_panel c.args.p (entry_of b).cell) _ _ c.all.result c.all.ensures.ran
+    (YieldsList-from_slice c.args.log.now cc) (λ x b q k. search (rules, tests))
+    ∙ all_on_entries c.args.p c.args.log.now

@@ -8,4 +8,4 @@ pub returns : goal.returns
 returns c =
     let a = c.args in
     let again = cleared_again a.p a.scratch.now c.compare_entries-told.new.scratch c.clear.ensures c.compare_entries-told.ensures.rest in
-    sizes_good _ _ _ _ (sym c.check_sizes-sizes.ensures ∙ c.in_default.is) c.compare_entries-told.ensures.told (c.clear-2.ensures ∙ again)
+    sizes_good _ _ _ _ (sym c.check_sizes.ensures ∙ c.in_ok-check_sizes.was {u = tt}) c.compare_entries-told.ensures.told (c.clear-2.ensures ∙ again)

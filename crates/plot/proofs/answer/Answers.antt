@@ -25,22 +25,22 @@ plottable d = record {
 }
 
 pub slice_bounds-cells-end : goal.slice_bounds-cells-end
-slice_bounds-cells-end c = (drawn _ (drawing_is c.in-Given.is c.draw_line-d.ensures)).fits
+slice_bounds-cells-end c = (drawn _ (drawing_is c.in-Ok.is c.draw_line.ensures)).fits
 
 pub slice_bounds-put_layer-end : goal.slice_bounds-put_layer-end
-slice_bounds-put_layer-end c = sym (drawn _ (drawing_is c.in-Given.is c.draw_line-d.ensures)).lent
+slice_bounds-put_layer-end c = sym (drawn _ (drawing_is c.in-Ok.is c.draw_line.ensures)).lent
 
 pub put_layer-requires-clause-plottable : goal.put_layer-requires-clause-plottable
-put_layer-requires-clause-plottable c = plottable (drawn _ (drawing_is c.in-Given.is c.draw_line-d.ensures))
+put_layer-requires-clause-plottable c = plottable (drawn _ (drawing_is c.in-Ok.is c.draw_line.ensures))
 
 pub put_layer-requires-clause-list_in_bounds : goal.put_layer-requires-clause-list_in_bounds
 put_layer-requires-clause-list_in_bounds c =
-    let can = plottable (drawn _ (drawing_is c.in-Given.is c.draw_line-d.ensures)) in
+    let can = plottable (drawn _ (drawing_is c.in-Ok.is c.draw_line.ensures)) in
     search (rules, layer_small can)
 
-pub returns-in-Refused : goal.returns-in-Refused
-returns-in-Refused c =
-    printed drawing_layer (drawing_is c.in-Refused.is c.draw_line-d.ensures) (puts_is (ap refused_text c.number_of.ensures) c.put_refused.ensures)
+pub returns-in-Err : goal.returns-in-Err
+returns-in-Err c =
+    printed drawing_layer (drawing_is c.in-Err.is c.draw_line.ensures) (puts_is (ap refused_text c.from.ensures) c.put_refused.ensures)
 
-pub returns-in-Given : goal.returns-in-Given
-returns-in-Given c = printed drawing_layer (drawing_is c.in-Given.is c.draw_line-d.ensures) c.put_layer.ensures.put
+pub returns-in-Ok : goal.returns-in-Ok
+returns-in-Ok c = printed drawing_layer (drawing_is c.in-Ok.is c.draw_line.ensures) c.put_layer.ensures.put

@@ -1,5 +1,5 @@
 -- The first i places are filled.
-use Prim.Native.Nat.{◌-◌, ◌≤◌}
+use Prim.Native.Nat.{◌≤◌}
 use mathlib.Core.Path.{◌≡◌}
 use lib.ListN.{length}
 use Rattle.grid.specs.Panel.{cell}
@@ -10,6 +10,3 @@ use Rattle.probe_walk.proofs.nearest_cells.Given as goal
 
 abbrev pub invariant-loop-i : goal.invariant-loop-i
 invariant-loop-i l = (l.i ≤ length (cells_in l.probes)) × (l.cells ≡ filled (cell 0 0) (nearest_missed (cells_in l.list)) (cells_in l.probes) l.i)
-
-abbrev pub decreases-loop-i : goal.decreases-loop-i
-decreases-loop-i l = length l.probes - l.i

@@ -1,52 +1,71 @@
 -- A list that is not refused has its head and its letters written one after the other, which is the record.
-use Rattle.std.proofs.Common.{◌+◌, ◌<◌, ◌∙◌, ℕ, refl, sym, ap, length, arith}
-use borrow.Author.Tests.{le-leb, lt-leb}
+use Rattle.std.specs.Prelude.{Ok}
+use Rattle.std.proofs.Common.{ℕ, List, ◌≡◌, ◌+◌, ◌/◌, ◌≤◌, ◌∙◌, sym, ap, length, arith}
+use borrow.Author.Tests.{leb-true}
 use lib.Dec.{leb}
-use Rattle.grid.specs.Panel.{on_panel}
+use Rattle.grid.specs.declared.Panel.{Panel}
+use Rattle.grid.specs.declared.Refusal.TheVariants.{ShortBuffer}
 use Rattle.grid.specs.Bytes.{cells_in}
-use Rattle.grid.proofs.Tests.{expect_yes, expect_no, after_good}
+use Rattle.grid.specs.Check.{Check, expect}
+use Rattle.grid.proofs.Passed.{expect_passed}
+use Rattle.grid.proofs.Tests.{after_good}
+use Rattle.list.specs.Check.{check_list}
 use Rattle.list.proofs.Cells.{length_cells}
-use Rattle.list.proofs.Checks.{list_good}
+use Rattle.list.proofs.Checks.{GoodList, list_good}
 use Rattle.record_head.specs.Head.{head_length}
-use Rattle.record.proofs.Made.{made, refused, few, counted, split, first_on}
+use Rattle.record.specs.Write.{check_write}
+use Rattle.record.proofs.Answers.{is_err}
+use Rattle.record.proofs.Made.{made, refused, few, counted, split}
 use Rattle.record.proofs.write.Goals as goal
+
+-- of a list that is not refused, with k steps
+module _ (p : Panel) (list : List ℕ) (e : check_list p list ≡ Ok tt) where
+  good : GoodList p (cells_in list)
+  good = list_good p list e
+
+  module _ (k : ℕ) (n : k + 1 ≡ length list / 2) where
+    small : k ≤ 16383
+    small = omega (arith, few p (cells_in list) good, length_cells list)
+
+    -- the test of the buffer is the one that is left
+    asked : (out : List ℕ) {z : Check} → z ≡ expect (leb (head_length + k) (length out)) ShortBuffer (Ok tt) → check_write p list out ≡ z
+    asked out f = sym (after_good _ e (f ∙ ap (λ (j : ℕ). expect (leb (head_length + j) (length out)) ShortBuffer (Ok tt)) (counted p list good n)))
+
+room : (k : ℕ) (out : List ℕ) {z : Check} → z ≡ expect (leb (head_length + k) (length out)) ShortBuffer (Ok tt) → z ≡ Ok tt → head_length + k ≤ length out
+room k out f o = leb-true _ _ (expect_passed (leb (head_length + k) (length out)) _ _ (sym f ∙ o))
 
 pub overflow_cast-cells : goal.overflow_cast-cells
 overflow_cast-cells c =
     let l = c.args.list.now in
-    omega (arith, few c.args.p (cells_in l) (list_good c.args.p l (sym c.in_default.ensures)), length_cells l)
+    omega (arith, few c.args.p (cells_in l) (good c.args.p l (sym c.check_list.ensures ∙ c.in_ok-check_list.was {u = tt})), length_cells l)
 
-pub returns-then-out-k : goal.returns-then-out-k
-returns-then-out-k c =
-    let l = c.args.list.now in
-    let g = list_good c.args.p l (sym c.in_default.ensures) in
-    let asked = ap (λ (k : ℕ). leb (head_length + k) (length c.args.out.now)) (sym (counted c.args.p l g c.steps_of-steps.ensures)) in
-    refused c.args.p l c.args.out.now (sym (after_good _ (sym c.in_default.ensures) (expect_no _ _ (asked ∙ lt-leb _ _ c.if-out-k.true)))) refl
-
-pub write_head-requires : goal.write_head-requires
-write_head-requires c =
-    let l = c.args.list.now in
-    let g = list_good c.args.p l (sym c.in_default.ensures) in
-    let small : c.steps_of-steps.result.0 < 65536 = omega (arith, few c.args.p (cells_in l) g, c.steps_of-steps.ensures, length_cells l) in
-    (g.panel, ap (on_panel c.args.p) c.cell_at.ensures ∙ first_on c.args.p l g, small, omega (arith, c.if-out-k.false))
+pub write_head-requires-clause-few : goal.write_head-requires-clause-few
+write_head-requires-clause-few c =
+    omega (arith, small c.args.p c.args.list.now (sym c.check_list.ensures ∙ c.in_ok-check_list.was {u = tt}) _ c.steps_of.ensures)
 
 pub write_letters-requires : goal.write_letters-requires
 write_letters-requires c =
-    let l = c.args.list.now in
-    let g = list_good c.args.p l (sym c.in_default.ensures) in
-    omega (arith, counted c.args.p l g c.steps_of-steps.ensures, c.if-out-k.false, c.write_head.auto.out)
+    let g = good c.args.p c.args.list.now (sym c.check_list.ensures ∙ c.in_ok-check_list.was {u = tt}) in
+    let h = room c.steps_of.result.0 c.args.out.now c.ensure.ensures (c.in_ok-ensure.was {u = tt}) in
+    omega (arith, h, counted c.args.p c.args.list.now g c.steps_of.ensures, c.write_head.auto.out)
 
-pub overflow_cast-bytes : goal.overflow_cast-bytes
-overflow_cast-bytes c =
+pub overflow_cast-result : goal.overflow_cast-result
+overflow_cast-result c =
+    omega (arith, small c.args.p c.args.list.now (sym c.check_list.ensures ∙ c.in_ok-check_list.was {u = tt}) _ c.steps_of.ensures)
+
+pub returns-in_err-ensure : goal.returns-in_err-ensure
+returns-in_err-ensure c =
+    let p = c.args.p in
     let l = c.args.list.now in
-    let g = list_good c.args.p l (sym c.in_default.ensures) in
-    omega (arith, few c.args.p (cells_in l) g, c.steps_of-steps.ensures, length_cells l)
+    let checked = sym c.check_list.ensures ∙ c.in_ok-check_list.was {u = tt} in
+    refused p l c.args.out.now (asked p l checked _ c.steps_of.ensures c.args.out.now c.ensure.ensures ∙ c.in_err-ensure.was {u = tt})
+    (is_err _ c.from_residual-in_err-ensure.ensures.1)
 
 pub returns : goal.returns
 returns c =
+    let p = c.args.p in
     let l = c.args.list.now in
-    let g = list_good c.args.p l (sym c.in_default.ensures) in
-    let n = counted c.args.p l g c.steps_of-steps.ensures in
-    let asked = ap (λ (k : ℕ). leb (head_length + k) (length c.args.out.now)) (sym n) in
-    let e = sym (after_good _ (sym c.in_default.ensures) (expect_yes _ _ (asked ∙ le-leb _ _ c.if-out-k.false) refl)) in
-    made e (split c.args.p l g) n c.cell_at.ensures c.write_head.ensures c.write_letters.ensures
+    let checked = sym c.check_list.ensures ∙ c.in_ok-check_list.was {u = tt} in
+    let g = good p l checked in
+    made (asked p l checked _ c.steps_of.ensures c.args.out.now c.ensure.ensures ∙ c.in_ok-ensure.was {u = tt}) (split p l g)
+    (counted p l g c.steps_of.ensures) c.cell_at.ensures c.write_head.ensures c.write_letters.ensures

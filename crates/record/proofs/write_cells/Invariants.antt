@@ -1,5 +1,5 @@
 -- The invariant: what the letters from i on still make of the buffer is what all of them make of it after the first cell.
-use Prim.Native.Nat.{ℕ, ◌-◌, ◌+◌, ◌*◌, ◌≤◌}
+use Prim.Native.Nat.{ℕ, ◌+◌, ◌*◌}
 use mathlib.Core.Path.{◌≡◌}
 use mathlib.Core.Bool.{true}
 use mathlib.Core.List.{List, ◌++◌}
@@ -15,11 +15,13 @@ use Rattle.record.proofs.write_cells.Given as goal
 abbrev pub whole : Cell → List ℕ → ℕ
 whole s letters = 2 * length (walk_from s letters)
 
-abbrev pub invariant-loop-i : goal.invariant-loop-i
-invariant-loop-i l = (l.i ≤ length l.letters) × (length l.list ≡ length l.initial.list) × (l.j ≡ 2 * l.i + 2) × (OnPanel largest_panel l.at)
-    × (all_on largest_panel (walk_on l.at (drop l.i l.letters)) ≡ true)
-    × (take 2 l.initial.list ++ (bytes (walk_on l.initial.at l.letters) ++ drop (whole l.initial.at l.letters) l.initial.list)
-    ≡ take l.j l.list ++ (bytes (walk_on l.at (drop l.i l.letters)) ++ drop (whole l.initial.at l.letters) l.list))
+-- the first i letters' cells are put, and at is the last of them
+pub record Puts (s : Cell) (letters old new : List ℕ) (at : Cell) (i : ℕ) : Type 0 where
+  pub size : length new ≡ length old
+  pub on : OnPanel largest_panel at
+  pub left : all_on largest_panel (walk_on at (drop i letters)) ≡ true
+  pub made : take 2 old ++ (bytes (walk_on s letters) ++ drop (whole s letters) old)
+      ≡ take (2 * i + 2) new ++ (bytes (walk_on at (drop i letters)) ++ drop (whole s letters) new)
 
-abbrev pub decreases-loop-i : goal.decreases-loop-i
-decreases-loop-i l = length l.letters - l.i
+abbrev pub invariant-loop-i : goal.invariant-loop-i
+invariant-loop-i l = Puts l.initial.at l.letters l.initial.list l.list l.at l.i

@@ -7,8 +7,10 @@ use Rattle.ring.proofs.Closed.{ready, drawn}
 use Rattle.ring.proofs.ring.Goals as goal
 
 pub corner_track-requires : goal.corner_track-requires
-corner_track-requires c = ready c.args.p _ (sym c.check_ring-c.ensures ∙ c.in_default.is) _ (search rules) (beside (omega arith))
+corner_track-requires c =
+    ready c.args.p _ (sym c.check_ring.ensures ∙ c.in_ok-check_ring.was) _ (search rules) (beside (omega arith))
 
 pub returns : goal.returns
 returns c =
-    drawn c.args.p _ (sym c.check_ring-c.ensures ∙ c.in_default.is) _ (search rules) (beside (omega arith)) c.ring_count.ensures c.corner_track.ensures.1
+    let e = c.corner_track.ensures in
+    drawn c.args.p _ (sym c.check_ring.ensures ∙ c.in_ok-check_ring.was) _ (search rules) (beside (omega arith)) e.0 e.1

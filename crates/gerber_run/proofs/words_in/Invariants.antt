@@ -1,9 +1,0 @@
--- The measure is what is left of the bytes.
-use Rattle.std.proofs.Common.{◌-◌, length}
-use Rattle.gerber_run.proofs.words_in.Given as goal
-
-abbrev pub invariant-loop-i : goal.invariant-loop-i
-invariant-loop-i l = Unit {0}
-
-abbrev pub decreases-loop-i : goal.decreases-loop-i
-decreases-loop-i l = length l.line - l.i
