@@ -126,7 +126,7 @@ fn nearest_to(list: &[u8], c: Cell) -> Cell
 {
     let mut nearest = cell_at(list, 0);
     let mut least = squared_distance(c, nearest);
-    for &pair in pairs(&list[2..]) {
+    for &pair in pairs(list) {
         let next = Cell::from(pair);
         let away = squared_distance(c, next);
         if away < least {
