@@ -1,6 +1,5 @@
 -- A draw is taken where the direction changes; where it stays the draws that are left are the same; behind the loop the last is left.
-use Rattle.std.proofs.Common.{ℕ, ◌<◌, ◌≡◌, sym, ap, ◌∙◌, List, [], length, get_or, get_or-take, length-take, arith}
-use Rattle.grid.specs.Bytes.{cell_of}
+use Rattle.std.proofs.Common.{sym, ap, ◌∙◌, arith}
 use Rattle.grid.specs.Panel.{on_panel}
 use Rattle.grid.proofs.Facts.{and_right}
 use Rattle.list.specs.List.{all_on}
@@ -12,17 +11,13 @@ use Rattle.gerber_write.proofs.sheet.Sheet.draws.Goals.{then-not-is_straight, el
 pub line-requires-clause-room : goal.line-requires-clause-room
 line-requires-clause-room g c =
     let l = c.loop-pair in
-    let here : l.pair-index < length c.args.rest.now = omega (arith, c.loop-pair-test.true, length-take {A = List ℕ}) in
-    let is : c.from-next.result ≡ cell_of (get_or c.args.rest.now l.pair-index []) = grind (arith, get_or-take) in
-    let next = cells_from c.args.rest.now l.pair-index here is in
+    let next = cells_from c.args.rest.now l.pair-index c.loop-pair-test.true c.from-next.ensures in
     room g.met.S.Sink.laws l.invariant.1 _ _ (walk_turn _ _ _ next (sym c.is_straight.ensures ∙ c.if-not-is_straight.true))
 
 pub loop-pair-preserved : goal.loop-pair-preserved
 loop-pair-preserved g c =
     let l = c.loop-pair in
-    let here : l.pair-index < length c.args.rest.now = omega (arith, c.loop-pair-test.true, length-take {A = List ℕ}) in
-    let is : c.from-next.result ≡ cell_of (get_or c.args.rest.now l.pair-index []) = grind (arith, get_or-take) in
-    let next = cells_from c.args.rest.now l.pair-index here is in
+    let next = cells_from c.args.rest.now c.loop-pair.pair-index c.loop-pair-test.true c.from-next.ensures in
     let on = sym (ap (all_on c.args.self.panel) next) ∙ and_right (on_panel c.args.self.panel l.to) _ l.invariant.0 in
     elim c.if-not-is_straight.branch [
       | then-not-is_straight w ↦ rw (w.to-is, w.from-is, w.sink-is) (
