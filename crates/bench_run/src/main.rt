@@ -116,7 +116,7 @@ fn tallied<T: PartialEq + Copy>(
 ) -> Tally {
     let mut next = t;
     if off_bench(p) {
-        if bench == Err(Refusal::BenchSide) && kept {
+        if bench.err().map(|r| u32::from(r)) == Some(19) && kept {
             next.off_bench = t.off_bench.wrapping_add(1);
             return next;
         }

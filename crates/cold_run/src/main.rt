@@ -9,7 +9,8 @@ use bound::BoundValues;
 use grid::{Cell, CellsValues, Order, Panel, panel_of};
 use std::io;
 use trial::PITCH;
-use trial::cells::{is_track, on, pairs};
+use trial::cells::{is_track, on};
+use trial::plain::position_of;
 
 // The first cell of a panel.
 const FIRST: Cell = Cell { x: 1, y: 1 };
@@ -51,7 +52,7 @@ fn is_black(c: Cell) -> bool {
 
 // Whether a cell of the panel is not in the list. Behind the list the buffer is 0, so all of it is searched.
 fn is_left(p: Panel, list: &[u8], c: Cell) -> bool {
-    on(p, FIRST, c) && !pairs(list).iter().any(|&pair| Cell::from(pair) == c)
+    on(p, FIRST, c) && position_of(list, c) == 0
 }
 
 // The cells of the panel that do not stand in the list.

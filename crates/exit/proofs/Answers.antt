@@ -1,4 +1,4 @@
--- Exit's answer, from what is found.
+-- Exit's promise, from the answer alone; and the answer, from what is found.
 use Rattle.std.specs.Prelude.{Result, Ok, Err, Option, Some, None}
 use mathlib.Core.Path.{◌≡◌, refl, sym, ◌∙◌}
 use Rattle.grid.specs.declared.Panel.{Panel}
@@ -7,7 +7,15 @@ use Rattle.grid.specs.declared.Cells.{Cells}
 use Rattle.grid.specs.declared.Refusal.{Refusal}
 use Rattle.grid.specs.declared.Refusal.TheVariants.{NoExit}
 use Rattle.grid.specs.Check.{expect, after, check_entry, answer}
-use Rattle.exit.specs.Exit.{first_fit, is_found, cell_found, exit_of}
+use Rattle.grid.proofs.Answers.{read_off}
+use Rattle.exit.specs.Exit.{first_fit, is_found, cell_found, exit_check, exit_of, exit_values, Exits}
+
+pub exits : (p : Panel) (s : Cell) (w : Cells) {r : Result Cell Refusal} → r ≡ exit_of p s w → Exits p s w r
+exits p s w e = record {
+  answers = e;
+  number = read_off (λ (a : Result Cell Refusal). (exit_values a).refusal) (exit_check p s w) _ _ e;
+  cell = read_off (λ (a : Result Cell Refusal). (exit_values a).cell) (exit_check p s w) _ _ e;
+}
 
 -- a cell found is given, else 12
 abbrev pub answer_of : Option Cell → Result Cell Refusal

@@ -268,7 +268,7 @@ enum Verdict {
 fn verdict_on(p: Panel, file: &[u8]) -> Verdict {
     let mut list = [FILL; SHORT];
     let a = read_into(p, file, file.len(), &mut list, SHORT);
-    if a == Some(Err(Refusal::UnknownByte)) {
+    if number_of(a) == 16 {
         return Verdict::NoLayer;
     }
     if makes(p, &list, 2 * (count_of(a) as usize), file) {

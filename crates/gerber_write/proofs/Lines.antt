@@ -6,7 +6,7 @@ use mathlib.Core.Bool.{Bool, true, false}
 use mathlib.Core.List.{List, [], ◌∷◌, ◌++◌, map, append_assoc}
 use native.Mathlib.Omega.{arith}
 use lib.ListN.{length, take, drop, get_or, length-append}
-use Rattle.std.proofs.lemmas.List.{take_all}
+use Rattle.std.proofs.lemmas.List.{at_drop_all, take_all}
 use Rattle.grid.specs.declared.Panel.{Panel}
 use Rattle.grid.specs.declared.Cell.{Cell}
 use Rattle.grid.specs.Panel.{on_panel, GoodPanel, OnPanel}
@@ -15,9 +15,10 @@ use Rattle.grid.specs.Bytes.{cell_of}
 use Rattle.grid.proofs.Lists.{drop_next}
 use Rattle.grid.proofs.Tests.{cond_yes, cond_no}
 use Rattle.list.specs.List.{all_on}
+use Rattle.text.specs.Decimal.{decimal}
 use Rattle.text.specs.Field.{field_of}
 use Rattle.text.proofs.Puts.{field_and, field_length}
-use Rattle.gerber.specs.Layer.{plot_x, plot_y, move, draw, line_to, end_line, straight, turns_from, draw_lines, lines_of}
+use Rattle.gerber.specs.Layer.{plot_x, plot_y, flash, move, draw, line_to, end_line, straight, turns_from, draw_lines, lines_of}
 use Rattle.gerber.proofs.Plots.{plot_x_small, plot_y_small}
 
 -- ---- one line
@@ -31,6 +32,11 @@ module _ (p : Panel) (operation : List ℕ) (c : Cell) where
   pub line_and : (rest : List ℕ) → line_to p operation c [] ++ rest ≡ line_to p operation c rest
   line_and rest = simp append_assoc
 
+  -- its bytes: X, Y and D, the digits of two numbers, and the operation
+  pub line_length : length (line_to p operation c [])
+      ≡ 3 + length operation + length (decimal (plot_x p c)) + length (decimal (plot_y p c))
+  line_length = simp length-append (omega arith)
+
   -- at most 27 with an operation of four bytes
   pub line_small : GoodPanel p → OnPanel p c → length (line_to p operation c []) ≤ 23 + length operation
   line_small g o =
@@ -41,6 +47,12 @@ module _ (p : Panel) (operation : List ℕ) (c : Cell) where
         field_length (plot_y p c) (code "D") (operation ++ []) (omega (arith, plot_y_small g o)),
         length-append operation [],
       )
+
+-- with as many bytes behind its D a line is as long: where there is room for the one, there is for the other
+pub as_long : (p : Panel) (c : Cell) (u v : List ℕ) → length u ≡ length v → length (line_to p [] c u) ≡ length (line_to p [] c v)
+as_long p c u v e =
+    let front = line_to p [] c [] in
+    omega (arith, ap length (line_and p [] c u), length-append front u, ap length (line_and p [] c v), length-append front v)
 
 -- ---- the draws
 
@@ -71,6 +83,18 @@ two : (b : List (List ℕ)) → 2 ≤ length b → b ≡ get_or b 0 [] ∷ get_o
 two [] h = absurd (omega arith)
 two (x ∷ []) h = absurd (omega arith)
 two (x ∷ y ∷ l) h = ap (λ (k : List (List ℕ)). x ∷ y ∷ k) (sym (take_all (length (x ∷ y ∷ l) - 2) l (omega arith)))
+
+-- behind the last of them: the last draw, and the last line
+pub draws_end : (p : Panel) (a b : Cell) (r : List (List ℕ)) (i : ℕ) → length r ≤ i
+    → draw_lines p (turns_from a b (map cell_of (drop i r))) ≡ line_to p draw b end_line
+draws_end p a b = at_drop_all (λ (k : List (List ℕ)). draw_lines p (turns_from a b (map cell_of k)))
+
+-- one has a flash
+pub lines_one : (p : Panel) (b : List (List ℕ)) {s : Cell} → 1 ≤ length b → length b < 2 → s ≡ cell_of (get_or b 0 [])
+    → line_to p flash s end_line ≡ lines_of p (map cell_of b)
+lines_one p [] h g e = absurd (omega arith)
+lines_one p (x ∷ []) h g e = ap (λ (s : Cell). line_to p flash s end_line) e
+lines_one p (x ∷ y ∷ l) h g e = absurd (omega arith)
 
 -- two or more have a move to the first, and the draws
 pub lines_more : (p : Panel) (b : List (List ℕ)) {s d : Cell} → 2 ≤ length b → s ≡ cell_of (get_or b 0 []) → d ≡ cell_of (get_or b 1 [])

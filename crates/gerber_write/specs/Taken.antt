@@ -12,6 +12,7 @@ module _ {S : Type 0} where
     behind = λ s m t u h f. omega (arith, length-append t u);
     both = λ s m e t u h f g. omega (arith, length-append t u);
     none = λ s. omega arith;
+    alike = λ s t u e h. omega arith;
   }
 
   pub put : (out : S → MutBor (List ℕ)) (at : S → ℕ) → Laws (λ s t. at s + length t ≤ length (out s).now) (λ s t e. Puts (out s) (at s) t (out e) (at e))
@@ -20,4 +21,5 @@ module _ {S : Type 0} where
     behind = λ s m t u h f. room (record { joined = refl; fits = h }) f.put;
     both = λ s m e t u h f g. record { put = puts_both (record { joined = refl; fits = h }) f.put g.put; same = g.same ∙ f.same };
     none = λ s. record { put = record { bytes = put_none (out s).now (at s); end = omega arith }; same = refl };
+    alike = λ s t u e h. omega arith;
   }

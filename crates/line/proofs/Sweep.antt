@@ -12,9 +12,9 @@ use Rattle.grid.proofs.Facts.{dist_sym}
 use Rattle.grid.proofs.Track.{join}
 use Rattle.line.specs.Along.{seen, other, unit}
 use Rattle.line.specs.Rectangle.{Inside, cells_between, ahead, turning, sweep_end}
-use Rattle.line.specs.Line.{line, cell_number, step_to, snake}
+use Rattle.line.specs.Line.{line, cell_number, step_to, snake, all_lines}
 use Rattle.line.specs.Sweep.{line_from, lines, sweep}
-use Rattle.line.specs.Drawn.{Bytes, InBytes}
+use Rattle.line.specs.Drawn.{Bytes, InBytes, written}
 use Rattle.line.proofs.Between.{between_sym, start_between, below, by_le, lt_le, dist_same, dist_eq, dist_small, dist_up, dist_down}
 use Rattle.line.proofs.Between.{ahead_up, ahead_down, Cut, cut}
 use Rattle.line.proofs.Frame.{Frame, in_rows, in_columns, turning_even, turning_odd, turning_next, turning_once}
@@ -226,6 +226,17 @@ module _ {way : Along} {E : ℕ → ℕ → Cell} {F : Frame way E} {u v : ℕ} 
   all_numbered {p} {q} {p'} {q'} s =
       ap (turns (cell_number (E p q)) u (step_to v q q') p p') (add-one (dist q q'))
       ∙ by_numbers (dist q q') p q p' q' (step_to v q q') s refl (λ z. refl) ∙ sym (F.sweeps p q p' q')
+
+  -- what is written by these numbers
+  pub sweep_written : {w : Along} {p q p' q' f : ℕ} (old : List ℕ) {new : List ℕ} → w ≡ way → Bytes p q p' q' → f ≡ cell_number (E p q)
+      → new ≡ written (all_lines f u v p q p' q') ((dist p p' + 1) * (dist q q' + 1)) old
+      → new ≡ written (sweep w (E p q) (E p' q')) (cells_between (E p q) (E p' q')) old
+  sweep_written {w} {p} {q} {p'} {q'} {f} old z s e h = h ∙ (λ j. written (cells j) (sym (F.size p q p' q') j) old)
+    where
+      cells : all_lines f u v p q p' q' ≡ sweep w (E p q) (E p' q')
+      cells =
+          ap (λ (k : ℕ). all_lines k u v p q p' q') e ∙ all_numbered s
+          ∙ ap (λ (k : Along). sweep k (E p q) (E p' q')) (sym z)
 
 -- the numbers that the code computes
 pub snake_of : (w : Along) (a b : Cell) → InBytes a → InBytes b

@@ -2,7 +2,7 @@
 -- number and a step, modulo 65536.
 use Rattle.std.specs.Prelude.{ℕ, zero, suc, ◌+◌, ◌-◌, ◌*◌, ◌/◌, ◌%◌, cond, List, [], ◌∷◌, ◌++◌, nat_le}
 use Rattle.grid.specs.declared.Cell.{Cell}
-use Rattle.grid.specs.Panel.{cell}
+use Rattle.grid.specs.Panel.{cell, dist}
 
 -- the cells f 0, f 1, .., f (n - 1)
 abbrev pub line : (ℕ → Cell) → ℕ → List Cell
@@ -29,3 +29,7 @@ step_to u p q = cond (nat_le p q) u (65536 - u)
 abbrev pub snake : ℕ → ℕ → ℕ → ℕ → ℕ → ℕ → List Cell
 snake f s r c n zero = []
 snake f s r c n (suc k) = line (numbered f s) n ++ snake ((f + s * (n - 1) + c) % 65536) r s c n k
+
+-- the lines q to q', each from p to p', there and back from the number f on: the next cell of a line is u more, that of the next line v more
+abbrev pub all_lines : ℕ → ℕ → ℕ → ℕ → ℕ → ℕ → ℕ → List Cell
+all_lines f u v p q p' q' = snake f (step_to u p p') (step_to u p' p) (step_to v q q') (dist p p' + 1) (dist q q' + 1)

@@ -12,14 +12,22 @@ use Rattle.list.specs.List.{all_steps, cell_at}
 use Rattle.list.proofs.Cells.{pairs_more, pairs_end}
 
 module _ (b : List ℕ) (i : ℕ) where
-  -- the steps from the cell before the one with the number i, from 0
-  pub step_turn : 1 ≤ i → i < length b / 2
+  pub step_turn : i + 3 < length b
+      → all_steps (cells_in (drop i b)) ≡ (neighbours (cell_at b i) (cell_at b (i + 2)) && all_steps (cells_in (drop (i + 2) b)))
+  step_turn h = pairs_more all_steps (λ a c k. neighbours a c && k) (λ a c r. refl) b i h
+
+  pub step_end : length b ≤ i + 3 → all_steps (cells_in (drop i b)) ≡ true
+  step_end h = pairs_end all_steps true refl (λ a. refl) b i h
+
+-- the same from the cell before the one with the number i, from 0
+module _ (b : List ℕ) (i : ℕ) where
+  pub step_turn_at : 1 ≤ i → i < length b / 2
       → all_steps (cells_in (drop (2 * (i - 1)) b)) ≡ (neighbours (cell_at b (2 * (i - 1))) (cell_at b (2 * i)) && all_steps (cells_in (drop (2 * (i + 1 - 1)) b)))
-  step_turn g h =
+  step_turn_at g h =
       let next : 2 * (i - 1) + 2 ≡ 2 * i = omega arith in
       let after : 2 * (i - 1) + 2 ≡ 2 * (i + 1 - 1) = omega arith in
-      pairs_more all_steps (λ a c k. neighbours a c && k) (λ a c r. refl) b (2 * (i - 1)) (omega arith)
+      step_turn b (2 * (i - 1)) (omega arith)
       ∙ (λ t. neighbours (cell_at b (2 * (i - 1))) (cell_at b (next t)) && all_steps (cells_in (drop (after t) b)))
 
-  pub step_end : length b / 2 ≤ i → all_steps (cells_in (drop (2 * (i - 1)) b)) ≡ true
-  step_end h = pairs_end all_steps true refl (λ a. refl) b (2 * (i - 1)) (omega arith)
+  pub step_end_at : length b / 2 ≤ i → all_steps (cells_in (drop (2 * (i - 1)) b)) ≡ true
+  step_end_at h = step_end b (2 * (i - 1)) (omega arith)

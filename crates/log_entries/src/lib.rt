@@ -92,6 +92,10 @@ fn rises(log: &[[u8; ENTRY]]) -> bool
 }
 
 // 7, 9, then 21. Where none is met, the mark is added at the places of the log's cells.
+//
+// A function by itself also when compiled: as a part of its caller its loops would set the caller's whole answer
+// at each entry.
+#[inline(never)]
 pub fn check_log(p: Panel, log: &[u8], mark: u8, scratch: &mut [u8]) -> Result<(), Refusal>
     requires good { good_sides p ≡ true }
     requires ready { HoldsBelow p mark scratch.old }

@@ -14,7 +14,10 @@ pub fn entries(log: &[u8]) -> &[[u8; 6]] {
 
 pub fn cell_of(entry: [u8; 6]) -> Cell {
     let [x, y, _, _, _, _] = entry;
-    Cell::from([x, y])
+    Cell {
+        x: u32::from(x),
+        y: u32::from(y),
+    }
 }
 
 pub fn tick_of(entry: [u8; 6]) -> u32 {

@@ -2,7 +2,7 @@
 use crate::call::{Job, called};
 use crate::log::{cell_of, entries, front, put_entry};
 use crate::peer::{check_sizes, expected};
-use grid::{Cell, Panel, Refusal, area_of, panel_of};
+use grid::{Cell, Panel, area_of, panel_of};
 use logs::LogCounts;
 use std::io;
 use trial::PITCH;
@@ -152,7 +152,7 @@ fn one_more(count: &mut u32) {
 
 impl Tally {
     // An answer more, and whether it and the scratch are as they must be.
-    fn count(&mut self, j: Job, answer: Result<LogCounts, Refusal>, alike: bool) {
+    fn count(&mut self, j: Job, answer: Result<LogCounts, u32>, alike: bool) {
         if let Ok(k) = answer {
             self.both = self.both.wrapping_add(k.both.0);
             self.earlier = self.earlier.wrapping_add(k.earlier.0);
@@ -165,7 +165,7 @@ impl Tally {
             one_more(&mut self.different);
             return;
         }
-        let refusal = answer.err().map_or(0, |r| u32::from(r)) as usize;
+        let refusal = answer.err().unwrap_or(0) as usize;
         if let Some(count) = self.refusals.get_mut(refusal) {
             one_more(count);
         }

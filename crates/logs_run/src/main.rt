@@ -16,7 +16,7 @@ mod peer;
 use crate::call::{Job, called, numbers_of};
 use crate::log::{Rows, front, put_entry, put_rows};
 use crate::peer::expected;
-use grid::{Cell, Panel, Refusal, area_of, panel_of};
+use grid::{Cell, Panel, area_of, panel_of};
 use logs::LogCounts;
 use std::io;
 use std::time::CpuClock;
@@ -39,7 +39,7 @@ fn say_turn(
     name: &[u8],
     j: Job,
     start: u64,
-    answer: Result<LogCounts, Refusal>,
+    answer: Result<LogCounts, u32>,
 ) -> io::Result<()> {
     let [_, _, _, _, earlier] = numbers_of(answer);
     let turn = turn_from(rt, start, earlier);
@@ -54,7 +54,7 @@ fn say_turn(
 fn try_peer(
     rt: &(impl CpuClock + Eprint + Print),
     j: Job,
-    answer: Result<LogCounts, Refusal>,
+    answer: Result<LogCounts, u32>,
 ) -> io::Result<()> {
     let start = micros(rt);
     let e = expected(j);

@@ -2,7 +2,7 @@
 // searched in the other log from the start.
 use crate::call::Job;
 use crate::log::{cell_of, entries, tick_of};
-use grid::{Cell, Cells, Panel, Refusal, area_of, ensure};
+use grid::{Cell, Cells, Panel, area_of};
 use logs::LogCounts;
 use trial::cells::on;
 
@@ -17,20 +17,29 @@ fn has(log: &[[u8; 6]], c: Cell) -> bool {
 
 // Whether a log has the entry's cell at a later tick.
 fn has_later(log: &[[u8; 6]], entry: [u8; 6]) -> bool {
-    log.iter().any(|&other| cell_of(other) == cell_of(entry) && tick_of(entry) < tick_of(other))
+    log.iter()
+        .find(|&&other| cell_of(other) == cell_of(entry))
+        .is_some_and(|&other| tick_of(entry) < tick_of(other))
 }
 
 // ---- refusals
 
 // 1, 18, 6, 5.
-pub fn check_sizes(j: Job) -> Result<(), Refusal> {
+pub fn check_sizes(j: Job) -> Result<(), u32> {
     let p = j.panel;
-    let sides = (1..=128).contains(&p.width) && (1..=128).contains(&p.height);
-    ensure(sides, Refusal::Side)?;
-    ensure((1000..=10000).contains(&p.pitch), Refusal::Pitch)?;
-    let whole = j.burned.len() % 6 == 0 && j.seen.len() % 6 == 0;
-    ensure(whole, Refusal::ListLength)?;
-    ensure(area_of(p) <= j.room, Refusal::ShortBuffer)
+    if !(1..=128).contains(&p.width) || !(1..=128).contains(&p.height) {
+        return Err(1);
+    }
+    if !(1000..=10000).contains(&p.pitch) {
+        return Err(18);
+    }
+    if j.burned.len() % 6 != 0 || j.seen.len() % 6 != 0 {
+        return Err(6);
+    }
+    if j.room < area_of(p) {
+        return Err(5);
+    }
+    Ok(())
 }
 
 fn all_on(p: Panel, log: &[[u8; 6]]) -> bool {
@@ -46,13 +55,17 @@ fn none_again(log: &[[u8; 6]]) -> bool {
 }
 
 // 7, 9, 21.
-fn check_log(p: Panel, log: &[[u8; 6]]) -> Result<(), Refusal> {
-    ensure(all_on(p, log), Refusal::CellOff)?;
-    ensure(none_again(log), Refusal::Repeated)?;
-    ensure(
-        log.is_sorted_by_key(|&entry| tick_of(entry)),
-        Refusal::TickBack,
-    )
+fn check_log(p: Panel, log: &[[u8; 6]]) -> Result<(), u32> {
+    if !all_on(p, log) {
+        return Err(7);
+    }
+    if !none_again(log) {
+        return Err(9);
+    }
+    if !log.is_sorted_by_key(|&entry| tick_of(entry)) {
+        return Err(21);
+    }
+    Ok(())
 }
 
 // ---- the answer
@@ -64,7 +77,7 @@ fn passing<F: Fn([u8; 6]) -> bool>(log: &[[u8; 6]], test: F) -> Cells
     Cells((log.iter().filter(|&&entry| test(entry)).count() % 65536) as u32)
 }
 
-pub fn expected(j: Job) -> Result<LogCounts, Refusal> {
+pub fn expected(j: Job) -> Result<LogCounts, u32> {
     check_sizes(j)?;
     let burned = entries(j.burned);
     let seen = entries(j.seen);

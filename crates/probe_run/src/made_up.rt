@@ -1,6 +1,7 @@
 // Orders, lists and probes made up by a fixed sequence, and Probe on them beside the peer.
 use crate::peer::{expected_sheet, numbers_of};
-use grid::{Cell, Order, Panel, area_of, panel_of};
+use grid::{Cell, Order, Panel, Refusal, area_of, panel_of};
+use probe::ProbeSheet;
 use std::io;
 use trial::PITCH;
 use trial::cells::{cell_at, cells_in, put};
@@ -246,6 +247,14 @@ fn tallied(t: Tally, s: Sheet, bytes: usize, alike: bool) -> Tally {
     next
 }
 
+// Whether Probe answered as the peer expects: with its sheet, or by its number, with which no sheet is given.
+fn as_expected(answer: Result<ProbeSheet, Refusal>, expected: Sheet) -> bool {
+    match answer {
+        Ok(sheet) => different(expected, numbers_of(sheet)) == 0,
+        Err(r) => u32::from(r) == expected.refusal,
+    }
+}
+
 // Probe and the peer, each with scratch of its own.
 fn compared(
     o: Order,
@@ -257,9 +266,9 @@ fn compared(
 ) -> Tally {
     one.fill(255);
     two.fill(255);
-    let s = numbers_of(probe::probe(o, list, one, probes));
+    let answer = probe::probe(o, list, one, probes);
     let expected = expected_sheet(o, list, two, probes);
-    let alike = different(expected, s) == 0 && &*one == &*two;
+    let alike = as_expected(answer, expected) && &*one == &*two;
     tallied(t, expected, probes.len(), alike)
 }
 

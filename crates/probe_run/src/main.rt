@@ -1,10 +1,10 @@
 // Runs Probe on probes that are found, repeated, missed and off the panel, with each of Judge's refusals,
 // and on the smallest and the largest panel. Each line gives the refusal (0 where the sheet is given), the
 // cells read, how many bytes of scratch, filled with 255 before, are 0 and 255 after, and how many places
-// behind the used ones (of all 64 where refused) are not all 0; behind the colon, of each used place, the
-// position and the nearest cell, eight places to a line. At last, for orders made up by a fixed sequence,
-// how often a sheet was given and how often refused as by a plain peer, with the same scratch, and how often
-// it differed.
+// behind the used ones are not all 0; behind the colon, of each used place, the position and the nearest cell,
+// eight places to a line. A refusal gives no sheet: its line has 0 for the cells read and for the places. At
+// last, for orders made up by a fixed sequence, how often a sheet was given and how often refused as by a plain
+// peer, with the same scratch, and how often it differed.
 #![tactic(auto)]
 
 mod made_up;
@@ -73,12 +73,16 @@ fn try_probes(
     let answer = probe::probe(o, list, scratch, probes);
     let zeros = count(scratch, 0);
     let kept = count(scratch, 255);
-    let used = if answer.is_ok() { probes.len() / 2 } else { 0 };
-    let s = numbers_of(answer);
-    let behind = not_blank(s, used);
-    row(rt, &[s.refusal, s.read, zeros, kept, behind], b":")?;
-    print_places(rt, s, used)?;
-    text(rt, b"\n")
+    match answer {
+        Ok(sheet) => {
+            let s = numbers_of(sheet);
+            let used = probes.len() / 2;
+            row(rt, &[0, s.read, zeros, kept, not_blank(s, used)], b":")?;
+            print_places(rt, s, used)?;
+            text(rt, b"\n")
+        }
+        Err(r) => row(rt, &[u32::from(r), 0, zeros, kept, 0], b":\n"),
+    }
 }
 
 // ---- 3 by 2

@@ -1,32 +1,25 @@
 // What Probe must answer, by the words of the request. Only Judge is the router's.
-use grid::{Cell, Order, Refusal};
+use grid::{Cell, Order};
 use probe::ProbeSheet;
-use trial::cells::{on, pairs};
+use trial::cells::{cell_at, cells_in, on};
 use trial::plain::{Sheet, blank, sheet_of};
 
-// The numbers that Probe answers by.
-pub fn numbers_of(answer: Result<ProbeSheet, Refusal>) -> Sheet {
-    match answer {
-        Err(r) => blank(u32::from(r)),
-        Ok(sheet) => {
-            let positions = sheet.positions;
-            let nearest = sheet.nearest;
-            Sheet {
-                refusal: 0,
-                positions,
-                nearest,
-                read: sheet.read.0,
-            }
-        }
+// The numbers of a sheet that Probe gave.
+pub fn numbers_of(sheet: ProbeSheet) -> Sheet {
+    let positions = sheet.positions;
+    let nearest = sheet.nearest;
+    Sheet {
+        refusal: 0,
+        positions,
+        nearest,
+        read: sheet.read.0,
     }
 }
 
 // Whether some probe is off the panel.
 fn some_off(o: Order, probes: &[u8]) -> bool {
     let low = Cell { x: 1, y: 1 };
-    pairs(probes)
-        .iter()
-        .any(|&pair| !on(o.panel, low, Cell::from(pair)))
+    (0..cells_in(probes.len())).any(|i| !on(o.panel, low, cell_at(probes, i)))
 }
 
 // 20, then Judge's refusals, with Judge's scratch, then 7.

@@ -67,17 +67,19 @@ impl<'a> Touched<'a> {
         ensures told { result ≡ cells_read (map cell_of self.now.probes.now) (cells_in list.now) }
     {
         let mut left = self.mark(scratch);
-        for (i, &pair) in pairs(list).iter().enumerate() {
+        let mut read = 0;
+        for &pair in pairs(list) {
             if left == 0 {
-                return i;
+                return read;
             }
             let mark = scratch[place_of(self.panel, Cell::from(pair))] as usize;
+            read += 1;
             if mark != 0 {
-                found[mark - 1] = (i + 1) as u32;
+                found[mark - 1] = read as u32;
                 left -= 1;
             }
         }
-        list.len() / 2
+        read
     }
 
     // What is noted for every probe, at its cell's mark.

@@ -95,3 +95,9 @@ module _ (l : List ℕ) (k n : ℕ) (c : Cell) (r : List ℕ) where
       put_byte l k n c.x (c.y ∷ r) (omega arith) (omega arith)
       ∙ put_byte one (k + 1) n c.y r h₁ m
       ∙ ap (λ (j : ℕ). take j both ++ (r ++ drop n both)) two
+
+  -- the same where the bytes are put at a place j that is k
+  pub put_cell_at : {j : ℕ} {new : List ℕ} → new ≡ set (set l j c.x) (j + 1) c.y → j ≡ k → k + 1 < length l → k + 1 < n
+      → take k l ++ (c.x ∷ c.y ∷ (r ++ drop n l)) ≡ take (k + 2) new ++ (r ++ drop n new)
+  put_cell_at e f h m =
+      put_cell h m ∙ ap (λ (w : List ℕ). take (k + 2) w ++ (r ++ drop n w)) (sym (e ∙ ap (λ (j : ℕ). set (set l j c.x) (j + 1) c.y) f))

@@ -9,7 +9,11 @@ ghost use Rattle.record_head.specs.Head.{head_of, head_length, has_mark, head_in
 use grid::{Cell, Panel, Refusal, Steps, area_of, check_entry, ensure, panel_of};
 
 // The mark (a magic number).
-const MARK: [u8; 2] = [0x46, 0x55];
+pub const MARK_HIGH: u8 = 0x46;
+
+pub const MARK_LOW: u8 = 0x55;
+
+const MARK: [u8; 2] = [MARK_HIGH, MARK_LOW];
 
 // The number of bytes before the letters: two for the mark, one for the width, one for the height, two for the
 // pitch, two for the entry, x first, and two for the step count.
@@ -59,12 +63,11 @@ fn bytes_of(h: Head) -> [u8; HEAD]
     requires few { h.steps.0 < 65536 }
     ensures { result ≡ head_of h.panel h.entry h.steps.0 }
 {
-    let [mark_high, mark_low] = MARK;
     let [pitch_high, pitch_low] = (h.panel.pitch as u16).to_be_bytes();
     let [steps_high, steps_low] = (h.steps.0 as u16).to_be_bytes();
     [
-        mark_high,
-        mark_low,
+        MARK_HIGH,
+        MARK_LOW,
         h.panel.width as u8,
         h.panel.height as u8,
         pitch_high,

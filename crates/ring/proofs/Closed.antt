@@ -124,3 +124,8 @@ module _ (p : Panel) (old : List ℕ) (fine : ring_check p (length old) ≡ Ok t
   drawn e w =
       let q = e ∙ count_is in
       record { gives = gives_cells _ _ (answer_good _ _ fine (λ i. Ok (record { 0 = q i }))); leaves = longest q w }
+
+  -- the same for an answer j that is made in another way, from the track's count k or from the ring's
+  pub answered : {k j : Cells} {new : List ℕ} → k.0 ≡ track_count first (far p) t
+      → new ≡ written (corner_cells first (far p) t) (track_count first (far p) t) old → (k.0 ≡ ring_count p → j.0 ≡ k.0) → Rings p old new (Ok j)
+  answered e w same = drawn (same (e ∙ count_is) ∙ e) w

@@ -2,7 +2,7 @@
 use crate::desk::{called, command_of};
 use crate::plain::{Drawing, MOST, Plain};
 use detour::Side;
-use grid::{Cell, Cells, Order, Refusal, area_of, panel_of};
+use grid::{Cell, Cells, Order, area_of, panel_of};
 use judge::judge;
 use session::{Command, Session, new_session};
 use std::io;
@@ -99,15 +99,15 @@ fn is_session(p: &Plain, s: &Session) -> bool {
 }
 
 // What a call did that is as it must be.
-fn made_of(c: Command, answer: Result<Cells, Refusal>) -> Outcome {
+fn made_of(c: Command, answer: Result<Cells, u32>) -> Outcome {
     match (answer, c) {
         (Ok(_), Command::Bulge(_, Side::Left)) => Outcome::BulgedLeft,
         (Ok(_), Command::Bulge(_, Side::Right)) => Outcome::BulgedRight,
         (Ok(_), Command::Press(_)) => Outcome::Pressed,
         (Ok(_), Command::TakeBack) => Outcome::TakenBack,
-        (Err(Refusal::NoSuchEdit), _) => Outcome::NoSuchEdit,
-        (Err(Refusal::NothingRecorded), _) => Outcome::NothingRecorded,
-        (Err(Refusal::ShortBuffer), _) => Outcome::ShortBuffer,
+        (Err(22), _) => Outcome::NoSuchEdit,
+        (Err(23), _) => Outcome::NothingRecorded,
+        (Err(5), _) => Outcome::ShortBuffer,
         (Err(_), _) => Outcome::Different,
     }
 }
@@ -130,7 +130,7 @@ fn try_beside(r: &mut Both, c: Command) -> Outcome {
         &mut scratch,
     );
     r.session = done.session;
-    let as_it_must_be = done.answer == must
+    let as_it_must_be = done.answer.map_err(|r| u32::from(r)) == must
         && is_session(&r.plain, &r.session)
         && is_list(r.plain.drawing(), &r.list)
         && is_judged(o, &r.session, &r.list)

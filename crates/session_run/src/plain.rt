@@ -3,7 +3,7 @@
 ghost use Rattle.std.specs.Prelude.{◌<◌};
 
 use detour::Side;
-use grid::{Cell, Cells, Order, Panel, Refusal, ensure};
+use grid::{Cell, Cells, Order, Panel};
 use session::Command;
 use std::array;
 use trial::cells::on;
@@ -171,7 +171,7 @@ impl Drawing {
 
 // All drawings that were made, and which of them is there; how many cells the lent buffer has room for; how many
 // edits may be taken back.
-#[derive(Drop)]
+#[derive(Clone, Copy)]
 pub struct Plain {
     drawings: [Drawing; DRAWINGS],
     at: usize,
@@ -211,16 +211,22 @@ impl Plain {
         self.kept = self.kept.saturating_sub(1);
     }
 
-    // What the call must answer; it must leave the drawing that is there then.
-    pub fn answer(&mut self, panel: Panel, c: Command) -> Result<Cells, Refusal> {
+    // What the call must answer, a refusal by its number; it must leave the drawing that is there then.
+    pub fn answer(&mut self, panel: Panel, c: Command) -> Result<Cells, u32> {
         match c {
             Command::TakeBack => {
-                ensure(self.kept != 0, Refusal::NothingRecorded)?;
+                if self.kept == 0 {
+                    return Err(23);
+                }
                 self.go_back();
             }
             Command::Bulge(_, _) | Command::Press(_) => {
-                let next = self.drawing().edited(panel, c).ok_or(Refusal::NoSuchEdit)?;
-                ensure(next.count <= self.room, Refusal::ShortBuffer)?;
+                let Some(next) = self.drawing().edited(panel, c) else {
+                    return Err(22);
+                };
+                if self.room < next.count {
+                    return Err(5);
+                }
                 self.go_on(next);
             }
         }

@@ -12,6 +12,8 @@ use plan::{Leg, Plan};
 
 pub mod motions;
 
+pub use motions::Motion;
+
 fn cell(x: u32, y: u32) -> Cell
     ensures { result ≡ cell x y }
 {

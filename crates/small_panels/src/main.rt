@@ -8,7 +8,7 @@
 ghost use Rattle.std.specs.Prelude.{◌<◌};
 
 use bound::BoundValues;
-use grid::{Cell, Cells, Order, Panel, Refusal, panel_of};
+use grid::{Cell, Cells, Order, Panel, panel_of};
 use std::io;
 use trial::PITCH;
 use trial::cells::is_track;
@@ -158,8 +158,8 @@ fn scan(search: &Search, entry: Cell, wanted: u32) -> Option<Cell> {
 }
 
 fn add_wanted(t: &mut Totals, search: &Search, entry: Cell, wanted: u32) {
-    let expected = scan(search, entry, wanted).ok_or(Refusal::NoExit);
-    let got = exit::find_exit(search.panel, entry, Cells(wanted));
+    let expected = scan(search, entry, wanted).ok_or(12);
+    let got = exit::find_exit(search.panel, entry, Cells(wanted)).map_err(|r| u32::from(r));
     if expected.is_ok() {
         t.given = t.given.wrapping_add(1);
     } else {

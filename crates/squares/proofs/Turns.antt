@@ -12,30 +12,37 @@ use Rattle.list.proofs.Cells.{cells_next, length_cells}
 use Rattle.squares.specs.Squares.{corner_between, corners}
 use Rattle.squares.proofs.Counted.{corners_few}
 
--- the corners from the cell at byte i on: one there, or none, and those behind
-corner_next : (b : List ℕ) (i : ℕ) → i + 5 < length b
-    → corners (cells_in (drop i b)) ≡ cond (corner_between (cell_at b i) (cell_at b (i + 4))) 1 0 + corners (cells_in (drop (i + 2) b))
-corner_next b i h =
-    ap corners (cells_next b i (omega arith) ∙ ap (λ (k : List Cell). cell_at b i ∷ k) behind)
-    ∙ ap (λ (k : List Cell). cond (corner_between (cell_at b i) (cell_at b (i + 4))) 1 0 + corners k) (sym behind)
-  where
-    behind : cells_in (drop (i + 2) b) ≡ cell_at b (i + 2) ∷ cell_at b (i + 4) ∷ cells_in (drop (i + 4 + 2) b)
-    behind =
-        let four : i + 2 + 2 ≡ i + 4 = omega arith in
-        cells_next b (i + 2) (omega arith)
-        ∙ ap (λ (k : ℕ). cell_at b (i + 2) ∷ cells_in (drop k b)) four
-        ∙ ap (λ (k : List Cell). cell_at b (i + 2) ∷ k) (cells_next b (i + 4) (omega arith))
-
 module _ (b : List ℕ) (i : ℕ) where
-  -- the same two cells before the one with the number i, from 0, by a test that says whether the cell between them is a corner
-  pub corner_turn : (r : Bool) → 2 ≤ i → i < length b / 2 → r ≡ corner_between (cell_at b (2 * (i - 2))) (cell_at b (2 * i))
-      → corners (cells_in (drop (2 * (i - 2)) b)) ≡ cond r 1 0 + corners (cells_in (drop (2 * (i + 1 - 2)) b))
-  corner_turn r g h e =
-      let there : 2 * (i - 2) + 4 ≡ 2 * i = omega arith in
-      let after : 2 * (i - 2) + 2 ≡ 2 * (i + 1 - 2) = omega arith in
-      corner_next b (2 * (i - 2)) (omega arith)
-      ∙ (λ t. cond (corner_between (cell_at b (2 * (i - 2))) (cell_at b (there t))) 1 0 + corners (cells_in (drop (after t) b)))
-      ∙ ap (λ (t : Bool). cond t 1 0 + corners (cells_in (drop (2 * (i + 1 - 2)) b))) (sym e)
+  pub corner_turn : i + 5 < length b
+      → corners (cells_in (drop i b)) ≡ cond (corner_between (cell_at b i) (cell_at b (i + 4))) 1 0 + corners (cells_in (drop (i + 2) b))
+  corner_turn h =
+      ap corners (cells_next b i (omega arith) ∙ ap (λ (k : List Cell). cell_at b i ∷ k) behind)
+      ∙ ap (λ (k : List Cell). cond (corner_between (cell_at b i) (cell_at b (i + 4))) 1 0 + corners k) (sym behind)
+    where
+      behind : cells_in (drop (i + 2) b) ≡ cell_at b (i + 2) ∷ cell_at b (i + 4) ∷ cells_in (drop (i + 4 + 2) b)
+      behind =
+          let four : i + 2 + 2 ≡ i + 4 = omega arith in
+          cells_next b (i + 2) (omega arith)
+          ∙ ap (λ (k : ℕ). cell_at b (i + 2) ∷ cells_in (drop k b)) four
+          ∙ ap (λ (k : List Cell). cell_at b (i + 2) ∷ k) (cells_next b (i + 4) (omega arith))
 
-  pub corner_end : length b / 2 ≤ i → corners (cells_in (drop (2 * (i - 2)) b)) ≡ 0
-  corner_end h = omega (arith, corners_few (cells_in (drop (2 * (i - 2)) b)), length_cells (drop (2 * (i - 2)) b), length-drop (2 * (i - 2)) b)
+  -- the same by a test that says whether that cell is a corner
+  pub turn_counted : (r : Bool) → i + 5 < length b → r ≡ corner_between (cell_at b i) (cell_at b (i + 4))
+      → corners (cells_in (drop i b)) ≡ cond r 1 0 + corners (cells_in (drop (i + 2) b))
+  turn_counted r h e = corner_turn h ∙ ap (λ (t : Bool). cond t 1 0 + corners (cells_in (drop (i + 2) b))) (sym e)
+
+  pub corner_end : length b ≤ i + 5 → corners (cells_in (drop i b)) ≡ 0
+  corner_end h = omega (arith, corners_few (cells_in (drop i b)), length_cells (drop i b), length-drop i b)
+
+-- the same from two cells before the one with the number i, from 0
+module _ (b : List ℕ) (i : ℕ) where
+  pub turn_counted_at : (r : Bool) → 2 ≤ i → i < length b / 2 → r ≡ corner_between (cell_at b (2 * (i - 2))) (cell_at b (2 * i))
+      → corners (cells_in (drop (2 * (i - 2)) b)) ≡ cond r 1 0 + corners (cells_in (drop (2 * (i + 1 - 2)) b))
+  turn_counted_at r g h e =
+      let there : 2 * i ≡ 2 * (i - 2) + 4 = omega arith in
+      let after : 2 * (i - 2) + 2 ≡ 2 * (i + 1 - 2) = omega arith in
+      turn_counted b (2 * (i - 2)) r (omega arith) (e ∙ ap (λ (k : ℕ). corner_between (cell_at b (2 * (i - 2))) (cell_at b k)) there)
+      ∙ ap (λ (k : ℕ). cond r 1 0 + corners (cells_in (drop k b))) after
+
+  pub corner_end_at : length b / 2 ≤ i → corners (cells_in (drop (2 * (i - 2)) b)) ≡ 0
+  corner_end_at h = corner_end b (2 * (i - 2)) (omega arith)

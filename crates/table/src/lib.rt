@@ -118,12 +118,12 @@ fn row_of(a: Cell, b: Cell) -> usize
 // How a row is placed on the panel: turned, then mirrored in x (`across`) and in y (`down`), and
 // walked from its end where `back` is set.
 #[derive(Clone, Copy)]
-struct Placing {
-    row: usize,
-    turn: bool,
-    across: bool,
-    down: bool,
-    back: bool,
+pub struct Placing {
+    pub row: usize,
+    pub turn: bool,
+    pub across: bool,
+    pub down: bool,
+    pub back: bool,
 }
 
 impl Placing {

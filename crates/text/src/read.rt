@@ -22,6 +22,7 @@ fn read_end(input: &[u8], v: u32, i: usize, end: u8) -> Option<Field>
 
 // The number that begins with v and goes on with the digits from `from` on. It stops where the
 // number is too large: more digits do not make it less.
+#[tactic(auto, using(crate::proofs::Reading::digit_too_large))]
 fn read_digits(input: &[u8], v: u32, from: usize, end: u8) -> Option<Field>
     ensures { parsed input.now result ≡ ended end (more_digits v (drop from input.now)) }
 {

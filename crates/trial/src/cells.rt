@@ -6,11 +6,6 @@ pub fn byte_at(buf: &[u8], at: usize) -> u32 {
     buf.get(at).map_or(0, |&b| u32::from(b))
 }
 
-// The cells of a list, two bytes each.
-pub fn pairs(list: &[u8]) -> &[[u8; 2]] {
-    list.as_chunks::<2>().0
-}
-
 // How many whole cells so many bytes hold.
 pub fn cells_in(bytes: usize) -> u32 {
     (bytes / 2 % 65536) as u32
@@ -111,7 +106,8 @@ pub fn count(buf: &[u8], b: u8) -> u32 {
 
 // Whether every byte from `from` on is b.
 pub fn filled(buf: &[u8], from: usize, b: u8) -> bool {
-    buf.iter().skip(from).all(|&byte| byte == b)
+    buf.get(from..)
+        .is_none_or(|rest| rest.iter().all(|&byte| byte == b))
 }
 
 // The x of a place in a row of 128 cells: rightwards in the even rows from 0, else leftwards.

@@ -1,5 +1,5 @@
 // What Probe must give, the plain way: each probe is searched by itself in the whole list.
-use crate::cells::{cell_at, pairs};
+use crate::cells::cell_at;
 use grid::Cell;
 
 // The numbers of Probe's sheet.
@@ -13,9 +13,23 @@ pub struct Sheet {
 
 const NOWHERE: Cell = Cell { x: 0, y: 0 };
 
+// The bytes of each cell of a list.
+fn pairs(list: &[u8]) -> &[[u8; 2]] {
+    list.as_chunks::<2>().0
+}
+
+// Their cell, read here and not by the router.
+fn cell_of(pair: [u8; 2]) -> Cell {
+    let [x, y] = pair;
+    Cell {
+        x: u32::from(x),
+        y: u32::from(y),
+    }
+}
+
 // The position of a cell in the list, counted from 1, or 0.
 pub fn position_of(list: &[u8], c: Cell) -> u32 {
-    match pairs(list).iter().position(|&pair| Cell::from(pair) == c) {
+    match pairs(list).iter().position(|&pair| cell_of(pair) == c) {
         Some(i) => (i % 65536) as u32 + 1,
         None => 0,
     }
@@ -32,10 +46,13 @@ fn squared(a: Cell, b: Cell) -> u32 {
 // The earliest cell of the list that no other is nearer than.
 fn nearest_of(list: &[u8], c: Cell) -> Cell {
     let mut best = cell_at(list, 0);
+    let mut least = squared(c, best);
     for &pair in pairs(list) {
-        let next = Cell::from(pair);
-        if squared(c, next) < squared(c, best) {
+        let next = cell_of(pair);
+        let away = squared(c, next);
+        if away < least {
             best = next;
+            least = away;
         }
     }
     best
@@ -64,7 +81,7 @@ pub fn sheet_of(list: &[u8], probes: &[u8]) -> Sheet {
     let mut sheet = blank(0);
     let places = pairs(probes).len().min(64);
     for (i, &pair) in pairs(probes).iter().take(64).enumerate() {
-        let c = Cell::from(pair);
+        let c = cell_of(pair);
         sheet.positions[i] = position_of(list, c);
         if sheet.positions[i] == 0 {
             sheet.nearest[i] = nearest_of(list, c);

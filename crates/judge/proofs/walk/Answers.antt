@@ -1,7 +1,6 @@
 -- The walk begins with no pair taken, goes on pair by pair, and ends behind a cell off the panel.
-use mathlib.Core.Bool.{true≢false}
-use mathlib.Core.Path.{sym, subst, ◌∙◌}
-use Rattle.std.proofs.lemmas.Bool.{not-true}
+use mathlib.Core.Path.{subst}
+use Rattle.std.proofs.Common.{rules, tests}
 use Rattle.judge.specs.Walk.{Walked}
 use Rattle.judge.proofs.Walks.{begin, onward, walked}
 use Rattle.judge.proofs.walk.Goals as goal
@@ -14,10 +13,10 @@ returns-then-not-k c =
     let p = c.args.o.panel in
     let s = c.args.o.entry in
     let k = c.take_cell-k in
-    let off = not-true k.result.on c.if-not-k.true in
+    let off = c.if-not-k.true in
     subst (λ l. Walked p s l c.args.scratch.now k.result k.new.scratch) c.pairs-pair-items.ensures.cells
     (walked _ _ _ (onward _ _ _ c.loop-pair.invariant c.loop-pair-test.true c.from.ensures k.ensures)
-    (λ on. absurd (true≢false (sym on ∙ off))))
+    (λ on. search (rules, tests, on, off)))
 
 pub loop-pair-preserved : goal.loop-pair-preserved
 loop-pair-preserved c = onward _ _ _ c.loop-pair.invariant c.loop-pair-test.true c.from.ensures c.take_cell-k.ensures

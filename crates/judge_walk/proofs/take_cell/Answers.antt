@@ -1,4 +1,5 @@
 -- Arm by arm what Next.antt says: the list is off the panel or c puts it off, c is the first cell of it, c follows the last one.
+use native.Mathlib.Omega.{arith}
 use mathlib.Core.Path.{◌≡◌, refl, sym, ap, ◌∙◌}
 use mathlib.Core.Bool.{Bool, false, ◌&&◌, and-false}
 use Rattle.std.proofs.lemmas.Bool.{not-false, not-true}
@@ -32,8 +33,8 @@ bounds-scratch-at c =
 
 pub bounds-scratch-at-2 : goal.bounds-scratch-at-2
 bounds-scratch-at-2 c =
-    let here = on c.args.o.panel _ (sym c.on_panel.ensures ∙ c.if-not-on_panel.false) in
-    place_in here c.place_of-at.ensures c.requires.stands.stands.room
+    let here = on c.args.o.panel c.args.c (sym c.on_panel.ensures ∙ c.if-not-on_panel.false) in
+    omega (arith, place_in here c.place_of-at.ensures c.requires.stands.stands.room)
 
 pub returns-in-None : goal.returns-in-None
 returns-in-None c =

@@ -31,7 +31,7 @@ pub slice_bounds-draw_leg-count : goal.slice_bounds-draw_leg-count
 slice_bounds-draw_leg-count c =
     let l = c.args.legs.now in
     let i = c.loop-leg.leg-index in
-    start_fits (drawn l i) (next l i) (both l i c.loop-leg-test.true c.requires.room) c.loop-leg.invariant
+    omega (arith, start_fits (drawn l i) (next l i) (both l i c.loop-leg-test.true c.requires.room) c.loop-leg.invariant)
 
 pub slice_bounds-draw_leg-start : goal.slice_bounds-draw_leg-start
 slice_bounds-draw_leg-start c = omega (arith, slice_bounds-draw_leg-count c)

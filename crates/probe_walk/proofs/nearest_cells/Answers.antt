@@ -1,7 +1,8 @@
 -- The first i places are filled: with the nearest cell where the position is 0, else as they were.
 use native.Mathlib.Omega.{arith}
 use borrow.Author.Tests.{eq-eqb, ne_eqb}
-use mathlib.Core.Path.{◌≡◌, refl, sym, ap, ◌∙◌}
+use mathlib.Core.Path.{◌≡◌, refl, ap, ◌∙◌}
+use mathlib.Core.Logic.{◌≢◌}
 use mathlib.Core.List.{List}
 use lib.ListN.{length, get_or, set}
 use Prim.Native.Nat.{ℕ, ◌≤◌}
@@ -37,11 +38,13 @@ loop-i-preserved c =
       omega (arith, more),
       elim c.if-found-i-eq0.branch [
         | then-found-i-eq0 w ↦
-            let missed = cond_yes (nearest (nth q i) l) (cell 0 0) (eq-eqb _ _ (sym at ∙ w.if-found-i-eq0.true)) refl in
+            let none : position (nth q i) l ≡ 0 = omega (arith, at, w.if-found-i-eq0.true) in
+            let missed = cond_yes (nearest (nth q i) l) (cell 0 0) (eq-eqb _ _ none) refl in
             let near = w.nearest_to.ensures ∙ ap (λ (c : Cell). nearest c l) (pair_cell b e i c.loop-i-test.true w.from.ensures) in
             w.cells-is ∙ ap (λ (k : List Cell). set k i w.nearest_to.result) filled ∙ fill_next (cell 0 0) (nearest_missed l) q i more few (near ∙ missed)
         | else-found-i-eq0 w ↦
-            let found = cond_no (nearest (nth q i) l) (cell 0 0) (ne_eqb _ _ (λ z. w.if-found-i-eq0.false (at ∙ z))) refl in
+            let some : position (nth q i) l ≢ 0 = λ none. absurd (omega (arith, at, w.if-found-i-eq0.false)) in
+            let found = cond_no (nearest (nth q i) l) (cell 0 0) (ne_eqb _ _ some) refl in
             w.cells-is ∙ filled ∙ fill_kept (cell 0 0) (nearest_missed l) q i more few found
       ],
     )

@@ -1,6 +1,6 @@
 -- What was found says whether the record is refused; if not, its cells go to the buffer.
-use Rattle.std.specs.Prelude.{Ok}
-use Rattle.std.proofs.Common.{◌≡◌, ◌+◌, ◌*◌, ◌∙◌, List, ℕ, sym, ap, length}
+use Rattle.std.specs.Prelude.{Ok, Err}
+use Rattle.std.proofs.Common.{◌≡◌, ◌+◌, ◌*◌, ◌∙◌, List, ℕ, sym, ap, length, rules}
 use mathlib.Core.Path.{ap₂}
 use lib.Dec.{leb}
 use Rattle.grid.specs.declared.Cell.{Cell}
@@ -20,8 +20,8 @@ use Rattle.record.proofs.read.Goals as goal
 
 pub returns-in_err-cells : goal.returns-in_err-cells
 returns-in_err-cells c =
-    refuses _ _ (sym (after_refused _ (record_refused _ (sym c.find_record.ensures ∙ c.in_err-cells.was {u = tt}))))
-    (is_err _ c.from_residual.ensures.1)
+    let found : record_cells c.args.file.now ≡ Err c.in_err-cells.field-0.0 = search rules in
+    refuses _ _ (sym (after_refused _ (record_refused _ found))) (is_err _ c.from_residual.ensures.1)
 
 -- of a record of k cells the test of the buffer is the one that is left
 module _ (f list : List ℕ) {k : Cells} (e : record_cells f ≡ Ok k) where
@@ -32,7 +32,7 @@ module _ (f list : List ℕ) {k : Cells} (e : record_cells f ≡ Ok k) where
 
 pub returns-in_err-ensure : goal.returns-in_err-ensure
 returns-in_err-ensure c =
-    let found = sym c.find_record.ensures ∙ c.in_ok-cells.was {u = tt} in
+    let found : record_cells c.args.file.now ≡ Ok c.in_ok-cells.cells = search rules in
     refuses _ _ (asked _ c.args.list.now found c.ensure.ensures ∙ c.in_err-ensure.was {u = tt}) (is_err _ c.from_residual-in_err-ensure.ensures.1)
 
 -- the cells that are put are the record's
@@ -42,7 +42,8 @@ same f e g = ap₂ (λ (h : Head) (l : List ℕ). walk_from h.entry l) e g
 pub write_cells-requires-clause-on : goal.write_cells-requires-clause-on
 write_cells-requires-clause-on c =
     let f = c.args.file.now in
-    let g = record_good f (cells_good _ _ _ (sym c.find_record.ensures ∙ c.in_ok-cells.was {u = tt})).0 in
+    let found : record_cells f ≡ Ok c.in_ok-cells.cells = search rules in
+    let g = record_good f (cells_good _ _ _ found).0 in
     ap (all_on largest_panel) (same f c.head_in-h.ensures c.letters_in.ensures.bytes) ∙ all_on_largest (panel_in f) (cells_read f) g.head.panel g.cells
 
 pub returns : goal.returns
@@ -50,7 +51,7 @@ returns c =
     let f = c.args.file.now in
     let list = c.args.list.now in
     let h = c.head_in-h.ensures in
-    let found = sym c.find_record.ensures ∙ c.in_ok-cells.was {u = tt} in
+    let found : record_cells f ≡ Ok c.in_ok-cells.cells = search rules in
     let all = (cells_good _ _ _ found).1 in
     let e = asked f list found c.ensure.ensures ∙ c.in_ok-ensure.was {u = tt} in
     reads f list

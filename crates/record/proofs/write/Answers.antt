@@ -1,6 +1,6 @@
 -- A list that is not refused has its head and its letters written one after the other, which is the record.
 use Rattle.std.specs.Prelude.{Ok}
-use Rattle.std.proofs.Common.{ℕ, List, ◌≡◌, ◌+◌, ◌/◌, ◌≤◌, ◌∙◌, sym, ap, length, arith}
+use Rattle.std.proofs.Common.{ℕ, List, ◌≡◌, ◌+◌, ◌/◌, ◌≤◌, ◌∙◌, sym, ap, length, arith, rules}
 use borrow.Author.Tests.{leb-true}
 use lib.Dec.{leb}
 use Rattle.grid.specs.declared.Panel.{Panel}
@@ -14,7 +14,6 @@ use Rattle.list.proofs.Cells.{length_cells}
 use Rattle.list.proofs.Checks.{GoodList, list_good}
 use Rattle.record_head.specs.Head.{head_length}
 use Rattle.record.specs.Write.{check_write}
-use Rattle.record.proofs.Answers.{is_err}
 use Rattle.record.proofs.Made.{made, refused, few, counted, split}
 use Rattle.record.proofs.write.Goals as goal
 
@@ -37,35 +36,35 @@ room k out f o = leb-true _ _ (expect_passed (leb (head_length + k) (length out)
 pub overflow_cast-cells : goal.overflow_cast-cells
 overflow_cast-cells c =
     let l = c.args.list.now in
-    omega (arith, few c.args.p (cells_in l) (good c.args.p l (sym c.check_list.ensures ∙ c.in_ok-check_list.was {u = tt})), length_cells l)
+    omega (arith, few c.args.p (cells_in l) (good c.args.p l (search rules)), length_cells l)
 
 pub write_head-requires-clause-few : goal.write_head-requires-clause-few
 write_head-requires-clause-few c =
-    omega (arith, small c.args.p c.args.list.now (sym c.check_list.ensures ∙ c.in_ok-check_list.was {u = tt}) _ c.steps_of.ensures)
+    omega (arith, small c.args.p c.args.list.now (search rules) _ c.steps_of.ensures)
 
 pub write_letters-requires : goal.write_letters-requires
 write_letters-requires c =
-    let g = good c.args.p c.args.list.now (sym c.check_list.ensures ∙ c.in_ok-check_list.was {u = tt}) in
+    let g = good c.args.p c.args.list.now (search rules) in
     let h = room c.steps_of.result.0 c.args.out.now c.ensure.ensures (c.in_ok-ensure.was {u = tt}) in
     omega (arith, h, counted c.args.p c.args.list.now g c.steps_of.ensures, c.write_head.auto.out)
 
 pub overflow_cast-result : goal.overflow_cast-result
 overflow_cast-result c =
-    omega (arith, small c.args.p c.args.list.now (sym c.check_list.ensures ∙ c.in_ok-check_list.was {u = tt}) _ c.steps_of.ensures)
+    omega (arith, small c.args.p c.args.list.now (search rules) _ c.steps_of.ensures)
 
 pub returns-in_err-ensure : goal.returns-in_err-ensure
 returns-in_err-ensure c =
     let p = c.args.p in
     let l = c.args.list.now in
-    let checked = sym c.check_list.ensures ∙ c.in_ok-check_list.was {u = tt} in
+    let checked : check_list p l ≡ Ok tt = search rules in
     refused p l c.args.out.now (asked p l checked _ c.steps_of.ensures c.args.out.now c.ensure.ensures ∙ c.in_err-ensure.was {u = tt})
-    (is_err _ c.from_residual-in_err-ensure.ensures.1)
+    (search rules)
 
 pub returns : goal.returns
 returns c =
     let p = c.args.p in
     let l = c.args.list.now in
-    let checked = sym c.check_list.ensures ∙ c.in_ok-check_list.was {u = tt} in
+    let checked : check_list p l ≡ Ok tt = search rules in
     let g = good p l checked in
     made (asked p l checked _ c.steps_of.ensures c.args.out.now c.ensure.ensures ∙ c.in_ok-ensure.was {u = tt}) (split p l g)
     (counted p l g c.steps_of.ensures) c.cell_at.ensures c.write_head.ensures c.write_letters.ensures

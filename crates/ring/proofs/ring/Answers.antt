@@ -3,7 +3,7 @@ use borrow.Author.Rules.{rules}
 use mathlib.Core.Path.{sym, ◌∙◌}
 use native.Mathlib.Omega.{arith}
 use Rattle.grid.proofs.Facts.{beside}
-use Rattle.ring.proofs.Closed.{ready, drawn}
+use Rattle.ring.proofs.Closed.{ready, answered}
 use Rattle.ring.proofs.ring.Goals as goal
 
 pub corner_track-requires : goal.corner_track-requires
@@ -13,4 +13,4 @@ corner_track-requires c =
 pub returns : goal.returns
 returns c =
     let e = c.corner_track.ensures in
-    drawn c.args.p _ (sym c.check_ring.ensures ∙ c.in_ok-check_ring.was) _ (search rules) (beside (omega arith)) e.0 e.1
+    answered c.args.p _ (sym c.check_ring.ensures ∙ c.in_ok-check_ring.was) _ (search rules) (beside (omega arith)) e.0 e.1 (λ q. omega arith)

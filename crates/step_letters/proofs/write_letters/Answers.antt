@@ -18,6 +18,12 @@ turn list i g h =
     letters_more list (2 * (i - 1)) (omega arith)
     ∙ (λ t. letter (cell_at list (2 * (i - 1))) (cell_at list (next t)) ∷ letters_of (cells_in (drop (after t) list)))
 
+-- a byte put at k, which is the place of the turn
+put_at : (l : List ℕ) (at k next n x : ℕ) (r : List ℕ) → k ≡ at → at + 1 ≡ next → at < length l → at < n
+    → take at l ++ (x ∷ (r ++ drop n l)) ≡ take next (set l k x) ++ (r ++ drop n (set l k x))
+put_at l at k next n x r e f h m =
+    put_byte l at n x r h m ∙ ap₂ (λ (j p : ℕ). take j (set l p x) ++ (r ++ drop n (set l p x))) f (sym e)
+
 pub loop-i-init : goal.loop-i-init
 loop-i-init c =
     let list = c.args.list.now in
@@ -29,12 +35,6 @@ loop-i-init c =
       left = omega (arith, length_letters (cells_in list));
       made = ap (λ (k : ℕ). take k out ++ (rest list 1 ++ drop (end from list) out)) first;
     }
-
-pub bounds-out-from : goal.bounds-out-from
-bounds-out-from c = omega (arith, ap length (turn c.args.list.now c.loop-i.i c.loop-i.auto.i c.loop-i-test.true))
-
-pub overflow_add-out : goal.overflow_add-out
-overflow_add-out c = omega (arith, ap length (turn c.args.list.now c.loop-i.i c.loop-i.auto.i c.loop-i-test.true))
 
 pub loop-i-preserved : goal.loop-i-preserved
 loop-i-preserved c =
@@ -51,13 +51,18 @@ loop-i-preserved c =
     let r : rest list i ≡ b ∷ rest list (i + 1) =
     more ∙ ap (λ (x : ℕ). x ∷ rest list (i + 1)) (sym (c.letter_of.ensures ∙ ap₂ letter c.cell_at.ensures c.cell_at-in-loop-i.ensures)) in
     record {
-      size = length-set out at b ∙ c.loop-i.invariant.size;
+      size = simp length-set c.loop-i.invariant.size;
       left = omega (arith, left, next);
       made = c.loop-i.invariant.made
           ∙ ap (λ (k : List ℕ). take at out ++ (k ++ drop n out)) r
-          ∙ put_byte out at n b (rest list (i + 1)) (omega (arith, c.requires, c.loop-i.invariant.size, left)) (omega (arith, left))
-          ∙ ap (λ (k : ℕ). take k (set out at b) ++ (rest list (i + 1) ++ drop n (set out at b))) next;
+          ∙ put_at out at _ _ n b (rest list (i + 1)) (omega arith) next (omega (arith, c.requires, c.loop-i.invariant.size, left)) (omega (arith, left));
     }
+
+pub bounds-out-from : goal.bounds-out-from
+bounds-out-from c = omega (arith, ap length (turn c.args.list.now c.loop-i.i c.loop-i.auto.i c.loop-i-test.true))
+
+pub overflow_add-out : goal.overflow_add-out
+overflow_add-out c = omega (arith, ap length (turn c.args.list.now c.loop-i.i c.loop-i.auto.i c.loop-i-test.true))
 
 pub returns : goal.returns
 returns c =

@@ -1,7 +1,7 @@
 -- Where no step leads on no cell is left to write; where one does the next cell is written.
 use Rattle.std.proofs.Common.{◌∙◌, ◌+◌, ◌*◌, ◌≡◌, ℕ, sym, subst, List, arith}
 use Rattle.gerber_read.specs.Read.{found_list, led}
-use Rattle.gerber_read.proofs.Found.{leads_on, ahead_on, Written, written_first, all_written, written_stopped, written_room, written_next}
+use Rattle.gerber_read.proofs.Found.{leads_on, ahead_on, Written, written_first, all_written, written_stopped, written_next}
 use Rattle.gerber_read.proofs.layer.Layer.write_cells.Goals as goal
 
 pub loop-i-init : goal.loop-i-init
@@ -18,7 +18,7 @@ put_cell-requires-in-loop-i c =
     let on = leads_on c.step_on.result (sym c.flatten.ensures ∙ c.in-Some.is) in
     let o = ahead_on _ _ l.t c.step_on.ensures on in
     let g = c.args.self.good.sides in
-    (omega (arith, o.right, g.widest), omega (arith, o.bottom, g.highest), written_room l.invariant c.step_on.ensures on)
+    (omega (arith, o.right, g.widest), omega (arith, o.bottom, g.highest), omega (arith, c.requires.room))
 
 pub loop-i-preserved : goal.loop-i-preserved
 loop-i-preserved c =

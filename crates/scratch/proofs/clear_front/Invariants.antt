@@ -1,0 +1,6 @@
+-- The library's `fill` writes, and no loop is here. One in its place keeps what these lines say, as must-fail/dirty_after_repeat tries it.
+-- use Rattle.std.specs.Prelude.{◌≡◌}
+-- use Rattle.scratch.specs.Scratch.{zeros_for}
+-- use Rattle.scratch.proofs.clear_front.Given as goal
+-- abbrev pub invariant-loop-at : goal.invariant-loop-at
+-- invariant-loop-at l = l.scratch ≡ zeros_for l.at l.initial.scratch
