@@ -29,7 +29,10 @@ fn cell_of(pair: [u8; 2]) -> Cell {
 
 // The position of a cell in the list, counted from 1, or 0.
 pub fn position_of(list: &[u8], c: Cell) -> u32 {
-    match pairs(list).iter().position(|&pair| cell_of(pair) == c) {
+    match pairs(list)
+        .iter()
+        .position(|&[x, y]| u32::from(x) == c.x && u32::from(y) == c.y)
+    {
         Some(i) => (i % 65536) as u32 + 1,
         None => 0,
     }
