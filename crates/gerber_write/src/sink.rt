@@ -2,8 +2,8 @@
 ghost use Rattle.std.specs.Prelude.{◌≡◌, ℕ, [], ◌+◌, ◌<◌, ◌≤◌, List, length};
 ghost use Rattle.text.specs.Field.{field_of};
 ghost use Rattle.gerber_write.specs.Write.{digit_room};
-ghost use Rattle.gerber_write.specs.Sink.{Laws, Puts};
-ghost use Rattle.gerber_write.specs.Taken.{counted, put};
+ghost use Rattle.gerber_write.specs.Sink.{Puts, SizedLaws};
+ghost use Rattle.gerber_write.specs.Taken.{counted_sized, put_sized};
 
 use text::{count_digits, digits_of, put_byte, put_bytes};
 
@@ -22,7 +22,7 @@ pub(crate) trait Sink {
         requires { Fits self.old (field_of n end []) }
         ensures { Takes self.old (field_of n end []) self.new };
 
-    ghost laws: { Laws Fits Takes };
+    ghost laws: { SizedLaws Fits Takes };
 }
 
 // Puts text into a buffer from a place on. A number's digits are made in bytes that are lent for them.
@@ -39,7 +39,7 @@ impl Sink for Pen<'_> {
 
     ghost Takes = { λ s t e. Puts s.out s.at t e.out e.at };
 
-    ghost laws = { put (λ s. s.out) (λ s. s.at) };
+    ghost laws = { put_sized (λ s. s.out) (λ s. s.at) };
 
     fn text(&mut self, text: &[u8]) {
         self.at = put_bytes(text, self.out, self.at);
@@ -64,7 +64,7 @@ impl Sink for Meter {
 
     ghost Takes = { λ s t e. e.bytes ≡ s.bytes + length t };
 
-    ghost laws = { counted (λ s. s.bytes) 442422 };
+    ghost laws = { counted_sized (λ s. s.bytes) 442422 };
 
     fn text(&mut self, text: &[u8]) {
         self.bytes += text.len();

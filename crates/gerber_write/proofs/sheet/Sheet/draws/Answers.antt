@@ -12,7 +12,7 @@ pub line-requires-clause-room : goal.line-requires-clause-room
 line-requires-clause-room g c =
     let l = c.loop-pair in
     let next = cells_from c.args.rest.now l.pair-index c.loop-pair-test.true c.from-next.ensures in
-    room g.met.S.Sink.laws l.invariant.1 _ _ (walk_turn _ _ _ next (sym c.is_straight.ensures ∙ c.if-not-is_straight.true))
+    room g.met.S.Sink.laws.parts l.invariant.1 _ _ (walk_turn _ _ _ next (sym c.is_straight.ensures ∙ c.if-not-is_straight.true))
 
 pub loop-pair-preserved : goal.loop-pair-preserved
 loop-pair-preserved g c =
@@ -22,7 +22,7 @@ loop-pair-preserved g c =
     elim c.if-not-is_straight.branch [
       | then-not-is_straight w ↦ rw (w.to-is, w.from-is, w.sink-is) (
         on,
-        left_next g.met.S.Sink.laws l.invariant.1 _ _ (walk_turn _ _ _ next (sym c.is_straight.ensures ∙ w.if-not-is_straight.true)) w.line.ensures,
+        left_next g.met.S.Sink.laws.parts l.invariant.1 _ _ (walk_turn _ _ _ next (sym c.is_straight.ensures ∙ w.if-not-is_straight.true)) w.line.ensures,
       )
       | else-not-is_straight w ↦ rw (w.to-is, w.from-is, w.sink-is) (
         on,

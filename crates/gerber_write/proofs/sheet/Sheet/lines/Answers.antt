@@ -19,14 +19,14 @@ returns-in-len1 g c =
 pub line-requires-clause-room : goal.line-requires-clause-room
 line-requires-clause-room g c =
     let parts = lines_more c.args.self.panel c.args.cells.now c.in-len2-up.len_at_least c.from-first.ensures refl in
-    room g.met.S.Sink.laws (left_all c.requires.room) _ _ parts
+    room g.met.S.Sink.laws.parts (left_all c.requires.room) _ _ parts
 
 pub draws-requires-clause-room : goal.draws-requires-clause-room
 draws-requires-clause-room g c =
     let parts = lines_more c.args.self.panel c.args.cells.now c.in-len2-up.len_at_least c.from-first.ensures c.from-in-len2-up.ensures in
-    (left_next g.met.S.Sink.laws (left_all c.requires.room) _ _ parts c.line.ensures).fits
+    (left_next g.met.S.Sink.laws.parts (left_all c.requires.room) _ _ parts c.line.ensures).fits
 
 pub returns-in-len2-up : goal.returns-in-len2-up
 returns-in-len2-up g c =
     let parts = lines_more c.args.self.panel c.args.cells.now c.in-len2-up.len_at_least c.from-first.ensures c.from-in-len2-up.ensures in
-    (left_next g.met.S.Sink.laws (left_all c.requires.room) _ _ parts c.line.ensures).then c.draws.ensures
+    (left_next g.met.S.Sink.laws.parts (left_all c.requires.room) _ _ parts c.line.ensures).then c.draws.ensures
